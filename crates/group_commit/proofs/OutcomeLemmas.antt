@@ -136,7 +136,7 @@ module _ (rises : EveryRise) (l : Limits) (g : Opening) (group : ℕ) (xs : List
         (every_other rises g (before ++ end ∷ []) e.end.after told (pushed r commit qs) (no_end e.end.after (unlocks_no_end w (keep is_step e.end.after) e.end.unlocks))
         (every_end rises g before told qs w commit e.end.found r (every_other rises g (front xs) e.end.before told qs e.end.none_before a) met of_end))
 
-  ends : (d : Deed) → x.outcome.deed ≡ d → (commit : Bool) → ends_by d ≡ Some commit → any is_sync x.events ≡ false → EndOf w commit x.events
+  ends : (d : Deed) → x.outcome.deed ≡ d → (commit : Bool) → ends_by d ≡ Some commit → (commit ≡ false → any is_sync x.events ≡ false) → EndOf w commit x.events
   ends (Committed n at) q true p k = committed g group (state_after g (front xs)) w at x.events (end_in w true x.events ends_in) (subst (λ (y : Deed). LogsGo l g group xs w y x.events) q t.logs) (t.structure (ap is_change q))
     where
       goes : Goes l g w (outcomes xs) x.outcome.unsaid (Committed n at) (keep is_step x.events)
@@ -145,7 +145,7 @@ module _ (rises : EveryRise) (l : Limits) (g : Opening) (group : ℕ) (xs : List
       ends_in : Ends w true (keep is_step x.events)
       ends_in = subst (λ (es : List Event). Ends w true es) (sym goes.3) (refl, refl, goes.4)
   ends (Committed n at) q false p k = absurd (cc)
-  ends (Aborted c n at backs) q false p k = aborted w x.events (end_in w false x.events (undoes_ends w (keep is_step x.events) goes.1)) (no_log x.events (syncs_alone (IsTightSomewhere g) g x.events (state_after g (front xs)) false logs) k) (t.structure (ap is_change q))
+  ends (Aborted c n at backs) q false p k = aborted w x.events (end_in w false x.events (undoes_ends w (keep is_step x.events) goes.1)) (no_log x.events (syncs_alone (IsTightSomewhere g) g x.events (state_after g (front xs)) false logs) (k refl)) (t.structure (ap is_change q))
     where
       goes : Goes l g w (outcomes xs) x.outcome.unsaid (Aborted c n at backs) (keep is_step x.events)
       goes = subst (λ (y : Deed). Goes l g w (outcomes xs) x.outcome.unsaid y (keep is_step x.events)) q t.steps

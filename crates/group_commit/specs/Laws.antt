@@ -80,9 +80,9 @@ EveryTake = (g : Opening) (es : List Event) (told : List Name) (fs : List ℕ) (
 -- ## Outcomes
 
 -- Behind an outcome of a run: a commit and an abort are pushed as they happen, with the receipt of which the answer, the session's worker and the state before
--- it tell; and any other outcome leaves the queues as they are.
+-- it tell; and any other outcome leaves the queues as they are. Among the events of a commit there is no sync; of an abort the caller says so.
 pub record OutcomeLaws (g : Opening) (xs : List Done) (x : Done) (told : List Name) (qs : List (List End)) : Type 0 where
-  pub ends : (commit : Bool) → ends_by x.outcome.deed ≡ Some commit → any is_sync x.events ≡ false → (r : Receipt) → IsOfOutcome g xs x r → Tracks g (state_after g (front (x ∷ xs))) told (pushed r commit qs)
+  pub ends : (commit : Bool) → ends_by x.outcome.deed ≡ Some commit → (commit ≡ false → any is_sync x.events ≡ false) → (r : Receipt) → IsOfOutcome g xs x r → Tracks g (state_after g (front (x ∷ xs))) told (pushed r commit qs)
   pub others : ends_by x.outcome.deed ≡ None → Tracks g (state_after g (front (x ∷ xs))) told qs
 
 abbrev pub EveryOutcome : Type 0

@@ -156,7 +156,7 @@ module _ {D : Type 0} (reached : EveryReached) (outcome : EveryOutcome) (was is 
         go : Came receipt → Tracks g (state_after g (front (x ∷ xs))) names (put_ends receipt a was.ends)
         go (Nothing e) = subst (λ (o : Option Receipt). Tracks g (state_after g (front (x ∷ xs))) names (put_ends o a was.ends)) (sym e) (laws.others (unended x a d.does.answer_is (ends.none e)))
         go (Receipt_is r e) = subst (λ (o : Option Receipt). Tracks g (state_after g (front (x ∷ xs))) names (put_ends o a was.ends)) (sym e)
-            (laws.ends (is_commit_in a) (ended x a d.does.answer_is (ends.some r e)) (d.unsynced (ends.some r e)) r (receipt_of r e))
+            (laws.ends (is_commit_in a) (ended x a d.does.answer_is (ends.some r e)) (λ _. d.unsynced (ends.some r e)) r (receipt_of r e))
 
     pub in_run_behind : InRun is g (x ∷ xs) names
     in_run_behind = record {

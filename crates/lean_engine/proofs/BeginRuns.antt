@@ -42,7 +42,7 @@ use Rattle.row_words.specs.declared.event.Event.TheVariants as told
 use Rattle.rows_trait.specs.declared.view.View.{View}
 use Rattle.rows_trait.specs.Views.{state}
 use Rattle.worker_log.specs.Logs.{Log, limit, used}
-use Rattle.row_engine.specs.Begins.{Begins}
+use Rattle.row_ends.specs.Begins.{Begins}
 use Rattle.session_state.specs.Ties.{Behind}
 use Rattle.session_state.specs.declared.session.Session.{Session}
 use Rattle.session_desks.specs.Desks.{desk_of}

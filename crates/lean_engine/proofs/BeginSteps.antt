@@ -31,7 +31,7 @@ use Rattle.row_opening.specs.Openings.{EveryNeed, EveryReached}
 use Rattle.row_words.specs.Openings.{opening}
 use Rattle.rows_trait.specs.declared.view.View.{View}
 use Rattle.rows_trait.specs.Views.{Shape, state}
-use Rattle.row_engine.specs.Begins.{Begins}
+use Rattle.row_ends.specs.Begins.{Begins}
 use Rattle.row_engine.specs.Calls.{Comes, begin_answer}
 use Rattle.session_state.specs.Ties.{Ties}
 use Rattle.session_state.specs.declared.session.Session.{Session}

@@ -18,8 +18,8 @@ use Rattle.row_engine.specs.Calls.{CallDoes, abort_answer, commit_answer, del_an
 use Rattle.session_state.specs.Holds.{Holds, IsSameSession}
 use Rattle.session_state.specs.Others.{Steps}
 use Rattle.row_changes.specs.Puts.{works_after}
-use Rattle.row_engine.specs.Receipts.{IsEnded}
-use Rattle.row_engine.specs.declared.commits.Ended.{Ended}
+use Rattle.row_ends.specs.Receipts.{IsEnded}
+use Rattle.row_ends.specs.declared.ending.Ended.{Ended}
 use Rattle.lean_engine.specs.Calls.{IsTo, MayBe}
 use Rattle.lean_engine.specs.Inside.Came.{Came, receipt_in}
 use Rattle.lean_engine.specs.Inside.Asks.{IsEndOf}

@@ -25,6 +25,7 @@ use Rattle.rows_trait.specs.Views.{Shape}
 use Rattle.session_state.specs.Holds.{Holds}
 use Rattle.session_state.specs.Opened.{EveryFellow, EveryOpened, IsOpened, IsOpenedOn, plain_shape}
 use Rattle.session_state.specs.Ties.{Ties}
+use Rattle.session_state.specs.Undo.{HasHand}
 use Rattle.session_state.specs.declared.session.Session.{Session}
 use Rattle.session_desks.specs.Desks.{desk_of, log_of}
 use Rattle.session_desks.specs.Machines.{IsDesk, IsLogged, IsMachine}
@@ -42,6 +43,9 @@ last_of n w log made = ap (λ (l : Log). l.last) made.is
 
 flushed_of : (n : Master) (w : ℕ) (log : Log) → IsMadeBy n w log → log.flushed ≡ n.floor
 flushed_of n w log made = ap (λ (l : Log). l.flushed) made.is
+
+hand_of : (n : Master) (w : ℕ) (log : Log) → IsMadeBy n w log → HasHand log
+hand_of n w log made none = ap (λ (l : Log). l.payload) made.is
 
 below_more : (n more : ℕ) → n < 2 ^ 61 → n < 2 ^ 61 + more
 below_more n more low = omega arith
@@ -66,7 +70,7 @@ module _ (law : EveryOpened) (fellow : EveryFellow) (tracks : EveryStart) (r : R
     state_of disk = record { view = v; disk = disk; work = first; desks = desks; master = r.master; works = x.works; next = Line; sessions = x.workers; turn = x.own; group = x.group; ends = ends }
 
     is : (k : Log) (w : ℕ) → IsMadeBy r.master w k → IsOpened g z v x k
-    is k w it = on.is k (last_of r.master w k it) (flushed_of r.master w k it)
+    is k w it = on.is k (last_of r.master w k it) (flushed_of r.master w k it) (hand_of r.master w k it)
 
     start_is : IsOpened g z v x log
     start_is = is log 1 made

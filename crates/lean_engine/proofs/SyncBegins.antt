@@ -29,7 +29,7 @@ use Rattle.rows_trait.specs.Views.{Shape, state}
 use Rattle.worker_log.specs.Calls.{flushed_log}
 use Rattle.worker_log.specs.Laws.{EveryKept, EveryPrefix}
 use Rattle.worker_log.specs.Logs.{Log, limit, used}
-use Rattle.row_engine.specs.Begins.{Begins}
+use Rattle.row_ends.specs.Begins.{Begins}
 use Rattle.row_engine.specs.Calls.{begin_answer}
 use Rattle.session_state.specs.Syncs.{flushed_of}
 use Rattle.session_state.specs.declared.session.Session.{Session}

@@ -32,6 +32,7 @@ pub(crate) fn sync<D: Stages>(machine: &mut Machine<D>) -> Response
     ensures { MachineWent D.story D.faults OnLine 1 0 call.Sync result machine.old machine.new }
 {
     laws();
+    session_state::every_flush();
     if machine.any_half() {
         return Response::only(Answer::Refused(Refusal::RowSpent));
     }
@@ -70,6 +71,7 @@ fn begin_synced<D: Stages>(machine: &mut Machine<D>, is_long: bool) -> Response
 {
     laws();
     session_state::every_other();
+    session_state::every_flush();
     let own = machine.work.session.own;
     let _last = machine.work.log.last();
     if let Err(_) = machine.sync_all() {

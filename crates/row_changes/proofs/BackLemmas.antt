@@ -38,7 +38,7 @@ use Rattle.session_state.specs.declared.undo.Undone.{Undone}
 use Rattle.session_state.proofs.HoldLemmas.{rows_on}
 use Rattle.row_changes.proofs.PutLemmas.{same_flushed}
 use Rattle.row_changes.proofs.SeenLemmas.{none_seen, seen_core}
-use Rattle.session_state.proofs.UndoLemmas.{room_behind}
+use Rattle.session_state.proofs.UndoLemmas.{hand_after, room_behind}
 
 -- ## The newest change
 
@@ -232,6 +232,7 @@ module _ (rooms : EveryRoom) (z : Shape) (v w : View) (x : Session) (log : Log) 
       txn = let k = h.numbers.txn in let q = clock_above in omega arith;
       undo_room = λ _. room.0;
       flush_room = λ going. absurd (true≢false going);
+      hand = hand_after st.came.entry log log_now st.came.after;
       few = let k = h.numbers.few in let l = left_is in omega arith;
       behind = h.numbers.behind;
     }

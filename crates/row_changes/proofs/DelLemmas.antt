@@ -133,6 +133,7 @@ module _ (z : Shape) (v w : View) (x y : Session) (log : Log) (key : ℕ) (h : H
     room = h.numbers.room;
     undo_room = h.numbers.undo_room;
     flush_room = h.numbers.flush_room;
+    hand = h.numbers.hand;
     closed_txn = λ e. absurd (true≢false (sym is_open ∙ e));
     txn = let k = h.numbers.txn in let q = clock_from in omega arith;
     few = h.numbers.few;

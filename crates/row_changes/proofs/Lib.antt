@@ -9,9 +9,5 @@ pub mod PutLemmas
 pub mod DelLemmas
 pub mod BackLemmas
 pub mod TakesLemmas
-pub mod GrowthLemmas
-pub mod ChangeLemmas
-pub mod LiftLemmas
-pub mod SplitLemmas
-pub mod RoomLemmas
+pub mod TouchLemmas
 pub mod StepLemmas

@@ -5,7 +5,7 @@ use Rattle.row_words.specs.declared.event.Event.TheVariants.{Miss}
 use Rattle.row_words.specs.declared.given.Given.{Given}
 use Rattle.row_words.specs.Moments.{Moment}
 use Rattle.row_words.specs.Sealed as sealed
-use Rattle.btree_smo.specs.Outcomes.{AreMisses}
+use Rattle.held_rows.specs.Steps.{AreMisses}
 use Rattle.session_state.proofs.Moments.{met_core}
 
 pub misses_core : (v : Given) (k : Moment) (es : List Event) → AreMisses es → (sealed.run v k es).core ≡ k.core

@@ -38,8 +38,8 @@ use Rattle.session_state.specs.Staging.{Staging}
 use Rattle.row_changes.specs.Takes.{IsSpent}
 use Rattle.session_state.specs.declared.session.Session.{Session}
 use Rattle.row_changes.proofs.TakeLemmas.{row_is}
-use Rattle.session_state.specs.Undo.{HasRoomToStage}
-use Rattle.session_state.proofs.UndoLemmas.{many_of, room_after, room_to_end, room_to_flush, room_to_undo}
+use Rattle.session_state.specs.Undo.{HasHand, HasRoomToStage}
+use Rattle.session_state.proofs.UndoLemmas.{hand_after, many_of, room_after, room_kept, room_to_end, room_to_undo}
 use Rattle.session_state.proofs.HoldLemmas.{rows_on}
 use Rattle.session_state.proofs.Moments.{free_same}
 use Rattle.row_changes.proofs.SeenLemmas.{none_seen, seen_core, still}
@@ -98,17 +98,19 @@ pub no_room : (z : Shape) (v w : View) (x : Session) (log : Log) (key row : ℕ)
 no_room z v w x log key row path h m t = record {
   given = m.ran.given;
   seen = seen_is;
-  leaf = m.page;
-  unfit = record { below = m.leaf.below; holds = m.leaf.leaf; none = m.none; full = m.full };
-  frame = row;
-  stands = m.leaf.hot;
-  path_to = record {
-    under_root = t.trail.below;
-    starts = t.trail.starts;
-    ends = t.trail.ends ∙ ap Some (sym t.ends);
-    few = t.trail.few;
-    within = t.trail.within;
-    led = λ n frame next p q. carried (t.trail.still h.alone n frame next p q);
+  full = record {
+    leaf = m.page;
+    unfit = record { below = m.leaf.below; holds = m.leaf.leaf; none = m.none; full = m.full };
+    frame = row;
+    stands = m.leaf.hot;
+    path_to = record {
+      under_root = t.trail.below;
+      starts = t.trail.starts;
+      ends = t.trail.ends ∙ ap Some (sym t.ends);
+      few = t.trail.few;
+      within = t.trail.within;
+      led = λ n frame next p q. carried (t.trail.still h.alone n frame next p q);
+    };
   };
 }
   where
@@ -238,7 +240,10 @@ module _ (rooms : EveryRoom) (z : Shape) (v w : View) (x : Session) (log : Log) 
 
     -- the change may be put back
     room_on : HasRoomToStage log_now (room_takes (opening v.given) s key)
-    room_on = room_after st.came.entry log log_now (room_takes (opening v.given) s key) st.came.short st.came.after f.room
+    room_on = room_after st.came.entry log log_now (room_takes (opening v.given) s key) st.came.short st.came.after h.numbers.hand f.room
+
+    hand_on : HasHand log_now
+    hand_on = hand_after st.came.entry log log_now st.came.after
 
     numbers_on : AreNumbers u log_now
     numbers_on = record {
@@ -248,8 +253,9 @@ module _ (rooms : EveryRoom) (z : Shape) (v w : View) (x : Session) (log : Log) 
       room = λ _. room_to_end log_now _ room_on;
       closed_txn = λ e. absurd (true≢false (sym f.is_open ∙ e));
       txn = let a = h.numbers.txn in let q = clock_rises in omega arith;
-      undo_room = λ _. let c = f.few in room_to_undo log_now _ (suc (length x.undo)) room_on (omega arith);
-      flush_room = λ _ _. let c = f.few in room_to_flush log_now _ (suc (length x.undo)) room_on (omega arith);
+      undo_room = λ _. let c = f.few in room_to_undo log_now (suc (length x.undo)) hand_on (room_kept log_now _ room_on) (omega arith);
+      flush_room = λ _ _. room_kept log_now _ room_on;
+      hand = hand_on;
       few = let a = f.few in omega arith;
       behind = h.numbers.behind;
     }

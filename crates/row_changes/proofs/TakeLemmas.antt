@@ -168,6 +168,7 @@ numbers_on x y log rows is le n = subst (λ k. AreNumbers k log) (sym is) (recor
   room = n.room;
   undo_room = n.undo_room;
   flush_room = n.flush_room;
+  hand = n.hand;
   closed_txn = λ q. let a = n.closed_txn q in omega arith;
   txn = let a = n.txn in omega arith;
   few = n.few;

@@ -1,9 +1,9 @@
--- Read Takes, Ways and Reads; then Puts, with MayChange, what a change needs, and Dels, Outcomes, Rooms and Backs.
+-- Read Takes, Ways and Reads; then Puts, with MayChange, what a change needs, and Dels, Paths, Outcomes and Backs.
 pub mod Takes
 pub mod Ways
 pub mod Reads
 pub mod Puts
 pub mod Dels
-pub mod Rooms
+pub mod Paths
 pub mod Outcomes
 pub mod Backs

@@ -1,5 +1,5 @@
 //! What the calls of an engine's sessions do behind their tests, piece by piece, on rows of words where one thread executes: a lock row is
-//! taken; then a key is read, put or deleted in its leaf, room is made in a full one, or a change is put back.
+//! taken; then a key is read, put or deleted in its leaf, or a change is put back.
 //!
 //! Each piece says which events it was, by its answer, and keeps what session_state's `Holds` says. In which run that is, is said
 //! by whoever puts them together. Read specs/Takes, Reads and Puts, then the others.
@@ -10,15 +10,13 @@ mod clock;
 mod dels;
 mod puts;
 mod reads;
-mod room;
 mod taking;
 mod ways;
 
 pub use backs::put_back;
 pub use clock::{CLOCK_END, clock_refusal};
 pub use dels::del_held;
-pub use puts::{Stepped, Tried, put_held, put_in_leaf, put_step};
+pub use puts::{Tried, put_in_leaf};
 pub use reads::read_held;
-pub use room::make_room;
 pub use taking::take_row;
 pub use ways::{Cold, Unmade, every_warm_at_home, refusal_of};

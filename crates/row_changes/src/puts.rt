@@ -1,20 +1,17 @@
-// A put behind the lock of the key, and what it is made of: a try, and one step.
+// A try to put behind the lock of the key.
 ghost use Rattle.std.specs.Prelude.{◌≡◌, ◌<◌, [], Err, IsErrAnd, true, false};
 ghost use Rattle.page_model.specs.Limits.{tombstone};
 ghost use Rattle.page_model.specs.Tree.{word_or};
 ghost use Rattle.map_model.specs.declared.call.Refusal.{Refusal};
 ghost use Rattle.lean_disk.specs.Faults.{HasCause};
 ghost use Rattle.session_state.specs.Holds.{Holds, IsSameSession};
-ghost use Rattle.session_state.specs.Others.{AreHome};
-ghost use Rattle.row_changes.specs.Outcomes.{Puts, Steps, Tries};
-ghost use Rattle.row_changes.specs.Puts.{MayChange, works_after, works_behind};
+ghost use Rattle.row_changes.specs.Outcomes.{Tries};
+ghost use Rattle.row_changes.specs.Puts.{MayChange, works_behind};
 ghost use Rattle.row_changes.specs.Ways.{IsCut, IsWarm};
 ghost use Rattle.row_changes.specs.declared.ways.Unmade.{Unmade};
 
-use crate::clock::clock_refusal;
 use crate::reads::value_of;
-use crate::room::make_room;
-use crate::ways::{Cold, Unmade, every_warm_at_home, refusal_of};
+use crate::ways::{Cold, Unmade};
 use btree_descent::descent::TOMBSTONE;
 use btree_descent::put::{Put, leaf_put};
 use draw_trait::draw::Unstaged;
@@ -87,84 +84,5 @@ pub fn put_in_leaf<R: Rows, D: Stages>(
         Put::ClockSpent => unreachable!(),
         Put::Moved(_) => unreachable!(),
         Put::Latched(_) => unreachable!(),
-    }
-}
-
-/// What one step of a put did.
-#[derive(Clone, Copy)]
-pub enum Stepped {
-    /// The key has its value now; this is the one that it had.
-    Done(Option<u64>),
-    /// The tree was changed on the way to room for the key.
-    Grown,
-}
-
-/// Tries to put, and where the leaf has no room, makes one change of the tree.
-pub fn put_step<R: Rows, D: Stages>(
-    rows: &mut R,
-    seat: &mut R::Seat,
-    work: &mut Work<D>,
-    key: u64,
-    value: u64,
-) -> Result<Stepped, Refusal>
-    requires fits { R.fits rows.old seat.old }
-    requires holds { Holds (R.shape rows.old) (R.view seat.old) work.old.session work.old.log }
-    requires may { MayChange (R.view seat.old) work.old.session work.old.log key }
-    // Each page stands in the frame of its own number, so a page that is free does.
-    requires home { AreHome (R.view seat.old) }
-    requires value { value < tombstone }
-    ensures fits { R.fits rows.new seat.new × (R.shape rows.new ≡ R.shape rows.old) }
-    ensures holds { work.new.session.works ≡ true → Holds (R.shape rows.new) (R.view seat.new) work.new.session work.new.log }
-    ensures session { IsSameSession work.old.session work.new.session }
-    ensures is_half_aborted { work.new.session.works ≡ true → work.new.session.is_half_aborted ≡ work.old.session.is_half_aborted }
-    ensures steps { Steps result (R.view seat.old) (R.view seat.new) key value work.old.session work.new.session work.old.log work.new.log (D.story work.old.disk) (D.story work.new.disk) (work.new ≡ work.old) }
-    ensures works { work.new.session.works ≡ works_after result }
-    ensures cause_disk_fault { HasCause (D.faults work.old.disk) (D.faults work.new.disk) (result ≡ Err Refusal.DiskFault) }
-{
-    every_warm_at_home();
-    let mut path = Path::new();
-    match put_in_leaf(rows, seat, work, key, value, &mut path) {
-        // Each page is hot.
-        Err(unmade) => return Err(refusal_of(unmade)),
-        Ok(Tried::Done(before)) => return Ok(Stepped::Done(before)),
-        Ok(Tried::Full) => {}
-    }
-    if let Err(why) = make_room(rows, seat, work, key, &path) {
-        return Err(why);
-    }
-    match clock_refusal(&work.session) {
-        Some(why) => Err(why),
-        None => Ok(Stepped::Grown),
-    }
-}
-
-/// The key, whose row is held, gets its value. Room is made for it by one change of the tree after another, each of which takes a free page, and whose records
-/// may take the blocks that are kept back.
-pub fn put_held<R: Rows, D: Stages>(
-    rows: &mut R,
-    seat: &mut R::Seat,
-    work: &mut Work<D>,
-    key: u64,
-    value: u64,
-) -> Result<Option<u64>, Refusal>
-    requires fits { R.fits rows.old seat.old }
-    requires holds { Holds (R.shape rows.old) (R.view seat.old) work.old.session work.old.log }
-    requires may { MayChange (R.view seat.old) work.old.session work.old.log key }
-    requires home { AreHome (R.view seat.old) }
-    requires value { value < tombstone }
-    ensures fits { R.fits rows.new seat.new × (R.shape rows.new ≡ R.shape rows.old) }
-    ensures holds { work.new.session.works ≡ true → Holds (R.shape rows.new) (R.view seat.new) work.new.session work.new.log }
-    ensures session { IsSameSession work.old.session work.new.session }
-    ensures is_half_aborted { work.new.session.works ≡ true → work.new.session.is_half_aborted ≡ work.old.session.is_half_aborted }
-    ensures puts { Puts D.story result (R.view seat.old) (R.view seat.new) key value work.old.session work.new.session work.old.log work.new.log work.old.disk work.new.disk }
-    ensures works { work.new.session.works ≡ works_after result }
-    ensures cause_disk_fault { HasCause (D.faults work.old.disk) (D.faults work.new.disk) (result ≡ Err Refusal.DiskFault) }
-{
-    'room: loop {
-        match put_step(rows, seat, work, key, value) {
-            Ok(Stepped::Done(before)) => return Ok(before),
-            Ok(Stepped::Grown) => {}
-            Err(why) => return Err(why),
-        }
     }
 }

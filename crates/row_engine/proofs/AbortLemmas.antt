@@ -61,10 +61,10 @@ use Rattle.row_opening.specs.Openings.{EveryNeed, EveryReached}
 use Rattle.rows_trait.specs.declared.view.View.{View}
 use Rattle.rows_trait.specs.Views.{Shape, state}
 use Rattle.btree_smo.specs.Outcomes.{AreMisses}
-use Rattle.row_engine.specs.Inside.Aborts.{abort_of}
+use Rattle.row_ends.specs.Outcomes.{end_record}
 use Rattle.row_engine.specs.Inside.Backs.{HasFailedBack, Undoes, Undone, is_back}
 use Rattle.row_engine.specs.Calls.{Asked, DoesOn, Hindered, IsAbortDue}
-use Rattle.row_engine.specs.Inside.Ends.{Ended, Missed, end_of, gives}
+use Rattle.row_ends.specs.Ends.{Ended, Missed, end_of, gives}
 use Rattle.session_state.specs.Ties.{Behind, Ties}
 use Rattle.row_engine.specs.Grown.{Goes, Went}
 use Rattle.session_state.specs.Holds.{Holds, IsOf}
@@ -77,8 +77,8 @@ use Rattle.row_engine.proofs.CommitRuns.{ending_met, length_unlocks}
 use Rattle.row_engine.proofs.CommitRefusals.{length_events}
 use Rattle.session_state.proofs.Frames.{framed_then}
 use Rattle.row_engine.proofs.GrowRuns.{all_append, logs_same, went_failed, went_more, went_quiet}
-use Rattle.row_engine.proofs.LatchLemmas.{gives_events}
-use Rattle.row_engine.proofs.Misses.{misses_are, misses_log, misses_met, misses_quiet, misses_steps, misses_structure}
+use Rattle.row_ends.proofs.LatchLemmas.{gives_events}
+use Rattle.row_ends.proofs.Misses.{misses_are, misses_log, misses_met, misses_quiet, misses_steps, misses_structure}
 
 -- ## What is told of changes that are put back
 
@@ -350,7 +350,7 @@ module _ (reached : EveryReached) (needs : EveryNeed) (answers : EveryAnswer) (c
         of_here = subst (λ k. IsOf y (k.worker x.own)) core_here (subst (λ n. IsOf y ((state u).core.worker n)) (ap (λ (k : Session). k.own) d.session) hu.session)
 
         abbrev r : Record
-        r = abort_of y floor
+        r = end_record false y floor
 
         r_is : r ≡ abort_record (here.worker x.own) floor
         r_is = λ i. record { txn = sym of_here.txn i; gsn = gsn i; body = body.Abort (need_of (sym of_here.debt i) floor) }

@@ -1,42 +1,36 @@
 -- An abort in every run, by its answer.
-use Rattle.std.proofs.Common.{◌≡◌, ◌⊎◌, inl, inr, ◌≤◌, ◌+◌, ◌^◌, ℕ, suc, Bool, true, false, cond, List, length, Some, None, Result, Ok, Err, refl, sym, ap, ◌∙◌, subst, arith, true≢false}
+use Rattle.std.proofs.Common.{◌≡◌, ◌⊎◌, inl, inr, ◌≤◌, ◌^◌, Bool, true, false, cond, length, Some, None, Result, Ok, Err, IfErr, refl, sym, ap, ◌∙◌, subst, arith, true≢false}
 use Rattle.map_model.specs.declared.call.Answer.TheVariants as answer
 use Rattle.map_model.specs.declared.call.Call.TheVariants as call
 use Rattle.map_model.specs.declared.call.Refusal.{Refusal}
 use Rattle.map_model.specs.declared.call.Refusal.TheVariants as refusal
-use Rattle.rfa_model.specs.Stamps.{need_of}
 use Rattle.lean_disk.specs.Story.{IsLawful, Story}
-use Rattle.log_record.specs.declared.record.Body.TheVariants as body
-use Rattle.log_record.specs.declared.record.Record.{Record}
 use Rattle.worker_log.specs.Logs.{Log}
 use Rattle.engine_calls.specs.Answers.{EveryAnswer}
 use Rattle.engine_calls.specs.Clauses.{EveryComing}
 use Rattle.engine_calls.specs.Entries.{EveryEntry}
 use Rattle.engine_calls.specs.Parts.{EveryPart, behind_first}
-use Rattle.core_state.specs.States.{flushed_by_all}
 use Rattle.engine_trait.specs.Calls.{IsTold, is_half_done}
 use Rattle.engine_trait.specs.Refusals.{refusal_in}
 use Rattle.row_opening.specs.Openings.{EveryNeed, EveryReached}
-use Rattle.row_words.specs.Openings.{opening}
 use Rattle.log_calls.specs.Calls.{StagesOn}
 use Rattle.rows_trait.specs.declared.view.View.{View}
-use Rattle.rows_trait.specs.Views.{Shape, state}
-use Rattle.row_engine.specs.Inside.Aborts.{Finishes, abort_of}
+use Rattle.rows_trait.specs.Views.{Shape}
+use Rattle.row_ends.specs.Outcomes.{Aborts, end_record}
 use Rattle.row_engine.specs.Inside.Backs.{HasUndone, PutsAllBack}
 use Rattle.row_engine.specs.Calls.{AbortDoes, Asked, DoesOn, Hindered, abort_answer}
-use Rattle.row_engine.specs.Inside.Ends.{Ended, Latched, Missed}
-use Rattle.row_engine.specs.Flushed.{flushed_to}
+use Rattle.row_ends.specs.Ends.{Ended}
 use Rattle.session_state.specs.Holds.{Holds}
-use Rattle.row_engine.specs.Inside.{abort_test}
+use Rattle.row_ends.specs.Tests.{abort_test}
 use Rattle.session_state.specs.Staging.{KeepsLog}
 use Rattle.row_changes.specs.Puts.{works_after}
-use Rattle.row_engine.specs.declared.commits.Ended as committed
+use Rattle.row_ends.specs.declared.ending.Ended as committed
 use Rattle.session_state.specs.declared.session.Session.{Session}
 use Rattle.row_engine.proofs.AbortLemmas.{aborted_does, failed_back, halved_does, unended}
 use Rattle.row_engine.proofs.Behind as behind
-use Rattle.row_engine.proofs.CommitLemmas.{ended_as, floor_is, same_state}
+use Rattle.row_ends.proofs.CommitLemmas.{floor_is}
 use Rattle.row_engine.proofs.Refusing.{is_refusal, refusal_comes, refused_does}
-use Rattle.row_engine.proofs.CommitRefusals.{missed_from, no_miss}
+use Rattle.row_ends.proofs.MissLemmas.{no_miss}
 
 -- ## Tests
 
@@ -104,46 +98,27 @@ module _ (reached : EveryReached) (needs : EveryNeed) (answers : EveryAnswer) (c
       go (Fails broken is) = absurd (true≢false (sym works ∙ broken))
       go (Closed w shut is) = subst (λ k. AbortDoes x.own x.group x.is_open (answer.Refused k) x.is_half_aborted x.is_half_aborted v v log log old old) (sym is) (closed shut)
 
-  module _ (u : View) (y : Session) (mid : Log) (st : Story) (hu : Holds z u y mid) (r : HasUndone v u x y log mid old st) where
+  module _ {D : Type 0} (story : D → Story) (u : View) (y : Session) (mid : Log) (now : D) (hu : Holds z u y mid) (r : HasUndone v u x y log mid old (story now)) where
     few : length y.held.rows ≤ 2 ^ 16
     few = let a = hu.fewer in let b = hu.rows.few in omega arith
 
     own_is : y.own ≡ x.own
     own_is = ap (λ (k : Session). k.own) r.undoes.session
 
-    -- a row could not be latched
-    pub not_latched : (u1 w : View) → u1.given ≡ u.given → u1.seen ≡ u.seen → Missed (length y.held.rows) u1 w → 2 ^ 61 ≤ length w.seen → AbortDoes x.own x.group x.is_open (abort_answer (Err refusal.RowSpent)) x.is_half_aborted y.is_half_aborted v w log mid old st
-    not_latched u1 w given seen m many c g xs t due =
-        halved_does reached needs answers coming entries parts g xs z v x log h t c due u y mid r.undoes w (length y.held.rows) few (missed_from (length y.held.rows) u u1 w given seen m) many old st lawful r.goes r.frame
-
-    -- it came to its end
-    pub finished : x.is_open ≡ true → (u1 w : View) → u1.given ≡ u.given → u1.seen ≡ u.seen → (is_half_aborted : Bool) (is : Log) (new : Story) (a : Result committed.Ended Refusal) → Finishes a u1 w y mid is st new → (works_after a ≡ true → is_half_aborted ≡ false)
-        → AbortDoes x.own x.group x.is_open (abort_answer a) x.is_half_aborted is_half_aborted v w log is old new
-    finished opened u1 w given seen is_half_aborted is new (Ok told) f whole c g xs t due =
+    -- it came to its end, or a row could not be latched
+    pub ends_by : x.is_open ≡ true → (a : Result committed.Ended Refusal) (w : View) (y1 : Session) (is : Log) (new : D) → Aborts story a u w y y1 mid is now new → AbortDoes x.own x.group x.is_open (abort_answer a) x.is_half_aborted y1.is_half_aborted v w log is old (story new)
+    ends_by opened (Ok told) w y1 is new f c g xs t due =
         let d = f.0 in
-        let e = subst (λ n. Ended n (length y.held.rows) u false d.floor w) own_is (ended_as y.own (length y.held.rows) false u u1 w d.floor given seen d.ended) in
-        let floor_at : d.floor ≡ flushed_by_all (opening u.given) (state u).core = d.floor_is ∙ (λ i. flushed_by_all (opening (given i)) (same_state u u1 given seen i).core) in
-        subst (λ k. DoesOn g x.group xs x.own c (answer.Aborted k) is_half_aborted w log is old new) (sym f.1)
-        (subst (λ k. DoesOn g x.group xs x.own c (answer.Aborted y.txn) k w log is old new) (sym (whole refl))
-        (aborted_does reached needs answers coming entries parts g xs z v x log h t c due u y mid r.undoes hu old st lawful r.goes r.frame d.floor floor_at w e new is
-        (subst (λ n. StagesOn n (abort_of y d.floor) mid is st new) own_is d.stands) (subst (λ n. KeepsLog n mid st new) own_is d.keeps) d.after opened))
-    finished opened u1 w given seen is_half_aborted is new (Err refusal.DiskFault) f whole c g xs t due =
-        unended reached needs answers coming entries parts g xs z v x log h t c due u y mid r.undoes hu old st lawful r.goes r.frame new (subst (λ n. KeepsLog n mid st new) own_is f)
-    finished opened u1 w given seen is_half_aborted is new (Err _) f whole c g xs t due = absurd f
-
--- ## The end
-
--- the record that is staged is the abort's
-pub record_is : (x : Session) (number need floor : ℕ) → number ≡ x.clock.clock + 1 → need ≡ need_of x.clock.debt floor → ◌≡◌ {A = Record} (record { txn = x.txn; gsn = number; body = body.Abort need }) (abort_of x floor)
-record_is x number need floor number_is need_is = λ i. record { txn = x.txn; gsn = next i; body = body.Abort (need_is i) }
-  where
-    next : number ≡ suc x.clock.clock
-    next = omega arith
-
--- it says how far all logs were flushed
-pub floor_found : (z : Shape) (v : View) (x : Session) (log : Log) (marks : List Bool) → Latched z v x log marks → x.is_open ≡ true → (floor : ℕ) → floor ≡ flushed_to (state v).core x.workers → floor ≡ flushed_by_all (opening v.given) (state v).core
-floor_found z v x log marks l opened floor loaded =
-    floor_is z l.before x log l.holds l.room v l.latching.given l.latching.seen opened floor loaded ∙ sym (λ i. flushed_by_all (opening (l.latching.given i)) (same_state l.before v l.latching.given l.latching.seen i).core)
+        let e = subst (λ n. Ended n (length y.held.rows) u false d.floor w) own_is d.ended in
+        subst (λ (k : committed.Ended × Bool). DoesOn g x.group xs x.own c (answer.Aborted k.0.number) k.1 w log is old (story new)) (λ i. (sym d.told_is i, sym (ap (λ (k : Session). k.is_half_aborted) f.1) i))
+        (aborted_does reached needs answers coming entries parts g xs z v x log h t c due u y mid r.undoes hu old (story now) lawful r.goes r.frame d.floor d.floor_is w e (story new) is
+        (subst (λ n. StagesOn n (end_record false y d.floor) mid is (story now) (story new)) own_is d.stands) (subst (λ n. KeepsLog n mid (story now) (story new)) own_is d.keeps) d.after opened)
+    ends_by opened (Err refusal.RowSpent) w y1 is new f c g xs t due =
+        subst (λ (q : Bool × Log × D). DoesOn g x.group xs x.own c (answer.Refused refusal.RowSpent) q.0 w log q.1 old (story q.2)) (λ i. (sym (ap (λ (k : Session). k.is_half_aborted) f.session) i, sym f.log i, sym f.disk i))
+        (halved_does reached needs answers coming entries parts g xs z v x log h t c due u y mid r.undoes w (length y.held.rows) few f.missed f.late old (story now) lawful r.goes r.frame)
+    ends_by opened (Err refusal.DiskFault) w y1 is new f c g xs t due =
+        unended reached needs answers coming entries parts g xs z v x log h t c due u y mid r.undoes hu old (story now) lawful r.goes r.frame (story new) (subst (λ n. KeepsLog n mid (story now) (story new)) own_is f)
+    ends_by opened (Err _) w y1 is new f c g xs t due = absurd f
 
 -- ## What is told
 
@@ -154,3 +129,10 @@ unaborted_told x why e = go (unaborted x why e)
     go : Unaborted x why → IsTold why ⊎ ((why ≡ refusal.Broken) ⊎ (why ≡ refusal.DiskFault))
     go (Fails broken is) = inr (inl is)
     go (Closed w closed is) = inl (subst IsTold (sym is) tt)
+
+-- of its end
+pub ends_told : {D : Type 0} (story : D → Story) (r : Result committed.Ended Refusal) (v w : View) (x y : Session) (was is : Log) (old new : D) → Aborts story r v w x y was is old new → IfErr r (λ why. IsTold why ⊎ ((why ≡ refusal.Broken) ⊎ (why ≡ refusal.DiskFault)))
+ends_told story (Ok told) v w x y was is old new c = tt
+ends_told story (Err refusal.RowSpent) v w x y was is old new c = inl tt
+ends_told story (Err refusal.DiskFault) v w x y was is old new c = inr (inr refl)
+ends_told story (Err _) v w x y was is old new c = absurd c

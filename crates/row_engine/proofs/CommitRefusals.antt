@@ -1,16 +1,13 @@
 -- A commit that is refused, and one whose rows are latched.
-use Rattle.std.proofs.Common.{Result, Ok, IfErr, ◌≡◌, ◌⊎◌, ◌↔◌, inl, inr, ◌≤◌, ◌^◌, ℕ, suc, Bool, true, false, cond, List, [], ◌∷◌, ◌++◌, length, replicate, Some, None, Err, refl, sym, ap, ◌∙◌, subst, arith, append-nil, length-append, true≢false}
-use Rattle.std.proofs.lemmas.List.{length-replicate}
-use Rattle.map_model.specs.declared.call.Answer.{Answer}
+use Rattle.std.proofs.Common.{◌≡◌, ◌⊎◌, inl, inr, ◌≤◌, ◌^◌, suc, true, false, cond, List, [], ◌∷◌, ◌++◌, length, Some, None, Err, refl, sym, ap, ◌∙◌, subst, arith, length-append, true≢false}
 use Rattle.map_model.specs.declared.call.Answer.TheVariants as answer
 use Rattle.map_model.specs.declared.call.Call.TheVariants as call
 use Rattle.map_model.specs.declared.call.Refusal.{Refusal}
 use Rattle.map_model.specs.declared.call.Refusal.TheVariants as refusal
-use Rattle.map_model.specs.Lists.{Has, any, keep}
+use Rattle.map_model.specs.Lists.{any, keep}
 use Rattle.core_state.specs.Openings.{Opening}
 use Rattle.core_state.specs.Events as happening
-use Rattle.core_state.specs.States.{State, flushed_by_all}
-use Rattle.core_state.specs.Needs.{holds_row}
+use Rattle.core_state.specs.States.{State}
 use Rattle.core_state.specs.Steps.{state_after, step}
 use Rattle.core_state.proofs.Runs.{run_more}
 use Rattle.lean_disk.specs.Story.{IsLawful, Story}
@@ -21,7 +18,6 @@ use Rattle.worker_log.specs.Logs.{Log}
 use Rattle.core_disk.specs.Versions.{EveryVersion}
 use Rattle.core_calls.specs.Deeds.{marks_by}
 use Rattle.core_calls.specs.Fronts.{Done, front, outcomes}
-use Rattle.core_calls.specs.LogEvents as log_events
 use Rattle.core_calls.specs.LogEvents.{is_log}
 use Rattle.core_calls.proofs.WhereLemmas.{refused_kept}
 use Rattle.core_calls.specs.Marks.{is_half}
@@ -43,111 +39,24 @@ use Rattle.engine_trait.specs.Rooms.{MakesItsRoom}
 use Rattle.row_words.specs.declared.event.Event.{Event}
 use Rattle.row_words.specs.declared.event.Event.TheVariants.{Miss}
 use Rattle.row_words.specs.Moments.{events_of}
-use Rattle.row_words.specs.Openings.{opening}
 use Rattle.row_opening.specs.Openings.{EveryNeed, EveryReached}
-use Rattle.rows_trait.specs.declared.view.Hold.{Hold}
 use Rattle.rows_trait.specs.declared.view.View.{View}
-use Rattle.rows_trait.specs.Views.{Shape, state}
-use Rattle.key_locks.specs.Latching.{is_marked}
+use Rattle.rows_trait.specs.Views.{Shape}
 use Rattle.row_engine.specs.Calls.{CallDoes, DoesOn, commit_answer}
 use Rattle.btree_smo.specs.Outcomes.{AreMisses}
-use Rattle.row_engine.specs.Inside.Ends.{AreAmong, AreMine, Missed}
+use Rattle.row_ends.specs.Ends.{Missed}
 use Rattle.session_state.specs.Holds.{Holds, IsOf}
-use Rattle.row_engine.specs.Inside.{call_test, is_going}
+use Rattle.row_ends.specs.Tests.{call_test, is_going}
 use Rattle.session_state.specs.Ties.{Ties}
-use Rattle.row_engine.specs.declared.commits.Ended as committed
 use Rattle.session_state.specs.declared.session.Session.{Session}
-use Rattle.row_engine.proofs.GoingLemmas.{going, not_going, tests_as}
+use Rattle.row_ends.proofs.MissLemmas.{no_miss}
+use Rattle.row_ends.proofs.GoingLemmas.{Tested, not_going, tested, tests_as}
 use Rattle.row_engine.proofs.Behind as behind
-use Rattle.session_state.proofs.HoldLemmas.{rows_on}
-use Rattle.row_engine.proofs.CommitLemmas.{ties_as}
-use Rattle.row_engine.proofs.LatchLemmas.{replicated}
-use Rattle.session_state.proofs.Moments.{free_same, seen_state}
-use Rattle.row_changes.proofs.Misses.{misses_core}
-use Rattle.row_engine.proofs.Misses.{misses_log, misses_met, misses_quiet, misses_run, misses_steps, misses_structure}
-
--- ## Tests
-
--- it works, and a transaction is open
-pub record IsReady (x : Session) : Type 0 where
-  pub works : x.works ≡ true
-  pub is_open : x.is_open ≡ true
-  pub whole : x.is_half_aborted ≡ false
-
-pub ready_of : (x : Session) → call_test x ≡ None → IsReady x
-ready_of x e = works_case x.works refl e
-  where
-    open_case : x.works ≡ true → (b : Bool) → is_going x ≡ b → cond b None (Some refusal.NoTransaction) ≡ None → IsReady x
-    open_case w true q r = let k = going x q in record { works = w; is_open = k.is_open; whole = k.whole }
-    open_case w false q r = absurd (cc)
-
-    works_case : (b : Bool) → x.works ≡ b → cond b (cond (is_going x) None (Some refusal.NoTransaction)) (Some refusal.Broken) ≡ None → IsReady x
-    works_case true q r = open_case q (is_going x) refl r
-    works_case false q r = absurd (cc)
-
--- why it is refused
-pub data Tested (x : Session) (why : Refusal) : Type 0 where
-  Fails : x.works ≡ false → why ≡ refusal.Broken → Tested x why
-  Closed : x.works ≡ true → is_going x ≡ false → why ≡ refusal.NoTransaction → Tested x why
-
-pub tested : (x : Session) (why : Refusal) → call_test x ≡ Some why → Tested x why
-tested x why e = works_case x.works refl e
-  where
-    open_case : x.works ≡ true → (b : Bool) → is_going x ≡ b → cond b None (Some refusal.NoTransaction) ≡ Some why → Tested x why
-    open_case w true q r = absurd (cc)
-    open_case w false q r = Closed w q (cc)
-
-    works_case : (b : Bool) → x.works ≡ b → cond b (cond (is_going x) None (Some refusal.NoTransaction)) (Some refusal.Broken) ≡ Some why → Tested x why
-    works_case true q r = open_case q (is_going x) refl r
-    works_case false q r = Fails q (cc)
-
--- ## Latches
-
--- where none is marked and none is held
-pub start_mine : (frames count : ℕ) (marks : List Bool) (hs : List Hold) → marks ≡ replicate count false → hs ≡ [] → AreMine frames count marks hs
-start_mine frames count marks hs m e = subst (λ ms. AreMine frames count ms hs) (sym m) (subst (λ ks. AreMine frames count (replicate count false) ks) (sym e) (record {
-  many = length-replicate count false;
-  latched = record { marked = λ j on. absurd (replicated count j on); others = λ j lt off. refl };
-  only = λ row held. absurd (true≢false (sym held));
-}))
-
-pub start_among : (count : ℕ) (marks : List Bool) (rows : List ℕ) → marks ≡ replicate count false → AreAmong marks rows
-start_among count marks rows m i on = absurd (replicated count i (subst (λ ms. is_marked ms i ≡ true) m on))
+use Rattle.row_ends.proofs.Misses.{misses_log, misses_met, misses_quiet, misses_run, misses_steps, misses_structure}
 
 pub length_events : (es : List Event) → length (events_of es) ≡ length es
 length_events [] = refl
 length_events (e ∷ es) = let q = length_events es in omega arith
-
-pub no_miss : (most : ℕ) (v : View) → v.held ≡ [] → Missed most v v
-no_miss most v e = record { given = refl; misses = []; are_misses = tt; few = omega arith; seen = sym (append-nil v.seen); idle = e }
-
-pub missed_from : (most : ℕ) (u v w : View) → v.given ≡ u.given → v.seen ≡ u.seen → Missed most v w → Missed most u w
-missed_from most u v w given seen m = record { given = m.given ∙ given; misses = m.misses; are_misses = m.are_misses; few = m.few; seen = m.seen ∙ ap (λ ys. ys ++ m.misses) seen; idle = m.idle }
-
-pub longer : (most : ℕ) (v w : View) → Missed most v w → 2 ^ 61 ≤ length v.seen → 2 ^ 61 ≤ length w.seen
-longer most v w m le = let q = ap length m.seen ∙ length-append v.seen m.misses in omega arith
-
--- behind misses all is as it was
-pub holds_missed : (z y : Shape) (v w : View) (x : Session) (log : Log) → y ≡ z → Missed (length x.held.rows) v w → Holds z v x log → Holds y w x log
-holds_missed z y v w x log same m h = subst (λ k. Holds k w x log) (sym same) (record {
-  alone = h.alone;
-  idle = m.idle;
-  rows = rows_on z v w x.own x.workers x.frames x.held.count m.given h.rows;
-  session = subst (λ k. IsOf x (k.worker x.own)) (sym core_is) h.session;
-  numbers = h.numbers;
-  flushed = ap (λ k. k.flushed x.own) core_is ∙ h.flushed;
-  floor = subst (λ k. x.clock.floor ≤ flushed_by_all (opening k) (state w).core) (sym m.given) (subst (λ (k : State). x.clock.floor ≤ flushed_by_all (opening v.given) k) (sym core_is) h.floor);
-  behind = ap (λ (k : State). log_events.behind k x.own) core_is ∙ h.behind;
-  held = λ i. subst (λ (k : State). holds_row (k.row i) x.own ≡ true ↔ Has i x.held.rows) (sym core_is) (h.held i);
-  within = h.within;
-  fewer = h.fewer;
-  none = h.none;
-  free = free_same v w x.free m.given (ap (λ k. k.page) core_is) h.free;
-  spare = h.spare;
-})
-  where
-    core_is : (state w).core ≡ (state v).core
-    core_is = ap (λ k. k.core) (seen_state v w m.misses m.given m.seen) ∙ misses_core v.given (state v) m.misses m.are_misses
 
 -- ## In a run
 
@@ -298,16 +207,12 @@ module _ (reached : EveryReached) (needs : EveryNeed) (answers : EveryAnswer) (c
   refused_by_test works why e = go (tested x why e)
     where
       go : Tested x why → CallDoes x.own x.group call.Commit (answer.Refused why) x.is_half_aborted x.is_half_aborted v v log log st st
-      go (Fails broken is) = absurd (true≢false (sym works ∙ broken))
-      go (Closed w closed is) = subst (λ k. CallDoes x.own x.group call.Commit (answer.Refused k) x.is_half_aborted x.is_half_aborted v v log log st st) (sym is)
+      go (Tested.Fails broken is) = absurd (true≢false (sym works ∙ broken))
+      go (Tested.Closed w closed is) = subst (λ k. CallDoes x.own x.group call.Commit (answer.Refused k) x.is_half_aborted x.is_half_aborted v v log log st st) (sym is)
           (λ g xs t line. closed_does reached needs answers coming versions keeps prefixes seals g xs z v x log h t line v (no_miss (length x.held.rows) v h.idle) st lawful closed)
 
   pub refused_by_latch : (w : View) → Missed (length x.held.rows) v w → 2 ^ 61 ≤ length w.seen → CallDoes x.own x.group call.Commit (commit_answer (Err refusal.RowSpent)) x.is_half_aborted x.is_half_aborted v w log log st st
   refused_by_latch w m many g xs t line = spent_does reached needs answers coming versions keeps prefixes seals g xs z v x log h t line w m st lawful many
-
--- the answer of one whose rows are latched, from where they were not
-pub does_from : (own group : ℕ) (a : Answer) (before now : Bool) (v w u : View) (was is : Log) (old new : Story) → w.given ≡ v.given → w.seen ≡ v.seen → CallDoes own group call.Commit a before now w u was is old new → CallDoes own group call.Commit a before now v u was is old new
-does_from own group a before now v w u was is old new given seen d g xs t = d g xs (ties_as g group xs own w v (sym given) (sym seen) t)
 
 -- ## What is told
 
@@ -316,9 +221,5 @@ pub test_told : (x : Session) (why : Refusal) → call_test x ≡ Some why → I
 test_told x why e = go (tested x why e)
   where
     go : Tested x why → IsTold why ⊎ ((why ≡ refusal.Broken) ⊎ (why ≡ refusal.DiskFault))
-    go (Fails broken is) = inr (inl is)
-    go (Closed w closed is) = inl (subst IsTold (sym is) tt)
-
-pub fault_told : (r : Result committed.Ended Refusal) → IfErr r (λ why. why ≡ refusal.DiskFault) → IfErr r (λ why. IsTold why ⊎ ((why ≡ refusal.Broken) ⊎ (why ≡ refusal.DiskFault)))
-fault_told (Ok x) p = tt
-fault_told (Err why) p = inr (inr p)
+    go (Tested.Fails broken is) = inr (inl is)
+    go (Tested.Closed w closed is) = inl (subst IsTold (sym is) tt)

@@ -1,6 +1,5 @@
 -- A commit, in a run and on the disk.
-use Rattle.std.proofs.Common.{◌≡◌, ◌≤◌, ◌<◌, ◌+◌, ◌^◌, ℕ, suc, Bool, true, false, cond, leb, List, length, lit≤, [], ◌∷◌, ◌++◌, Some, None, refl, sym, ap, ◌∙◌, subst, arith, append-nil, true≢false}
-use Rattle.std.proofs.lemmas.Bool.{le-leb}
+use Rattle.std.proofs.Common.{◌≡◌, ◌≤◌, ◌+◌, ◌^◌, ℕ, suc, Bool, true, false, cond, leb, List, length, lit≤, [], ◌∷◌, ◌++◌, Some, None, refl, sym, ap, ◌∙◌, subst, arith, append-nil, true≢false}
 use Rattle.std.proofs.lemmas.List.{append_assoc, length-append}
 use Rattle.map_model.specs.declared.call.Answer.TheVariants as answer
 use Rattle.map_model.specs.declared.call.Call.TheVariants as call
@@ -56,18 +55,18 @@ use Rattle.row_words.specs.Openings.{opening}
 use Rattle.row_opening.specs.Openings.{EveryNeed, EveryReached, Opens}
 use Rattle.rows_trait.specs.declared.view.View.{View}
 use Rattle.rows_trait.specs.Views.{Shape, state}
-use Rattle.row_engine.specs.Calls.{CallDoes, DoesOn}
-use Rattle.row_engine.specs.Inside.Ends.{Ended, HasFlushed, Latched, MayEnd, MayFlush, gives, waiting_session}
-use Rattle.row_engine.specs.Flushed.{Looked, flushed_to}
+use Rattle.row_engine.specs.Calls.{DoesOn}
+use Rattle.row_ends.specs.Ends.{Ended, gives}
 use Rattle.session_state.specs.Holds.{Holds, IsOf}
 use Rattle.session_state.specs.Staging.{KeepsLog}
 use Rattle.session_state.specs.Ties.{Ties}
+use Rattle.session_state.specs.Undo.{HasHand}
 use Rattle.session_state.specs.declared.session.Session.{Session}
 use Rattle.row_engine.proofs.Behind as behind
 use Rattle.row_engine.proofs.OnOwn.{logs_own, on_own}
-use Rattle.row_engine.proofs.CommitLemmas.{after_end_holds, after_flush_holds, ended_as, floor_is, flush_met, latched_on, may_end, may_flush, same_state, ties_as}
+use Rattle.row_ends.proofs.CommitLemmas.{flush_met}
 use Rattle.session_state.proofs.Frames.{framed_then, within_of, within_then}
-use Rattle.row_engine.proofs.LatchLemmas.{gives_events}
+use Rattle.row_ends.proofs.LatchLemmas.{gives_events}
 
 -- ## Rows that are given back
 
@@ -434,87 +433,3 @@ module _ (reached : EveryReached) (needs : EveryNeed) (answers : EveryAnswer) (e
             ties = behind.ends g x.group xs x.own (lead ++ flush_event ∷ []) u (behind.more reached needs g xs lead w behind_lead (Flush x.own number ∷ []) u given seen (flush_in, tt))
                 (done true) refl t.told (told true fills) (half_is true);
           }
-
--- ## Where all flushed numbers were loaded
-
--- the rows are latched still, and this is the least of them
-pub record Found (z : Shape) (v : View) (x : Session) (log : Log) (marks : List Bool) (floor : ℕ) : Type 0 where
-  pub latched : Latched z v x log marks
-  pub loaded : floor ≡ flushed_to (state v).core x.workers
-
-pub found : (z y : Shape) (v w : View) (x : Session) (log : Log) (marks : List Bool) (floor : ℕ) → Latched z v x log marks → y ≡ z → (z.alone ≡ true → Looked v w) → (z.alone ≡ true → floor ≡ flushed_to (state v).core x.workers) → Found y w x log marks floor
-found z y v w x log marks floor l same looked loaded =
-    let s = looked l.holds.alone in record {
-      latched = latched_on z y v w x log marks same s l;
-      loaded = loaded l.holds.alone ∙ ap (λ m. flushed_to m.core x.workers) (sym (same_state v w s.given s.seen));
-    }
-
--- one commit more waits
-pub waiting_is : (x y : Session) (number : ℕ) → y ≡ waiting_session x number (x.unflushed + 1) → y ≡ waiting_session x number (suc x.unflushed)
-waiting_is x y number e = e ∙ ap (waiting_session x number) (one_more x.unflushed)
-  where
-    one_more : (n : ℕ) → n + 1 ≡ suc n
-    one_more n = omega arith
-
-pub waits : (x y : Session) (number : ℕ) → y ≡ waiting_session x number (suc x.unflushed) → y.unflushed < y.group → suc x.unflushed < x.group
-waits x y number e lt = let a = ap (λ k. k.unflushed) e in let c = ap (λ k. k.group) e in omega arith
-
-pub fills : (x y : Session) (number : ℕ) → y ≡ waiting_session x number (suc x.unflushed) → y.group ≤ y.unflushed → leb x.group (suc x.unflushed) ≡ true
-fills x y number e le = le-leb x.group (suc x.unflushed) (let a = ap (λ k. k.unflushed) e in let c = ap (λ k. k.group) e in omega arith)
-
--- ## In every run, from where its rows are latched
-
-module _ (z : Shape) (v : View) (x : Session) (log : Log) (marks : List Bool) (opened : x.is_open ≡ true) (floor : ℕ) (f : Found z v x log marks floor) (number : ℕ) (number_is : number ≡ x.clock.clock + 1) where
-  abbrev l : Latched z v x log marks
-  l = f.latched
-
-  floor_at : floor ≡ flushed_by_all (opening l.before.given) (state l.before).core
-  floor_at = floor_is z l.before x log l.holds l.room v l.latching.given l.latching.seen opened floor f.loaded
-
-  pub may_end_at : (commit : Bool) → (commit ≡ false → x.undo ≡ []) → MayEnd z v x commit floor marks
-  may_end_at commit left = may_end z v x log marks commit floor l floor_at opened left
-
-  module _ (commit : Bool) (w : View) (e : Ended x.own (length x.held.rows) v commit floor w) where
-    ended : Ended x.own (length x.held.rows) l.before commit floor w
-    ended = ended_as x.own (length x.held.rows) commit l.before v w floor l.latching.given l.latching.seen e
-
-    -- where nothing was flushed
-    pub holds_waiting : (is : Log) → is.flushed ≡ log.flushed → is.last ≡ number → cond commit (suc x.unflushed) x.unflushed < x.group → Holds z w (waiting_session x number (cond commit (suc x.unflushed) x.unflushed)) is
-    holds_waiting is flushed_is last few = after_end_holds z l.before x log l.holds opened number number_is commit floor w ended is flushed_is last few
-
-    pub may_flush_at : (waiting : ℕ) (mid : Log) → mid.last ≡ number → MayFlush z w (waiting_session x number waiting) mid
-    may_flush_at waiting mid last = may_flush z l.before x log l.holds opened number number_is commit floor w ended l.room waiting mid last
-
-    pub holds_flushed : (waiting : ℕ) (u : View) (y : Session) (mid is : Log) (now new : Story) → mid.last ≡ number → HasFlushed w u (waiting_session x number waiting) y mid is now new → Holds z u y is
-    holds_flushed waiting u y mid is now new last d = subst (λ k. Holds z u k is) (sym d.session)
-        (after_flush_holds z l.before x log l.holds opened number number_is commit floor w ended u d.given d.seen d.held is
-        (ap (λ (k : Log). k.flushed) d.after ∙ last) (ap (λ (k : Log). k.last) d.after ∙ last))
-
-  module _ (going : x.is_half_aborted ≡ false) (reached : EveryReached) (needs : EveryNeed) (answers : EveryAnswer) (entries : EveryEntry) (versions : EveryVersion) (keeps : EveryKept) (prefixes : EveryPrefix) (seals : EverySealed) (old : Story) (lawful : IsLawful old) where
-    pub unstaged_does : (new : Story) → KeepsLog x.own log old new → (is_half_aborted : Bool) (u : View) (is : Log) → CallDoes x.own x.group call.Commit (answer.Refused refusal.DiskFault) x.is_half_aborted is_half_aborted v u log is old new
-    unstaged_does new o is_half_aborted u is g xs t line =
-        unstaged reached needs answers entries versions keeps prefixes seals g xs z l.before x log l.holds (ties_as g x.group xs x.own l.before v l.latching.given l.latching.seen t) line opened going floor floor_at number number_is old new lawful o
-
-    module _ (w : View) (e : Ended x.own (length x.held.rows) v true floor w) (need : ℕ) (need_is : need ≡ need_of x.clock.debt floor) (mid : Story) (mid_log : Log)
-        (stages : StagesOn x.own (record { txn = x.txn; gsn = number; body = body.Commit need }) log mid_log old mid) (staged : KeepsLog x.own log old mid) where
-      stages_at : StagesOn x.own (record { txn = x.txn; gsn = number; body = body.Commit (need_of x.clock.debt floor) }) log mid_log old mid
-      stages_at = subst (λ q. StagesOn x.own (record { txn = x.txn; gsn = number; body = body.Commit q }) log mid_log old mid) need_is stages
-
-      after_at : After (record { txn = x.txn; gsn = number; body = body.Commit need }) log mid_log → After (record { txn = x.txn; gsn = number; body = body.Commit (need_of x.clock.debt floor) }) log mid_log
-      after_at a = subst (λ q. After (record { txn = x.txn; gsn = number; body = body.Commit q }) log mid_log) need_is a
-
-      pub waiting_does : leb x.group (suc x.unflushed) ≡ false → After (record { txn = x.txn; gsn = number; body = body.Commit need }) log mid_log → CallDoes x.own x.group call.Commit (answer.Committed x.txn number) x.is_half_aborted false v w log mid_log old mid
-      waiting_does waits after g xs t line =
-          staged_does reached needs answers entries versions keeps prefixes seals g xs z l.before x log l.holds (ties_as g x.group xs x.own l.before v l.latching.given l.latching.seen t) line opened going floor floor_at number number_is
-          w (ended true w e) old mid lawful mid_log stages_at staged waits (after_at after)
-
-      pub unflushed_does : leb x.group (suc x.unflushed) ≡ true → (new : Story) → KeepsLog x.own mid_log mid new → (is_half_aborted : Bool) (u : View) (is : Log) → CallDoes x.own x.group call.Commit (answer.Refused refusal.DiskFault) x.is_half_aborted is_half_aborted v u log is old new
-      unflushed_does fills new flushing is_half_aborted u is g xs t line =
-          unflushed reached needs answers entries versions keeps prefixes seals g xs z l.before x log l.holds (ties_as g x.group xs x.own l.before v l.latching.given l.latching.seen t) line opened going floor floor_at number number_is
-          w (ended true w e) old mid lawful mid_log stages_at staged fills new flushing
-
-      pub flushed_does : leb x.group (suc x.unflushed) ≡ true → (new : Story) → KeepsLog x.own mid_log mid new → (waiting : ℕ) (u : View) (y : Session) (is : Log) → HasFlushed w u (waiting_session x number waiting) y mid_log is mid new → mid_log.last ≡ number
-          → After (record { txn = x.txn; gsn = number; body = body.Commit need }) log mid_log → CallDoes x.own x.group call.Commit (answer.Committed x.txn number) x.is_half_aborted false v u log is old new
-      flushed_does fills new flushing waiting u y is d last after g xs t line =
-          does reached needs answers entries versions keeps prefixes seals g xs z l.before x log l.holds (ties_as g x.group xs x.own l.before v l.latching.given l.latching.seen t) line opened going floor floor_at number number_is
-          w (ended true w e) old mid lawful mid_log stages_at staged fills new flushing is d.stands last (after_at after) d.after u d.given d.seen

@@ -62,17 +62,18 @@ use Rattle.session_state.specs.Ties.{Behind, Ties}
 use Rattle.row_engine.specs.Grown.{Went}
 use Rattle.session_state.specs.Held.{with_row}
 use Rattle.session_state.specs.Holds.{Holds, IsOf}
-use Rattle.row_engine.specs.Inside.{is_going, put_test}
+use Rattle.row_ends.specs.Tests.{is_going}
+use Rattle.row_engine.specs.Inside.{put_test}
 use Rattle.row_changes.specs.Puts.{IsChanged, works_after}
 use Rattle.row_engine.specs.Puts.{IsEarly}
 use Rattle.session_state.specs.Staging.{KeepsLog}
 use Rattle.row_changes.specs.Takes.{IsHindered, IsSpent, NotTaken, Takes}
 use Rattle.session_state.specs.declared.session.Session.{Session}
 use Rattle.row_engine.proofs.Behind as behind
-use Rattle.row_engine.proofs.BeginLemmas.{comes_told}
+use Rattle.row_engine.proofs.ToldLemmas.{comes_told}
 use Rattle.row_engine.proofs.ConflictLemmas.{lock_free, lock_refused}
 use Rattle.row_engine.proofs.GetLemmas.{any_more}
-use Rattle.row_engine.proofs.GoingLemmas.{not_going, tests_as}
+use Rattle.row_ends.proofs.GoingLemmas.{not_going, tests_as}
 use Rattle.row_engine.proofs.OnOwn.{logs_own}
 use Rattle.row_engine.proofs.GrowRuns.{goes_none, goes_put, grows_none, record_in, went_failed, went_quiet}
 use Rattle.row_changes.proofs.StepLemmas.{clock_at_end}

@@ -39,13 +39,13 @@ use Rattle.engine_trait.specs.Rooms.{MakesItsRoom}
 use Rattle.row_changes.specs.Reads.{HasRead}
 use Rattle.row_engine.specs.Calls.{CallDoes, DoesOn}
 use Rattle.session_state.specs.Holds.{Holds}
-use Rattle.row_engine.specs.Inside.{call_test, is_going}
+use Rattle.row_ends.specs.Tests.{call_test, is_going}
 use Rattle.row_changes.specs.Takes.{NotTaken, Takes}
 use Rattle.session_state.specs.Ties.{Ties}
 use Rattle.session_state.specs.declared.session.Session.{Session}
 use Rattle.row_engine.proofs.Behind as behind
 use Rattle.row_engine.proofs.ConflictLemmas.{lock_free, lock_refused}
-use Rattle.row_engine.proofs.GoingLemmas.{goes, going, not_going, tests_as}
+use Rattle.row_ends.proofs.GoingLemmas.{goes, going, not_going, tests_as}
 use Rattle.row_engine.proofs.Refusing.{hindered_behind, is_refusal, key_free, key_hindered, refusal_comes, refused_does, spent_behind, spent_end, taken_behind}
 use Rattle.row_changes.proofs.TakeLemmas.{with_count}
 

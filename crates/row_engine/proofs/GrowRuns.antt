@@ -54,10 +54,10 @@ use Rattle.session_state.specs.Staging.{KeepsLog}
 use Rattle.row_engine.specs.Grown.{AreAside, Gained, Goes, Grows, Went, is_aside}
 use Rattle.session_state.specs.Ties.{Behind}
 use Rattle.session_state.specs.Others.{Steps}
-use Rattle.row_changes.specs.Rooms.{IsGrown, IsGrowth}
+use Rattle.row_growth.specs.Rooms.{IsGrown, IsGrowth}
 use Rattle.row_engine.proofs.Behind as behind
 use Rattle.row_engine.proofs.Formats.{next_as}
-use Rattle.row_engine.proofs.Misses.{is_miss}
+use Rattle.row_ends.proofs.Misses.{is_miss}
 use Rattle.session_state.proofs.Frames.{framed_then, within_of, within_then}
 use Rattle.session_state.proofs.Moments.{events_more}
 use Rattle.session_state.proofs.OtherLemmas.{every_steps, no_steps}

@@ -1,49 +1,26 @@
 -- What the parts of a call say of the events that were seen, as steps of its session.
-use Rattle.std.proofs.Common.{◌≡◌, ◌++◌, ◌==◌, ℕ, Bool, true, false, List, [], ◌∷◌, Option, Some, None, Result, Ok, Err, refl, sym, ap, subst, eq-eqb, true≢false}
-use Rattle.std.proofs.lemmas.Bool.{and_from}
-use Rattle.map_model.specs.Lists.{all}
+use Rattle.std.proofs.Common.{◌≡◌, ℕ, true, false, Option, Some, None, Result, Ok, Err, sym, ap, subst, eq-eqb, true≢false}
 use Rattle.map_model.specs.declared.call.Refusal.{Refusal}
 use Rattle.map_model.specs.declared.call.Refusal.TheVariants as refusal
-use Rattle.core_state.specs.Steps.{AllMet, step}
 use Rattle.lean_disk.specs.Story.{Story}
 use Rattle.worker_log.specs.Logs.{Log}
 use Rattle.row_words.specs.declared.event.Event.{Event}
 use Rattle.row_words.specs.declared.event.Event.TheVariants as event
-use Rattle.row_words.specs.Moments.{event_of}
-use Rattle.row_words.specs.Openings.{opening}
 use Rattle.rows_trait.specs.declared.view.View.{View}
-use Rattle.rows_trait.specs.Views.{Shape, state}
 use Rattle.key_locks.specs.declared.mode.Mode.{Mode}
 use Rattle.key_locks.specs.Rows.{event_mode}
 use Rattle.btree_descent.specs.declared.descent.TheConstants.{TOMBSTONE}
-use Rattle.btree_smo.specs.Outcomes.{AreMisses}
-use Rattle.row_engine.specs.declared.commits.Ended as committed
 use Rattle.session_state.specs.declared.session.Session.{Session}
-use Rattle.row_engine.specs.Inside.Aborts.{Finishes}
 use Rattle.row_changes.specs.Backs.{IsPutBack}
 use Rattle.row_engine.specs.Inside.Backs.{PutsAllBack}
 use Rattle.row_engine.specs.Inside.Dels.{Dels}
-use Rattle.row_engine.specs.Inside.Ends.{Ended, HasFlushed, MayFlush, Missed, gives}
 use Rattle.session_state.specs.Others.{Steps, is_of}
 use Rattle.row_engine.specs.Inside.Outcomes.{Puts}
 use Rattle.row_changes.specs.Puts.{works_after}
-use Rattle.row_changes.specs.Rooms.{IsGrown, IsGrowth}
+use Rattle.row_growth.specs.Rooms.{IsGrown, IsGrowth}
 use Rattle.row_changes.specs.Takes.{NotTaken, Takes}
-use Rattle.row_engine.proofs.LatchLemmas.{gives_events}
-use Rattle.row_engine.proofs.Misses.{misses_met}
+use Rattle.row_ends.proofs.EndSteps.{missed_steps}
 use Rattle.session_state.proofs.OtherLemmas.{every_steps, is_own, no_steps, one_step}
-
-misses_own : (own : ℕ) (es : List Event) → AreMisses es → all (is_of own) es ≡ true
-misses_own own [] m = refl
-misses_own own (event.Miss w ∷ es) m = misses_own own es m
-misses_own own (_ ∷ es) m = absurd m
-
--- misses alone were
-pub missed_steps : (own : ℕ) (v w : View) (es : List Event) → AreMisses es → w.given ≡ v.given → w.seen ≡ v.seen ++ es → Steps own v w
-missed_steps own v w es m given seen = record { events = es; given = given; seen = seen; are_own = misses_own own es m; met = misses_met (opening v.given) (state v).core es m }
-
-pub latch_steps : (own most : ℕ) (v w : View) → Missed most v w → Steps own v w
-latch_steps own most v w m = missed_steps own v w m.misses m.are_misses m.given m.seen
 
 -- ## Rows
 
@@ -88,31 +65,8 @@ del_steps (Err refusal.RowSpent) own v w key was is old new same same_disk p wor
 del_steps (Err refusal.DiskFault) own v w key was is old new same same_disk p works = absurd (true≢false (sym works))
 del_steps (Err _) own v w key was is old new same same_disk p works = absurd p
 
--- ## Ends
-
-gives_own : (own : ℕ) (rows : List ℕ) → all (is_of own) (gives own rows) ≡ true
-gives_own own [] = refl
-gives_own own (i ∷ rows) = and_from (own == own) (all (is_of own) (gives own rows)) (is_own own) (gives_own own rows)
-
-pub ended_steps : (own most : ℕ) (v w : View) (commit : Bool) (floor : ℕ) → Ended own most v commit floor w → Steps own v w
-ended_steps own most v w commit floor e = record {
-  events = event.End own commit floor ∷ gives own e.rows;
-  given = e.given;
-  seen = e.seen;
-  are_own = and_from (own == own) (all (is_of own) (gives own e.rows)) (is_own own) (gives_own own e.rows);
-  met = (e.met.0, subst (λ es. AllMet (opening v.given) (step (opening v.given) (state v).core (event_of (event.End own commit floor))) es) (sym (gives_events own e.rows)) e.met.1);
-}
-
-pub flushed_steps : (z : Shape) (v w : View) (x y : Session) (log was is : Log) (old new : Story) → MayFlush z v x log → HasFlushed v w x y was is old new → Steps x.own v w
-flushed_steps z v w x y log was is old new m f = one_step x.own v w (event.Flush x.own x.clock.clock) f.given f.seen (is_own x.own) m.met
-
 pub undone_steps : (r : Result (Unit {0}) Refusal) (v w : View) (x y : Session) (was is : Log) (old new : Story) → PutsAllBack r v w x y was is old new → works_after r ≡ true → Steps x.own v w
 undone_steps (Ok u) v w x y was is old new p works = p.0.undoes.steps
 undone_steps (Err refusal.RowSpent) v w x y was is old new p works = p.0.undoes.steps
 undone_steps (Err refusal.DiskFault) v w x y was is old new p works = absurd (true≢false (sym works))
 undone_steps (Err _) v w x y was is old new p works = absurd p
-
-pub finished_steps : (r : Result committed.Ended Refusal) (v w : View) (x : Session) (was is : Log) (old new : Story) → Finishes r v w x was is old new → works_after r ≡ true → Steps x.own v w
-finished_steps (Ok told) v w x was is old new p works = ended_steps x.own _ v w false p.0.floor p.0.ended
-finished_steps (Err refusal.DiskFault) v w x was is old new p works = absurd (true≢false (sym works))
-finished_steps (Err _) v w x was is old new p works = absurd p

@@ -23,7 +23,7 @@ use Rattle.row_engine.specs.Inside.Outcomes.{Puts}
 use Rattle.row_changes.specs.Puts.{works_after}
 use Rattle.row_changes.specs.Takes.{NotTaken, Takes}
 use Rattle.session_state.specs.declared.session.Session.{Session}
-use Rattle.row_engine.proofs.BeginLemmas.{comes_told}
+use Rattle.row_engine.proofs.ToldLemmas.{comes_told}
 use Rattle.row_engine.proofs.PutRuns.{early_does, hindered_does, met_does, put_did, row_does}
 use Rattle.row_engine.proofs.PutTests.{met_told, put_told}
 use Rattle.row_changes.proofs.StepLemmas.{clock_below}

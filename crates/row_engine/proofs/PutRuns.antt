@@ -64,21 +64,24 @@ use Rattle.engine_trait.specs.Rooms.{AreRoom, IsRoomFor, MakesItsRoom, MakesRoom
 use Rattle.row_engine.specs.Calls.{Comes, DoesOn, put_answer}
 use Rattle.session_state.specs.Held.{with_row}
 use Rattle.session_state.specs.Holds.{Holds, IsOf}
-use Rattle.row_engine.specs.Inside.{is_going, put_test}
+use Rattle.row_ends.specs.Tests.{is_going}
+use Rattle.row_engine.specs.Inside.{put_test}
 use Rattle.row_engine.specs.Grown.{AreAside, Gained, Grows, Went, is_aside}
 use Rattle.session_state.specs.Ties.{Behind, Ties}
 use Rattle.row_engine.specs.Inside.Outcomes.{HasFailed, HasPut, HasRoom, IsCrowded, IsStopped, Puts}
 use Rattle.row_changes.specs.Puts.{works_after}
-use Rattle.row_changes.specs.Rooms.{IsSpentBehind, IsUnfit}
+use Rattle.row_changes.specs.Paths.{IsUnfit}
+use Rattle.row_growth.specs.Rooms.{IsSpentBehind}
 use Rattle.row_changes.specs.Takes.{Takes}
 use Rattle.session_state.specs.declared.session.Session.{Session}
-use Rattle.row_engine.proofs.GoingLemmas.{not_going, tests_as}
+use Rattle.row_ends.proofs.GoingLemmas.{not_going, tests_as}
 use Rattle.session_state.proofs.UndoLemmas.{many_of}
 use Rattle.row_engine.proofs.Behind as behind
 use Rattle.row_engine.proofs.ConflictLemmas.{lock_free, lock_refused}
 use Rattle.row_engine.proofs.Formats.{full_as, full_on, refusal_as, refusal_on}
 use Rattle.row_engine.proofs.GrowRuns.{Asides, all_append, asides, logs_more, logs_same, makes_behind, makes_more, makes_same, record_in, went_quiet}
-use Rattle.row_engine.proofs.Misses.{misses_are, misses_aside, misses_met, misses_quiet, misses_structure}
+use Rattle.row_ends.proofs.Misses.{misses_are, misses_met, misses_quiet, misses_structure}
+use Rattle.row_engine.proofs.Misses.{misses_aside}
 use Rattle.session_state.proofs.Moments.{events_more}
 use Rattle.row_engine.proofs.OnOwn.{logs_own}
 use Rattle.row_changes.proofs.SeenLemmas.{seen_core}

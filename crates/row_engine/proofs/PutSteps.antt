@@ -13,12 +13,12 @@ use Rattle.rows_trait.specs.Views.{state}
 use Rattle.rows_trait.specs.declared.view.View.{View}
 use Rattle.worker_log.specs.Logs.{Log}
 use Rattle.engine_trait.specs.Refusals.{room_refusal}
-use Rattle.row_changes.specs.Outcomes as held
-use Rattle.row_changes.specs.Outcomes.{AreGrown, Crowded, Steps, step_of}
+use Rattle.row_growth.specs.Outcomes as held
+use Rattle.row_growth.specs.Outcomes.{AreGrown, Crowded, Steps, step_of}
 use Rattle.row_engine.specs.Inside.Outcomes.{HasFailed, HasPut, HasRoom, IsCrowded, Puts}
 use Rattle.row_changes.specs.Puts.{IsChanged}
 use Rattle.session_state.specs.Staging.{KeepsLog}
-use Rattle.row_changes.specs.Rooms.{IsGrown}
+use Rattle.row_growth.specs.Rooms.{IsGrown}
 use Rattle.session_state.specs.declared.session.Session.{Session}
 use Rattle.row_engine.proofs.GrowRuns.{first_fits, goes_more, goes_none, goes_put, grows_more, grows_none, grows_still, went_failed}
 use Rattle.session_state.proofs.Frames.{framed_then}
@@ -105,7 +105,7 @@ module _ (reached : EveryReached) (need : EveryNeed) (parts : (old mid new : Sto
       cause = c.cause;
     }
 
-    by_answer : (a : Result (Option ℕ) Refusal) → Steps (step_of a) p.view w key value p.session y p.log is (story p.disk) (story new) ((y ≡ p.session) × (is ≡ p.log) × (new ≡ p.disk)) → Puts a v w key value x y was is (story old) (story new)
+    by_answer : (a : Result (Option ℕ) Refusal) → Steps (step_of a) None p.view w key value p.session y p.log is (story p.disk) (story new) ((y ≡ p.session) × (is ≡ p.log) × (new ≡ p.disk)) → Puts a v w key value x y was is (story old) (story new)
     by_answer (Ok before) c = room_put reached need parts key value v x low high was (story old) p.view p.session p.log (story p.disk) room w before is (story new) (subst (λ n. IsChanged n p.view w key value before p.log is (story p.disk) (story new)) own_is c)
     by_answer (Err refusal.TooTall) c = crowded refusal.TooTall c.0 c.1
     by_answer (Err refusal.NoPages) c = crowded refusal.NoPages c.0 c.1

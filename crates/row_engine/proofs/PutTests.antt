@@ -41,7 +41,8 @@ use Rattle.engine_trait.specs.Calls.{IsTold, MayCome}
 use Rattle.engine_trait.specs.Limits.{AreLoads}
 use Rattle.engine_trait.specs.Refusals.{clock_refusal, lock_refusal, log_refusal, met_refusal, room_refusal}
 use Rattle.engine_trait.specs.Rooms.{AreRoom, makes_room}
-use Rattle.row_engine.specs.Inside.{is_going, put_test}
+use Rattle.row_ends.specs.Tests.{is_going}
+use Rattle.row_engine.specs.Inside.{put_test}
 use Rattle.row_engine.specs.Grown.{AreAside, is_aside}
 use Rattle.session_state.specs.Ties.{Behind}
 use Rattle.row_engine.specs.Inside.Outcomes.{Puts}
@@ -52,8 +53,8 @@ use Rattle.session_state.specs.Others.{AreHome}
 use Rattle.session_state.proofs.HomeLemmas.{home_step}
 use Rattle.session_state.specs.declared.session.Session.{Session}
 use Rattle.row_engine.proofs.ConflictLemmas.{lock_free}
-use Rattle.row_engine.proofs.GoingLemmas.{going}
-use Rattle.row_changes.proofs.GrowthLemmas.{touched}
+use Rattle.row_ends.proofs.GoingLemmas.{going}
+use Rattle.row_changes.proofs.TouchLemmas.{touched}
 use Rattle.session_state.proofs.StageLemmas.{staged_flushed}
 use Rattle.row_changes.proofs.StepLemmas.{clock_at_end, clock_below}
 use Rattle.row_changes.proofs.TakesLemmas.{takes_most}

@@ -15,7 +15,7 @@ use Rattle.rows_trait.specs.declared.view.View.{View}
 use Rattle.engine_calls.specs.Clauses.{IsNewLine}
 use Rattle.row_engine.specs.Deeds.{Does, Fails}
 use Rattle.session_state.specs.Ties.{Ties}
-use Rattle.row_engine.specs.declared.commits.Ended.{Ended}
+use Rattle.row_ends.specs.declared.ending.Ended.{Ended}
 
 -- It was answered so, and its view is tied to one outcome more, behind which an abort may be half done.
 pub record DoesOn (g : Opening) (group : ℕ) (xs : List Done) (own : ℕ) (c : Call) (a : Answer) (is_half_aborted : Bool) (w : View) (was is : Log) (old new : Story) : Type 0 where

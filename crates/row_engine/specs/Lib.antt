@@ -1,8 +1,5 @@
--- Of the calls read Calls; then Receipts and Begins. Inside has the words of private functions; so have Flushed, Puts and Grown.
-pub mod Flushed
+-- Of the calls read Calls. Inside has the words of private functions; so have Puts and Grown.
 pub mod Deeds
-pub mod Receipts
-pub mod Begins
 pub mod Calls
 pub mod Inside
 pub mod Puts

@@ -4,24 +4,19 @@ ghost use Rattle.engine_trait.specs.Calls.{IsTold};
 ghost use Rattle.lean_disk.specs.Faults.{HasCause};
 ghost use Rattle.map_model.specs.declared.call.Call.{Call};
 ghost use Rattle.map_model.specs.declared.call.Refusal.{Refusal};
-ghost use Rattle.row_engine.specs.Inside.Aborts.{Finishes};
 ghost use Rattle.row_engine.specs.Inside.Backs.{PutsAllBack, StepsBack};
 ghost use Rattle.row_engine.specs.Calls.{AbortDoes, abort_answer};
 ghost use Rattle.session_state.specs.Holds.{Holds, IsSameSession};
-ghost use Rattle.row_engine.specs.Inside.Ends.{Latched};
 ghost use Rattle.session_state.specs.Others.{AreHome, Steps};
-ghost use Rattle.row_engine.specs.Receipts.{IsEnded};
+ghost use Rattle.row_ends.specs.Receipts.{IsEnded};
 ghost use Rattle.row_changes.specs.Puts.{works_after};
 
-use crate::begins::least_flushed;
-use crate::commits::{Ended, close, end_rows, latch_rows, unlatch_rows};
-use crate::steps::abort_refusal;
 use key_locks::latches::Latches;
-use log_record::{Body, Record};
 use map_model::Refusal;
 use row_changes::refusal_of;
+use row_ends::{Ended, abort_refusal};
 use rows_trait::rows::Rows;
-use session_state::{Stages, Work, next_fits};
+use session_state::{Stages, Work};
 
 // Puts the newest change back that is left, where each page is in memory.
 fn put_back<R: Rows, D: Stages>(
@@ -84,52 +79,6 @@ fn put_back_all<R: Rows, D: Stages>(
     }
 }
 
-// The end of a session whose changes are put back and whose rows are latched.
-fn finish<R: Rows, D: Stages>(
-    rows: &mut R,
-    seat: &mut R::Seat,
-    work: &mut Work<D>,
-    latches: &mut Latches,
-) -> Result<Ended, Refusal>
-    requires fits { R.fits rows.old seat.old }
-    requires latched { Latched (R.shape rows.old) (R.view seat.old) work.old.session work.old.log latches.old }
-    requires is_open { work.old.session.is_open ≡ true }
-    requires works { work.old.session.works ≡ true }
-    requires left { work.old.session.undo ≡ [] }
-    ensures fits { R.fits rows.new seat.new × (R.shape rows.new ≡ R.shape rows.old) }
-    ensures holds { work.new.session.works ≡ true → Holds (R.shape rows.new) (R.view seat.new) work.new.session work.new.log }
-    ensures session { IsSameSession work.old.session work.new.session }
-    ensures unmarked { work.new.session.works ≡ true → latches.new ≡ replicate work.old.session.held.count false }
-    ensures finishes { Finishes result (R.view seat.old) (R.view seat.new) work.old.session work.old.log work.new.log (D.story work.old.disk) (D.story work.new.disk) }
-    ensures receipt { IfOk result (IsEnded (R.view seat.old) work.new.session) }
-    ensures whole { work.new.session.works ≡ true → work.new.session.is_half_aborted ≡ false }
-    ensures works { work.new.session.works ≡ works_after result }
-    ensures cause_disk_fault { HasCause (D.faults work.old.disk) (D.faults work.new.disk) (result ≡ Err Refusal.DiskFault) }
-{
-    lean_proto::every_turn();
-    let own = work.session.own;
-    let txn = work.session.txn;
-    let number = work.session.clock.clock + 1;
-    let floor = least_flushed(rows, seat, work.session.workers);
-    let need = work.session.clock.need(floor);
-    let entry = Record {
-        txn,
-        gsn: number,
-        body: Body::Abort { need },
-    };
-    if let Err(_) = log_calls::stage_end(&mut work.disk, &mut work.log, own, &entry) {
-        work.session.works = false;
-        return Err(Refusal::DiskFault);
-    }
-    end_rows(rows, seat, &work.session, latches, false, floor, number);
-    close(&mut work.session, number);
-    Ok(Ended {
-        number: txn,
-        at: number,
-        need,
-    })
-}
-
 /// The session's transaction is aborted: what it changed is put back, the newest change first, its end is staged, and the lock rows that it
 /// holds are given back. Nothing is flushed. Where a latch has come to its end the abort is refused, and the next
 /// one goes on.
@@ -176,11 +125,5 @@ pub fn abort<R: Rows, D: Stages>(
     if let Err(why) = put_back_all(rows, seat, work) {
         return Err(why);
     }
-    next_fits(rows, seat);
-    let frames = work.session.frames;
-    if !latch_rows(rows, seat, &work.session, latches) {
-        unlatch_rows(rows, seat, frames, &work.session.held, latches);
-        return Err(Refusal::RowSpent);
-    }
-    finish(rows, seat, work, latches)
+    row_ends::end_abort(rows, seat, work, latches)
 }

@@ -7,11 +7,11 @@ ghost use Rattle.row_engine.specs.Calls.{CallDoes, get_answer};
 ghost use Rattle.session_state.specs.Holds.{Holds, IsSameSession};
 ghost use Rattle.session_state.specs.Others.{AreHome, Steps};
 
-use crate::steps::call_refusal;
 use key_locks::mode::Mode;
 use lean_disk::Disk;
 use map_model::Refusal;
 use row_changes::{read_held, take_row};
+use row_ends::call_refusal;
 use rows_trait::rows::Rows;
 use session_state::Work;
 

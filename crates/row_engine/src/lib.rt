@@ -2,7 +2,7 @@
 //!
 //! Each call keeps the four clauses of engine_calls: its answer, its events, what the disk stands for, and what a crash at any moment of
 //! it leaves. What each does behind its tests, piece by piece, is
-//! row_changes'. Read Holds and Ties of session_state and specs/Calls, then `begin`, `get`, `put`, `del`, `commit` and
+//! row_changes' and row_ends'. Read Holds and Ties of session_state and specs/Calls, then `begin`, `get`, `put`, `del`, `commit` and
 //! `abort`.
 #![tactic(auto)]
 
@@ -16,7 +16,8 @@ mod steps;
 
 pub use aborts::abort;
 pub use begins::begin;
-pub use commits::{Ended, commit};
+pub use commits::commit;
 pub use dels::del;
 pub use gets::get;
 pub use puts::put;
+pub use row_ends::Ended;

@@ -48,7 +48,7 @@ fn put_held<R: Rows, D: Stages>(
     disk_image::every_sealed();
     row_opening::every_reached();
     row_opening::every_need();
-    row_changes::put_held(rows, seat, work, key, value)
+    row_growth::put_held(rows, seat, work, key, value)
 }
 
 /// Gives a key a value. The answer is the value that it had.

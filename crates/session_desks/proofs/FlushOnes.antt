@@ -1,5 +1,5 @@
 -- The flush of one session's log, behind the turn that went to it.
-use Rattle.std.proofs.Common.{◌≡◌, ◌↔◌, ◌≤◌, ◌<◌, ◌⊎◌, inl, inr, ◌++◌, ℕ, Bool, List, Result, Ok, Err, OnOk, IsOk, refl, sym, ap, ◌∙◌, subst}
+use Rattle.std.proofs.Common.{◌≡◌, ◌↔◌, ◌≤◌, ◌<◌, ◌⊎◌, inl, inr, ◌++◌, ℕ, List, Result, Ok, Err, OnOk, IsOk, refl, sym, ap, ◌∙◌, subst}
 use Rattle.std.proofs.lemmas.Bool.{cases_eq}
 use Rattle.std.proofs.lemmas.List.{append_cancel_left}
 use Rattle.core_state.specs.Steps.{AllMet}
@@ -12,7 +12,7 @@ use Rattle.rows_trait.specs.declared.view.View.{View}
 use Rattle.rows_trait.specs.Views.{Shape, state}
 use Rattle.worker_log.specs.Logs.{Log}
 use Rattle.session_state.specs.Holds.{IsSameSession}
-use Rattle.session_state.specs.Syncs.{FlushesOwn, flushed_of, flushes_of}
+use Rattle.session_state.specs.Syncs.{FlushesOwn, MayFlush, flushed_of, flushes_of}
 use Rattle.session_state.specs.declared.session.Session.{Session}
 use Rattle.session_desks.specs.Desks.{Turned, desk_of, log_of}
 use Rattle.session_desks.specs.Machines.{AreDesks}
@@ -50,9 +50,11 @@ module _ (z : Shape) (v w : View) (session : ℕ) (old_desk x y : Desk) (desks_o
   pub from_turn : (P : ℕ → Log → Type 0) → P x.session.own x.log → P session (log_of old_desk desks_old session)
   from_turn P h = subst (λ l. P session l) (sym log_is) (subst (λ o. P o x.log) t.own h)
 
-  -- whether its abort is half done
-  pub half_is : (b : Bool) → (desk_of old_desk desks_old session).session.is_half_aborted ≡ b → x.session.is_half_aborted ≡ b
-  half_is b h = ap (λ (d : Desk). d.session.is_half_aborted) (sym (desk_own x desks session (sym t.own))) ∙ (ap (λ (s : Session). s.is_half_aborted) (t.session_of session some most) ∙ h)
+  -- whether it may be flushed
+  pub may_is : MayFlush (desk_of old_desk desks_old session).session (desk_of old_desk desks_old session).log → MayFlush x.session x.log
+  may_is may = subst (λ (d : Desk). MayFlush d.session d.log) (desk_own x desks session (sym t.own))
+      (subst (λ (s : Session). MayFlush s (desk_of x desks session).log) (sym (t.session_of session some most))
+      (subst (λ (l : Log). MayFlush (record (desk_of old_desk desks_old session).session { free = (desk_of x desks session).session.free }) l) (sym (t.log_of session some most)) may))
 
   pub turned : AreDesks z v x desks
   turned = desks_turned z v session old_desk x desks_old desks are some most t

@@ -9,3 +9,4 @@ pub mod SyncMachines
 pub mod SyncNeeds
 pub mod SyncWholes
 pub mod SyncGoes
+pub mod MayFlushes

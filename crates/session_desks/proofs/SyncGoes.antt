@@ -17,7 +17,7 @@ use Rattle.session_state.specs.declared.session.Session.{Session}
 use Rattle.session_desks.specs.Desks.{desk_of, log_of, place_of}
 use Rattle.session_desks.specs.Machines.{AreDesks, AreLogged, HasNumbers}
 use Rattle.session_desks.specs.Runs.{memory_with}
-use Rattle.session_desks.specs.Syncs.{AllEndAt, AllFlushed, AreRaised, AreRaisedTo, AreStill, AreSynced, Flushed, HasOpening, IsWriting, IsWritten, MaySync, SyncFails, SyncMade, all_end_at, ends_at, greatest, next_with, raised_desk}
+use Rattle.session_desks.specs.Syncs.{AllEndAt, AllFlushed, AreRaised, AreRaisedTo, AreStill, AreSynced, Flushed, HasOpening, IsWriting, IsWritten, MeetsSync, SyncFails, SyncMade, all_end_at, ends_at, greatest, next_with, raised_desk}
 use Rattle.session_desks.specs.declared.desk.Desk.{Desk}
 use Rattle.session_desks.proofs.DeskLemmas.{desk_apart, desk_own, get_any, place_low}
 use Rattle.session_desks.proofs.SeatLemmas.{turn_high, turn_low}
@@ -97,7 +97,7 @@ module _ (reached : EveryReached) (z : Shape) (u : View) (work : Desk) (desks : 
   abbrev number : ℕ
   number = greatest work.session.clock.clock desks
 
-  pub may_sync : MaySync work.session.workers number master u (log_of work desks)
+  pub may_sync : MeetsSync work.session.workers number master u (log_of work desks)
   may_sync = record {
     met = needs.sync_met z u work desks are reached o logged flushed;
     within = needs.within z u work desks are;
@@ -106,8 +106,8 @@ module _ (reached : EveryReached) (z : Shape) (u : View) (work : Desk) (desks : 
     small = sequence_small master work.session.workers numbers;
   }
 
-  pub may_sync_at : (n : ℕ) → n ≡ number → MaySync work.session.workers n master u (log_of work desks)
-  may_sync_at n e = subst (λ k. MaySync work.session.workers k master u (log_of work desks)) (sym e) may_sync
+  pub may_sync_at : (n : ℕ) → n ≡ number → MeetsSync work.session.workers n master u (log_of work desks)
+  may_sync_at n e = subst (λ k. MeetsSync work.session.workers k master u (log_of work desks)) (sym e) may_sync
 
   -- behind it the master's floor is at most the number, and it has numbers for more
   module _ (floor : master.floor ≤ (state u).core.floor) where
@@ -158,8 +158,8 @@ module _ (z : Shape) (v u : View) (work mid : Desk) (desks desks_mid : List Desk
     abbrev n : ℕ
     n = greatest mid.session.clock.clock desks_mid
 
-    ready : MaySync work.session.workers n master u (log_of mid desks_mid)
-    ready = subst (λ k. MaySync k n master u (log_of mid desks_mid)) same (may_sync reached z u mid desks_mid are master numbers (opens_still o) all_logged all_flushed clocks)
+    ready : MeetsSync work.session.workers n master u (log_of mid desks_mid)
+    ready = subst (λ k. MeetsSync k n master u (log_of mid desks_mid)) same (may_sync reached z u mid desks_mid are master numbers (opens_still o) all_logged all_flushed clocks)
 
     -- it was made
     pub sync_made : EveryNeed → ((d : D) → IsLawful (story d)) → EveryKept → EveryPrefix → EverySealed → EveryVersion → (number : ℕ) → number ≡ n → (w : View) (new_store : Desk) (news : List Desk) (next : Master) (new : D) → HasSynced u w number → AreRaisedTo mid.session.workers mid desks_mid new_store news number
@@ -176,8 +176,8 @@ module _ (z : Shape) (v u : View) (work mid : Desk) (desks desks_mid : List Desk
       whole = sync_goes reached need work.session.workers number v u (memory_with (log_of work desks) master) (log_of mid desks_mid) story laws old between f ready_at keeps prefixes seals versions w (memory_with (log_of new_store news) next) sync raised_at new written_at;
     }
       where
-        ready_at : MaySync work.session.workers number master u (log_of mid desks_mid)
-        ready_at = subst (λ k. MaySync work.session.workers k master u (log_of mid desks_mid)) (sym e) ready
+        ready_at : MeetsSync work.session.workers number master u (log_of mid desks_mid)
+        ready_at = subst (λ k. MeetsSync work.session.workers k master u (log_of mid desks_mid)) (sym e) ready
 
         raised_at : (a : ℕ) → 0 < a → a ≤ work.session.workers → log_of new_store news a ≡ raised (log_of mid desks_mid a) number
         raised_at a some most = ap (λ (d : Desk). d.log) (rises a some (subst (λ k. a ≤ k) (sym same) most))

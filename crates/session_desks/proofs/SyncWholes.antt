@@ -30,7 +30,7 @@ use Rattle.worker_log.specs.Logs.{Log}
 use Rattle.session_state.specs.Ties.{Behind}
 use Rattle.session_state.specs.Syncs.{HasSynced}
 use Rattle.session_desks.specs.Runs.{Breaks, Goes, GoesFlushed, IsAt, memory_with}
-use Rattle.session_desks.specs.Syncs.{AllEndAt, FlushFails, Flushed, IsWriting, IsWritten, MaySync, SyncFails, SyncGoes, next_with}
+use Rattle.session_desks.specs.Syncs.{AllEndAt, FlushFails, Flushed, IsWriting, IsWritten, MeetsSync, SyncFails, SyncGoes, next_with}
 use Rattle.session_desks.proofs.SyncRuns.{around_more, breaks_join, goes_as, goes_join, master_aside, master_breaks, master_goes, still_goes, written_by}
 use Rattle.session_desks.proofs.SyncViews.{core_is, events_more, front_is, logs_join, may_is, more}
 
@@ -65,7 +65,7 @@ flush_fails many v was old new f = record {
   leaves = λ g xs first s0 a at. f.leaves was.master g xs first s0 a (at_memory many v was g xs first s0 a old at);
 }
 
-module _ (reached : EveryReached) (needs : EveryNeed) (many n : ℕ) (v u : View) (was : Memory) (mid : ℕ → Log) {D : Type 0} (story : D → Story) (laws : (d : D) → IsLawful (story d)) (start between : D) (f : Flushed many many v u was.log mid (story start) (story between)) (ready : MaySync many n was.master u mid) where
+module _ (reached : EveryReached) (needs : EveryNeed) (many n : ℕ) (v u : View) (was : Memory) (mid : ℕ → Log) {D : Type 0} (story : D → Story) (laws : (d : D) → IsLawful (story d)) (start between : D) (f : Flushed many many v u was.log mid (story start) (story between)) (ready : MeetsSync many n was.master u mid) where
   abbrev old : Story
   old = story start
 

@@ -11,7 +11,7 @@ use Rattle.session_state.specs.Opened.{plain_shape}
 use Rattle.session_state.specs.declared.work.Work.{Work}
 use Rattle.session_desks.specs.Desks.{AreSeated, Turned, log_of}
 use Rattle.session_desks.specs.Runs.{memory_with}
-use Rattle.session_desks.specs.Syncs.{AllFlushed, AreRaisedTo, AreStill, AreSynced, AreWhole, FlushFails, Flushed, FlushedOne, SyncFails, SyncMade}
+use Rattle.session_desks.specs.Syncs.{AllFlushed, AreRaisedTo, AreStill, AreSynced, AreWhole, FlushFails, Flushed, FlushedOne, MayFlushEach, SyncFails, SyncMade}
 use Rattle.session_desks.specs.Machines.{AreLogged, IsMachine}
 use Rattle.session_desks.specs.declared.desk.Desk.{Desk}
 use Rattle.session_desks.specs.declared.machine.Machine.{Machine}
@@ -66,6 +66,10 @@ HasLogs m = AreLogged (state m.seat.view).core (logs m) m.work.session.workers
 -- no abort is half done
 abbrev pub NoneIsHalf : {D : Type 0} → Machine D → Type 0
 NoneIsHalf m = AreWhole m.work.session.workers (here m) m.desks.items
+
+-- each session may be flushed
+abbrev pub MaySync : {D : Type 0} → Machine D → Type 0
+MaySync m = MayFlushEach m.work.session.workers (here m) m.desks.items
 
 -- nothing of its logs is left to flush
 abbrev pub IsFlushed : {D : Type 0} → Machine D → Type 0

@@ -28,7 +28,7 @@ use Rattle.rows_trait.specs.declared.view.View.{View}
 use Rattle.rows_trait.specs.Views.{state}
 use Rattle.worker_log.specs.Logs.{Log}
 use Rattle.session_state.specs.Ties.{Behind}
-use Rattle.session_state.specs.Syncs.{HasSynced, flushed_of, flushes_of, synced_session}
+use Rattle.session_state.specs.Syncs.{HasSynced, MayFlush, finds_room, flushed_of, flushes_of, synced_session}
 use Rattle.session_desks.specs.Desks.{desk_of}
 use Rattle.session_desks.specs.Runs.{EachBreaks, EachFlushes, EachGoes, memory_with}
 use Rattle.session_desks.specs.declared.desk.Desk.{Desk}
@@ -127,6 +127,17 @@ is_half_desk d = d.session.is_half_aborted
 abbrev pub has_half : (work : Desk) → (desks : List Desk) → Bool
 has_half work desks = work.session.is_half_aborted || any is_half_desk desks
 
+-- each may be flushed: what it has still to put back finds room behind that
+abbrev pub MayFlushEach : (many : ℕ) → (work : Desk) → (desks : List Desk) → Type 0
+MayFlushEach many work desks = (w : ℕ) → 0 < w → w ≤ many → MayFlush (desk_of work desks w).session (desk_of work desks w).log
+
+abbrev pub finds_room_desk : Desk → Bool
+finds_room_desk d = finds_room d.session d.log
+
+-- whether each may
+abbrev pub all_find_room : (work : Desk) → (desks : List Desk) → Bool
+all_find_room work desks = finds_room_desk work && all finds_room_desk desks
+
 -- of each session only what it knows of free pages, and how many of its commits wait for a flush, may have changed
 abbrev pub AreStill : (many : ℕ) → (store0 : Desk) → (desks0 : List Desk) → (store1 : Desk) → (desks1 : List Desk) → Type 0
 AreStill many store0 desks0 store1 desks1 = (w : ℕ) → 0 < w → w ≤ many
@@ -153,7 +164,7 @@ pub data IsWritten {D : Type 0} (story : D → Story) (many n : ℕ) (logs : ℕ
   Wrote : (AllEndAt many n logs → ⊥) → SyncsOn (next_with master n) (story old) (story new) → IsWriting (next_with master n) (story old) (story new) → next ≡ next_with master n → IsWritten story many n logs master next old new
 
 -- Behind flushes, as a sync up to n asks.
-pub record MaySync (many n : ℕ) (master : Master) (u : View) (logs : ℕ → Log) : Type 0 where
+pub record MeetsSync (many n : ℕ) (master : Master) (u : View) (logs : ℕ → Log) : Type 0 where
   pub met : may (opening u.given) (state u).core (happening.Event.Sync n) ≡ true
   pub within : (w : ℕ) → 0 < w → w ≤ many → (logs w).last ≤ n
   -- each log is flushed up to its last number, as the core says
@@ -181,7 +192,7 @@ pub record SyncMade {D : Type 0} (story : D → Story) (many n : ℕ) (v w : Vie
   pub logs : ℕ → Log
   pub between : D
   pub flushed : Flushed many many v view was.log logs (story old) (story between)
-  pub ready : MaySync many n was.master view logs
+  pub ready : MeetsSync many n was.master view logs
   pub synced : HasSynced view w n
   pub raised : (a : ℕ) → 0 < a → a ≤ many → is.log a ≡ raised (logs a) n
   pub written : IsWritten story many n logs was.master is.master between new

@@ -6,11 +6,11 @@ ghost use Rattle.log_calls.specs.Syncs.{SyncsOn};
 ghost use Rattle.log_calls.specs.Wholes.{EndsInRecord};
 ghost use Rattle.disk_runs.specs.MasterLaws.{raised};
 ghost use Rattle.session_state.specs.Staging.{KeepsLog};
-ghost use Rattle.session_state.specs.Syncs.{HasNoneBehind, HasSynced, synced_session};
+ghost use Rattle.session_state.specs.Syncs.{HasNoneBehind, HasSynced, MayFlush, synced_session};
 ghost use Rattle.rows_trait.specs.Views.{state};
 ghost use Rattle.session_desks.specs.Desks.{desk_of};
-ghost use Rattle.session_desks.specs.Parts.{AreAsMany, FailsToFlush, FailsToSync, FlushesAll, FlushesOne, HasLogs, IsFlushed, IsRaised, IsSound, IsStill, IsSynced, MakesSync, NoneIsHalf, SeatFits, Works, here, logs};
-ghost use Rattle.session_desks.specs.Syncs.{AreRaised, HasOpening, IsWriting, IsWritten, all_end_at, ends_at, greatest, has_half, is_half_desk, next_with};
+ghost use Rattle.session_desks.specs.Parts.{AreAsMany, FailsToFlush, FailsToSync, FlushesAll, FlushesOne, HasLogs, IsFlushed, IsRaised, IsSound, IsStill, IsSynced, MakesSync, MaySync, SeatFits, Works, here, logs};
+ghost use Rattle.session_desks.specs.Syncs.{AreRaised, HasOpening, IsWriting, IsWritten, all_end_at, all_find_room, ends_at, finds_room_desk, greatest, has_half, is_half_desk, next_with};
 
 use crate::desk::Desk;
 use crate::grounds::laws;
@@ -18,7 +18,7 @@ use crate::machine::Machine;
 use disk_slots::{Heads, Master};
 use lean_disk::{Did, Disk};
 use log_calls::sync_master;
-use session_state::{Session, Stages, clocks_low, flush_own, store_synced};
+use session_state::{Session, Stages, clocks_low, flush_own, may_flush, store_synced};
 use worker_log::{DiskFault, WorkerLog};
 
 // The greater of two numbers.
@@ -144,6 +144,18 @@ fn some_half(desks: &[Desk]) -> bool
     false
 }
 
+// Whether each session at these desks may be flushed.
+fn desks_may_flush(desks: &[Desk]) -> bool
+    ensures { result ≡ all finds_room_desk desks.now }
+{
+    for desk in desks {
+        if !may_flush(&desk.session, &desk.log) {
+            return false;
+        }
+    }
+    true
+}
+
 impl<D: Stages> Machine<D> {
     // Flushes the log of this session, in its turn.
     fn flush_one(&mut self, session: u32) -> Result<(), DiskFault>
@@ -152,7 +164,7 @@ impl<D: Stages> Machine<D> {
         requires works { Works self.old }
         requires ends { EndsInRecord (state self.old.seat.view).core session (logs self.old session) }
         requires last { HasNoneBehind (state self.old.seat.view).core session (logs self.old session) }
-        requires whole { (desk_of (here self.old) self.old.desks.items session).session.is_half_aborted ≡ false }
+        requires may { MayFlush (desk_of (here self.old) self.old.desks.items session).session (desk_of (here self.old) self.old.desks.items session).log }
         ensures fits { SeatFits self.new }
         ensures machine { OnOk result (IsSound self.new) }
         ensures session { AreAsMany self.old self.new }
@@ -174,7 +186,7 @@ impl<D: Stages> Machine<D> {
         requires machine { IsSound self.old }
         requires works { Works self.old }
         requires logged { HasLogs self.old }
-        requires whole { NoneIsHalf self.old }
+        requires may { MaySync self.old }
         ensures fits { SeatFits self.new }
         ensures machine { OnOk result (IsSound self.new) }
         ensures session { AreAsMany self.old self.new }
@@ -228,18 +240,20 @@ impl<D: Stages> Machine<D> {
         Ok(number)
     }
 
-    /// Flushes every log, and syncs them up to the greatest clock. The answer is that number.
+    /// Flushes every log, and syncs them up to the greatest clock. The answer is that number. Each session has to find room behind the flush for what it has
+    /// still to put back, and finds it behind a further one too.
     #[inline(never)]
     pub fn sync_all(&mut self) -> Result<u64, DiskFault>
         requires machine { IsSound self.old }
         requires works { Works self.old }
         requires logged { HasLogs self.old }
         requires opens { HasOpening self.old.seat.view.given }
-        requires whole { NoneIsHalf self.old }
+        requires may { MaySync self.old }
         ensures fits { SeatFits self.new }
         ensures machine { OnOk result (IsSound self.new) }
         ensures session { AreAsMany self.old self.new }
         ensures sessions { IfOk result (IsSynced self.old self.new) }
+        ensures may { IfOk result (λ _. MaySync self.new) }
         ensures made { IfOk result (MakesSync D.story self.old self.new) }
         ensures failed { IsErr result → FailsToSync D.story self.old self.new }
         ensures works { Works self.new ↔ (IsErr result → ⊥) }
@@ -247,9 +261,26 @@ impl<D: Stages> Machine<D> {
         ensures cause_disk_fault { HasCause (D.faults self.old.work.disk) (D.faults self.new.work.disk) (IsErr result) }
     {
         laws();
+        session_state::every_flush();
         self.flush_all()?;
         clocks_low(&self.rows, &self.seat);
         self.sync_flushed()
+    }
+
+    /// Whether each session may be flushed, so that all logs may be synced. It is so while no abort is half done.
+    pub fn may_sync(&self) -> bool
+        requires machine { IsSound self.now }
+        ensures { (result ≡ true) ↔ MaySync self.now }
+    {
+        session_state::every_flush();
+        self.all_may_flush()
+    }
+
+    // The same, by the numbers of sessions and logs.
+    fn all_may_flush(&self) -> bool
+        ensures { result ≡ all_find_room (here self.now) self.now.desks.items }
+    {
+        may_flush(&self.work.session, &self.work.log) && desks_may_flush(&self.desks)
     }
 
     /// Whether an abort of some session is half done.

@@ -47,6 +47,7 @@ module _ (g : Opening) (z : Shape) (v : View) (x : Session) (log : Log) (o : IsO
     txn = let a = o.session.txn in omega arith;
     undo_room = λ some. let a = ap length o.session.undo in absurd (omega arith);
     flush_room = λ _ some. let a = ap length o.session.undo in absurd (omega arith);
+    hand = o.hand;
     few = let a = ap length o.session.undo in omega arith;
     behind = let a = o.session.behind in let b = o.session.group in omega arith;
   }
@@ -108,4 +109,5 @@ every_fellow g z v x log own few o low high = record {
   spare = o.spare;
   last = o.last;
   flushed = o.flushed;
+  hand = o.hand;
 }

@@ -35,6 +35,7 @@ use Rattle.session_state.specs.Held.{Held}
 use Rattle.session_state.specs.Holds.{AreRows}
 use Rattle.session_state.specs.Numbers.{AreNumbered}
 use Rattle.session_state.specs.Opened.{IsFirst, IsOpened, IsOpenedOn, plain_shape}
+use Rattle.session_state.specs.Undo.{HasHand}
 use Rattle.session_state.specs.declared.session.Session.{Session}
 use Rattle.session_state.specs.declared.undo.Undone.{Undone}
 use Rattle.session_state.proofs.EntryNumbers.{entries_clocked}
@@ -276,8 +277,8 @@ module _ (every : EveryOpened) (need : EveryNeed) (reached : EveryReached) (soun
     }
 
     module _ (x : Session) (own : x.own ≡ 1) (workers : x.workers ≡ many) (first : IsFirst base x) (frames : x.frames ≡ length pages) (held : x.held.count ≡ count) (free : x.free ≡ frees_from (nodes_in pages) (length pages) 0) where
-      is : (log : Log) → log.last ≡ base → log.flushed ≡ base → IsOpened g (plain_shape (length pages) count many) (first_plain v) x log
-      is log last flushed = record {
+      is : (log : Log) → log.last ≡ base → log.flushed ≡ base → HasHand log → IsOpened g (plain_shape (length pages) count many) (first_plain v) x log
+      is log last flushed hand = record {
         opens = o.opens;
         loads = every_load v.pages;
         few = let a = events_long (loads 8 v.pages ++ frees 0 v.pages) in let b = loads_few v.pages in let c = pages_long pages in omega arith;
@@ -296,6 +297,7 @@ module _ (every : EveryOpened) (need : EveryNeed) (reached : EveryReached) (soun
         spare = let a = ap (λ (ps : List ℕ). length ps) free in let b = as_few (nodes_in pages) (length pages) 0 in omega arith;
         last = last ∙ sym base_is;
         flushed = flushed ∙ sym base_is;
+        hand = hand;
       }
 
       on_pages : IsOpenedOn pages count base (plain_shape (length pages) count many) (first_plain v) x

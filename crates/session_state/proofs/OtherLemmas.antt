@@ -212,7 +212,7 @@ every_other z v w x y log log_of_y h k other _ _ _ t = record {
   idle = k.idle;
   rows = rows_on z v w x.own x.workers x.frames x.held.count t.given h.rows;
   session = let i = subst (λ a. IsOf x a) (sym now.worker) h.session in record { is_open = i.is_open; txn = i.txn; clock = i.clock; floor = i.floor; debt = i.debt; end = i.end; undo = i.undo };
-  numbers = let n = h.numbers in record { last = n.last; order = n.order; end = n.end; room = n.room; undo_room = n.undo_room; flush_room = n.flush_room; closed_txn = n.closed_txn; txn = n.txn; few = n.few; behind = n.behind };
+  numbers = let n = h.numbers in record { last = n.last; order = n.order; end = n.end; room = n.room; undo_room = n.undo_room; flush_room = n.flush_room; hand = n.hand; closed_txn = n.closed_txn; txn = n.txn; few = n.few; behind = n.behind };
   flushed = now.flushed ∙ h.flushed;
   floor = let a = h.floor in let b = now.least in let c = ap (λ q. flushed_by_all (opening q) (state w).core) t.given in omega arith;
   behind = now.commits ∙ h.behind;

@@ -1,6 +1,6 @@
 -- A flush of a session's log whole, and a sync: what is so behind them, in memory.
-use Rattle.std.proofs.Common.{◌≡◌, ◌≤◌, ◌<◌, ◌+◌, ◌-◌, ◌^◌, ◌==◌, ◌&&◌, ◌++◌, ℕ, zero, suc, Bool, true, false, cond, max, not, [], ◌∷◌, length, refl, sym, ap, ◌∙◌, subst, arith, append-nil, ◌↔◌}
-use Rattle.std.proofs.lemmas.Bool.{and_from, and_parts, cond-false, cond-true, eq-eqb, eqb-true, le-leb, ne_eqb}
+use Rattle.std.proofs.Common.{◌≡◌, ◌≤◌, ◌<◌, ◌+◌, ◌*◌, ◌^◌, ◌==◌, ◌&&◌, ◌||◌, ◌++◌, ℕ, zero, suc, Bool, true, false, cond, leb, max, not, [], ◌∷◌, length, inl, inr, refl, sym, ap, ◌∙◌, subst, arith, append-nil, ◌↔◌}
+use Rattle.std.proofs.lemmas.Bool.{and_from, and_parts, cases_lt, cond-false, cond-true, eq-eqb, eqb-true, le-leb, leb-true, ne_eqb, or_cases, or_left, or_right}
 use Rattle.map_model.specs.Lists.{Has}
 use Rattle.map_model.proofs.ListLemmas.{has_any, upd_same}
 use Rattle.image_model.specs.Entries.{Entry, is_commit, is_record}
@@ -26,12 +26,14 @@ use Rattle.rows_trait.specs.Layout.{count_of}
 use Rattle.rows_trait.specs.Views.{Shape, state}
 use Rattle.lean_proto.specs.Controls as controls
 use Rattle.session_state.specs.Holds.{Holds, IsOf}
-use Rattle.session_state.specs.Syncs.{EverySynced, FlushesOwn, HasNoneBehind, HasSynced, flushed_of, flushes_of, synced_session}
+use Rattle.session_state.specs.Syncs.{EveryFlush, EverySynced, FlushesOwn, HasNoneBehind, HasSynced, MayFlush, finds_room, flushed_of, flushes_of, synced_session}
+use Rattle.session_state.specs.Undo.{filled}
 use Rattle.session_state.specs.declared.session.Session.{Session}
 use Rattle.session_state.proofs.HoldLemmas.{rows_on}
 use Rattle.session_state.proofs.WaitLemmas.{behind_flush, behind_same, floor_flush}
 use Rattle.session_state.proofs.Moments.{acts, free_same, goes_seen, met_core, seen_state}
 use Rattle.session_state.proofs.OtherLemmas.{is_own, no_steps, one_step}
+use Rattle.session_state.proofs.UndoLemmas.{flush_again, flush_hand, flush_used, room_to_flush}
 
 -- ## Words
 
@@ -80,14 +82,6 @@ flushes_none v x was is old new all same stands = record {
 }
 
 -- ## Where something was
-
--- the flush closes the block in hand
-used_flushed : (log : Log) → used (flushed_log log) ≤ used log
-used_flushed log = go (log.count == 0)
-  where
-    go : (b : Bool) → ((log.next + cond b 0 1) - log.head) + 0 ≤ (log.next - log.head) + cond b 0 1
-    go true = omega arith
-    go false = omega arith
 
 module _ (z : Shape) (v : View) (x : Session) (log : Log) (h : Holds z v x log) (ends : EndsInRecord (state v).core x.own log) (last : HasNoneBehind (state v).core x.own log) (differs : log.last ≡ log.flushed → ⊥) where
   abbrev s : State
@@ -138,8 +132,8 @@ module _ (z : Shape) (v : View) (x : Session) (log : Log) (h : Holds z v x log) 
     floor_w = subst (λ k. x.clock.floor ≤ flushed_by_all (opening k) (state w).core) (sym given) (subst (λ (k : State). x.clock.floor ≤ flushed_by_all (opening v.given) k) (sym core_w)
         (floor_flush (opening v.given) s x.own log.last x.clock.floor low h.floor))
 
-    pub holds_whole : (0 < length x.undo → x.is_half_aborted ≡ false) → Holds z w y is
-    holds_whole going = subst (λ k. Holds z w k is) (sym session) (subst (λ l. Holds z w (record x { unflushed = 0 }) l) (sym after) (record {
+    pub holds_whole : MayFlush x log → Holds z w y is
+    holds_whole may_flush = subst (λ k. Holds z w k is) (sym session) (subst (λ l. Holds z w (record x { unflushed = 0 }) l) (sym after) (record {
       alone = h.alone;
       idle = t.held ∙ h.idle;
       rows = rows_on z v w x.own x.workers x.frames x.held.count given h.rows;
@@ -148,9 +142,10 @@ module _ (z : Shape) (v : View) (x : Session) (log : Log) (h : Holds z v x log) 
         last = h.numbers.last;
         order = omega arith;
         end = h.numbers.end;
-        room = λ opened. let a = h.numbers.room opened in let b = used_flushed log in omega arith;
-        undo_room = λ some. h.numbers.flush_room (going some) some;
-        flush_room = λ _ some. let a = h.numbers.flush_room (going some) some in omega arith;
+        room = λ opened. let a = h.numbers.room opened in let b = flush_used log in omega arith;
+        undo_room = may_flush;
+        flush_room = λ going some. let a = h.numbers.flush_room going some in let b = flush_used log in omega arith;
+        hand = flush_hand log;
         closed_txn = h.numbers.closed_txn;
         txn = h.numbers.txn;
         few = h.numbers.few;
@@ -166,6 +161,36 @@ module _ (z : Shape) (v : View) (x : Session) (log : Log) (h : Holds z v x log) 
       free = free_same v w x.free given (ap (λ k. k.page) core_w) h.free;
       spare = h.spare;
     }))
+
+-- ## Which sessions may be flushed
+
+-- that it does is decided
+module _ (x : Session) (log : Log) where
+  abbrev needed : ℕ
+  needed = filled (flushed_log log) + (64 * length x.undo + 2064)
+
+  abbrev fits : Bool
+  fits = leb needed (1900 * log.blocks)
+
+  found : finds_room x log ≡ true → MayFlush x log
+  found e some = elim (or_cases (length x.undo == 0) fits e) [
+    | inl none ↦ (let n = eqb-true (length x.undo) 0 none in absurd (omega arith))
+    | inr k ↦ leb-true needed (1900 * log.blocks) k
+  ]
+
+  find : MayFlush x log → finds_room x log ≡ true
+  find may_flush = elim (cases_lt 0 (length x.undo)) [
+    | inl some ↦ or_right (length x.undo == 0) fits (le-leb needed (1900 * log.blocks) (may_flush some))
+    | inr none ↦ or_left (length x.undo == 0) fits (eq-eqb (length x.undo) 0 (omega arith))
+  ]
+
+pub every_flush : EveryFlush
+every_flush = record {
+  decided = λ x log. (found x log, find x log);
+  whole = λ z v x log h going some. let n = h.numbers in room_to_flush log (length x.undo) n.hand (n.flush_room going some) n.few;
+  flushed = λ x log may_flush some. let a = may_flush some in let b = flush_again log in omega arith;
+  synced = λ x log number may_flush. may_flush;
+}
 
 -- ## A sync
 
@@ -190,6 +215,7 @@ every_synced z v w x log number h whole e = record {
     room = n.room;
     undo_room = n.undo_room;
     flush_room = n.flush_room;
+    hand = n.hand;
     closed_txn = λ closed. let a = n.closed_txn closed in let b = reach in omega arith;
     txn = let a = n.txn in let b = reach in omega arith;
     few = n.few;

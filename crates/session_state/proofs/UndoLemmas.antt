@@ -2,16 +2,16 @@
 use Rattle.std.proofs.Common.{◌≡◌, ◌⊎◌, ◌≤◌, ◌<◌, ◌+◌, ◌-◌, ◌*◌, ◌++◌, ◌==◌, ℕ, suc, Bool, true, false, cond, leb, List, [], ◌∷◌, length, inl, inr, refl, sym, ap, ◌∙◌, arith, append-nil, true≢false}
 use Rattle.std.specs.Prelude.{min, reverse}
 use Rattle.std.proofs.Math.Nat.{min-eq_left, min-eq_right, min-le_left, min-le_right}
-use Rattle.std.proofs.lemmas.Bool.{cases_lt, le-leb, leb-true}
+use Rattle.std.proofs.lemmas.Bool.{cases_lt, eqb-true, le-leb, leb-true}
 use Rattle.std.proofs.lemmas.List.{length-append, reverse-append}
 use Rattle.image_model.specs.Entries.{Entry}
 use Rattle.log_record.specs.declared.record.Record.{Record}
 use Rattle.log_record.specs.Spelling.{Fits, record_text}
 use Rattle.log_record.proofs.SizeLemmas.{size_range, text_size}
 use Rattle.log_block.specs.Block.{records_text}
-use Rattle.worker_log.specs.Calls.{After, flushed_log}
+use Rattle.worker_log.specs.Calls.{After, HasRoom, flushed_log}
 use Rattle.worker_log.specs.Logs.{Log, limit, used}
-use Rattle.session_state.specs.Undo.{HasRoomToStage, HasRoomToUndo, filled, undo_of}
+use Rattle.session_state.specs.Undo.{HasHand, HasRoomToStage, HasRoomToUndo, filled, kept_blocks, undo_of}
 use Rattle.session_state.specs.declared.undo.Undone.{Undone}
 
 -- as many as the worker's
@@ -111,31 +111,112 @@ flush_fills log = go (log.count == 0)
     go true = omega arith
     go false = omega arith
 
+-- behind it the blocks that are used are filled, and no more
+pub flush_filled : (log : Log) → log.head ≤ log.next → filled (flushed_log log) ≡ 1900 * used log
+flush_filled log order = go (log.count == 0)
+  where
+    go : (b : Bool) → 1900 * ((log.next + cond b 0 1) - log.head) + 0 ≡ 1900 * ((log.next - log.head) + cond b 0 1)
+    go true = omega arith
+    go false = omega arith
+
+-- a second one closes none
+pub flush_again : (log : Log) → filled (flushed_log (flushed_log log)) ≤ filled (flushed_log log)
+flush_again log = omega arith
+
 -- where blocks for changes are left, it is filled so far
 pub written_most : (log : Log) → used log < limit log → filled log + 30_300 ≤ 1900 * log.blocks
 written_most log free = let a = written_used log in let b = most_in_hand log in omega arith
 
+-- ## Blocks that are used
+
+-- a flush uses none
+pub flush_used : (log : Log) → used (flushed_log log) ≤ used log
+flush_used log = go (log.count == 0)
+  where
+    go : (b : Bool) → ((log.next + cond b 0 1) - log.head) + 0 ≤ (log.next - log.head) + cond b 0 1
+    go true = omega arith
+    go false = omega arith
+
+pub flush_hand : (log : Log) → HasHand (flushed_log log)
+flush_hand log none = refl
+
+-- where the block in hand has bytes it is used
+hand_used : (log : Log) → HasHand log → 0 < length log.payload → (log.next - log.head) + 1 ≤ used log
+hand_used log hand some = go (log.count == 0) refl
+  where
+    go : (b : Bool) → (log.count == 0) ≡ b → (log.next - log.head) + 1 ≤ (log.next - log.head) + cond b 0 1
+    go true e = let a = ap length (hand (eqb-true log.count 0 e)) in absurd (omega arith)
+    go false e = omega arith
+
+-- so the blocks that are used are filled so far
+pub used_filled : (log : Log) → HasHand log → filled log ≤ 1900 * used log + 100
+used_filled log hand = elim (cases_lt 0 (length log.payload)) [
+  | inl some ↦ (let a = hand_used log hand some in let b = most_in_hand log in omega arith)
+  | inr none ↦ (let a = written_used log in let b = min-le_left (length log.payload) 2000 in omega arith)
+]
+
+-- behind a record there is one in the block in hand
+pub hand_after : (r : Record) (old new : Log) → After r old new → HasHand new
+hand_after r old new a = elim (cases_lt 2000 (length old.payload + length (records_text (r ∷ [])))) [
+  | inl over ↦ (let c = ap (λ (l : Log). l.count) (a.full (λ (fits : HasRoom old r). absurd (omega arith))) in λ none. absurd (omega arith))
+  | inr fits ↦ (let c = ap (λ (l : Log). l.count) (a.room fits) in λ none. absurd (omega arith))
+]
+
+-- and it uses one block more at most
+record Uses (old new : Log) : Type 0 where
+  blocks : new.blocks ≡ old.blocks
+  rises : used new ≤ suc (used old)
+
+uses : (r : Record) (old new : Log) → length (records_text (r ∷ [])) ≤ 1031 → After r old new → HasHand old → Uses old new
+uses r old new short a hand = elim (cases_lt 2000 (length old.payload + length (records_text (r ∷ [])))) [ inl over ↦ closed over | inr fits ↦ within fits ]
+  where
+    within : length old.payload + length (records_text (r ∷ [])) ≤ 2000 → Uses old new
+    within fits =
+        let is = a.room fits in
+        let n = ap (λ (l : Log). l.next) is in
+        let h = ap (λ (l : Log). l.head) is in
+        let w = written_used old in
+        let u = used_written new in
+        record { blocks = ap (λ (l : Log). l.blocks) is; rises = omega arith }
+
+    closed : 2000 < length old.payload + length (records_text (r ∷ [])) → Uses old new
+    closed over =
+        let is = a.full (λ (fits : HasRoom old r). absurd (omega arith)) in
+        let n = ap (λ (l : Log). l.next) is in
+        let h = ap (λ (l : Log). l.head) is in
+        let w = hand_used old hand (omega arith) in
+        let u = used_written new in
+        record { blocks = ap (λ (l : Log). l.blocks) is; rises = omega arith }
+
 -- ## Room
 
 -- where blocks for changes are left, so many records of any size may be staged
-pub room_to_stage : (log : Log) (many : ℕ) → used log < limit log → many ≤ 11 → HasRoomToStage log many
-room_to_stage log many free few = let a = written_most log free in omega arith
+pub room_to_stage : (log : Log) (many : ℕ) → used log < limit log → many ≤ 10 → HasRoomToStage log many
+room_to_stage log many free few = omega arith
 
 -- one fewer behind each
-pub room_after : (r : Record) (old new : Log) (many : ℕ) → length (records_text (r ∷ [])) ≤ 1031 → After r old new → HasRoomToStage old (suc many) → HasRoomToStage new many
-room_after r old new many short a room = let f = fills r old new a in let b = f.blocks in elim f.rises [ inl within ↦ omega arith | inr over ↦ omega arith ]
+pub room_after : (r : Record) (old new : Log) (many : ℕ) → length (records_text (r ∷ [])) ≤ 1031 → After r old new → HasHand old → HasRoomToStage old (suc many) → HasRoomToStage new many
+room_after r old new many short a hand room = let u = uses r old new short a hand in let b = u.blocks in let c = u.rises in omega arith
+
+-- as many behind a flush
+pub room_flushed : (log : Log) (many : ℕ) → HasRoomToStage log many → HasRoomToStage (flushed_log log) many
+room_flushed log many room = let a = flush_used log in omega arith
 
 -- there is a block for an end
 pub room_to_end : (log : Log) (many : ℕ) → HasRoomToStage log many → used log + 1 ≤ log.blocks
-room_to_end log many room = let a = used_written log in omega arith
+room_to_end log many room = omega arith
 
--- all changes may be put back
-pub room_to_undo : (log : Log) (many some : ℕ) → HasRoomToStage log many → some ≤ 64 → HasRoomToUndo log some
-room_to_undo log many some room few = omega arith
+-- the blocks that are kept are left
+pub room_kept : (log : Log) (many : ℕ) → HasRoomToStage log many → used log + kept_blocks ≤ log.blocks
+room_kept log many room = omega arith
+
+-- with these all changes may be put back
+pub room_to_undo : (log : Log) (some : ℕ) → HasHand log → used log + kept_blocks ≤ log.blocks → some ≤ 64 → HasRoomToUndo log some
+room_to_undo log some hand kept few = let a = used_filled log hand in omega arith
 
 -- also where the log is flushed before
-pub room_to_flush : (log : Log) (many some : ℕ) → HasRoomToStage log many → some ≤ 64 → HasRoomToUndo (flushed_log log) some
-room_to_flush log many some room few = let a = flush_fills log in omega arith
+pub room_to_flush : (log : Log) (some : ℕ) → HasHand log → used log + kept_blocks ≤ log.blocks → some ≤ 64 → HasRoomToUndo (flushed_log log) some
+room_to_flush log some hand kept few = let a = used_filled log hand in let b = flush_fills log in omega arith
 
 -- and behind a put-back one fewer, and an end
 pub room_behind : (r : Record) (old new : Log) (many : ℕ) → length (records_text (r ∷ [])) ≤ 64 → After r old new → HasRoomToUndo old (suc many) → HasRoomToUndo new many × (used new + 1 ≤ new.blocks)

@@ -12,11 +12,10 @@ use Rattle.rows_trait.specs.Views.{Shape, state}
 use Rattle.btree_descent.specs.Descents as descents
 use Rattle.btree_descent.specs.Known as pages
 use Rattle.key_locks.specs.Rows as locking
-use Rattle.worker_log.specs.Calls.{flushed_log}
 use Rattle.worker_log.specs.Logs.{Log, used}
 use Rattle.session_state.specs.declared.session.Session.{Session}
 use Rattle.session_state.specs.Numbers.{AreClocked, AreNumbered}
-use Rattle.session_state.specs.Undo.{HasRoomToUndo, undo_of}
+use Rattle.session_state.specs.Undo.{HasHand, HasRoomToUndo, kept_blocks, undo_of}
 
 -- it is the same session: by its number, of so many, whose commits are flushed in such groups
 abbrev pub IsSameSession : (x y : Session) → Type 0
@@ -42,8 +41,9 @@ pub record AreNumbers (x : Session) (log : Log) : Type 0 where
   pub room : x.is_open ≡ true → used log + 1 ≤ log.blocks
   -- behind all that it puts back
   pub undo_room : 0 < length x.undo → HasRoomToUndo log (length x.undo)
-  -- also where its log is flushed before that, as a sync may do while no abort is half done
-  pub flush_room : x.is_half_aborted ≡ false → 0 < length x.undo → HasRoomToUndo (flushed_log log) (length x.undo)
+  -- and while no abort is half done, all blocks that are kept for that are left, also where its log is flushed before
+  pub flush_room : x.is_half_aborted ≡ false → 0 < length x.undo → used log + kept_blocks ≤ log.blocks
+  pub hand : HasHand log
   -- each transaction but an open one took a number for its end
   pub closed_txn : x.is_open ≡ false → x.txn ≤ x.clock.clock
   pub txn : x.txn ≤ suc x.clock.clock

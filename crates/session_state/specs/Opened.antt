@@ -17,6 +17,7 @@ use Rattle.worker_log.specs.Logs.{Log}
 use Rattle.session_state.specs.Holds.{AreRows, Holds}
 use Rattle.engine_trait.specs.Limits.{AreLoads}
 use Rattle.session_state.specs.Ties.{Ties}
+use Rattle.session_state.specs.Undo.{HasHand}
 use Rattle.session_state.specs.declared.session.Session.{Session}
 
 -- a session that has done nothing, where all is flushed up to the base
@@ -54,6 +55,7 @@ pub record IsOpened (g : Opening) (z : Shape) (v : View) (x : Session) (log : Lo
   pub spare : length x.free ≤ 2 ^ 16
   pub last : log.last ≡ g.base
   pub flushed : log.flushed ≡ g.base
+  pub hand : HasHand log
 
 -- Then the engine is as between two calls, and tied to a run with no outcome yet.
 abbrev pub EveryOpened : Type 0
@@ -80,4 +82,4 @@ pub record IsOpenedOn (pages : List Page) (count base : ℕ) (z : Shape) (v : Vi
   pub page : (p : ℕ) → start_page opening p ≡ contents_of (page_at pages p)
   pub frames : x.frames ≡ length pages
   pub rows : x.held.count ≡ count
-  pub is : (log : Log) → log.last ≡ base → log.flushed ≡ base → IsOpened opening z v x log
+  pub is : (log : Log) → log.last ≡ base → log.flushed ≡ base → HasHand log → IsOpened opening z v x log

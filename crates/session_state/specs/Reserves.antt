@@ -1,10 +1,12 @@
--- The sixteen blocks of a log that are kept back suffice for all that a call stages behind its test, and for all that its transaction puts back, up to its end.
+-- The sixteen blocks of a log that are kept back suffice for all that a call stages behind its test, and for all that its transaction puts back, up to its end; and
+-- seven of them for the latter alone.
 use Rattle.std.specs.Prelude.{◌≡◌, ◌≤◌, ◌<◌, ◌+◌, ◌*◌, ◌-◌, ◌++◌, ℕ, suc, max, List, [], ◌∷◌, length, replicate}
 use Rattle.page_model.specs.Limits.{leaf_room, top_level, transaction_changes}
 use Rattle.log_block.specs.Block.{records_text}
 use Rattle.log_record.specs.declared.record.Record.{Record}
 use Rattle.worker_log.specs.Calls.{After, flushed_log}
 use Rattle.worker_log.specs.Logs.{Log, limit, used}
+use Rattle.session_state.specs.Undo.{HasHand, HasRoomToUndo, kept_blocks}
 
 -- a record of at most so many bytes is staged, or the log is flushed
 pub data Step : Type 0 where
@@ -45,9 +47,13 @@ of_abort = replicate transaction_changes (Step.Stages 53)
 pub record ReserveLaws : Type 0 where
   -- from where blocks for changes are left, so much leaves a block for one record more
   pub room : (xs : List Step) (was is : Log) → used was < limit was → MakesAll xs was is → takes_all xs ≤ 28_399 → used is + 1 ≤ is.blocks
-  -- and so much it is, in whatever order, with three flushes anywhere; or with 80 bytes for each of 24 pages that a sync may save and for each put-back
-  pub put : (takes_all (of_put ++ of_abort) + 3 * 1900 ≤ 28_399) × (takes_all (of_put ++ of_abort) + 80 * (24 + transaction_changes) ≤ 28_399)
-  pub del : (takes_all (of_del ++ of_abort) + 3 * 1900 ≤ 28_399) × (takes_all (of_del ++ of_abort) + 80 * (24 + transaction_changes) ≤ 28_399)
+  -- and so much it is, in whatever order, with three flushes anywhere
+  pub put : takes_all (of_put ++ of_abort) + 3 * 1900 ≤ 28_399
+  pub del : takes_all (of_del ++ of_abort) + 3 * 1900 ≤ 28_399
+  -- from where the blocks that are kept are left, so much leaves room behind a flush for so many put-backs and an end
+  pub flush : (xs : List Step) (was is : Log) (many : ℕ) → HasHand was → used was + kept_blocks ≤ was.blocks → MakesAll xs was is → takes_all xs + 64 * many ≤ 9_236 → HasRoomToUndo (flushed_log is) many
+  -- and so much it is while so many of a transaction's changes were put back and so many are left, in whatever order with two flushes
+  pub abort : (back many : ℕ) → back + many ≤ transaction_changes → takes_all (replicate back (Step.Stages 64) ++ replicate 2 Step.Flushes) + 64 * many ≤ 9_236
 
 abbrev pub EveryReserve : Type 0
 EveryReserve = ReserveLaws

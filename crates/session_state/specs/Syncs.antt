@@ -1,5 +1,5 @@
 -- What a sync does: each session's log is flushed, and then all are synced up to the greatest clock.
-use Rattle.std.specs.Prelude.{◌≡◌, ◌≤◌, ℕ, true, List, ◌++◌, [], ◌∷◌, ◌==◌, if◌then◌else◌}
+use Rattle.std.specs.Prelude.{◌≡◌, ◌↔◌, ◌≤◌, ◌<◌, ◌+◌, ◌*◌, ◌||◌, ◌==◌, ℕ, Bool, true, false, leb, List, ◌++◌, [], ◌∷◌, length, if◌then◌else◌}
 use Rattle.map_model.specs.Lists.{Has}
 use Rattle.image_model.specs.Entries.{Entry, is_record}
 use Rattle.core_state.specs.States.{State}
@@ -18,7 +18,32 @@ use Rattle.worker_log.specs.Calls.{flushed_log}
 use Rattle.worker_log.specs.Logs.{Log}
 use Rattle.session_state.specs.Holds.{Holds}
 use Rattle.session_state.specs.Others.{Steps}
+use Rattle.session_state.specs.Undo.{HasRoomToUndo, filled}
 use Rattle.session_state.specs.declared.session.Session.{Session}
+
+-- ## Which sessions may be flushed
+
+-- all that the session has still to put back finds room behind a flush of its log
+abbrev pub MayFlush : Session → Log → Type 0
+MayFlush x log = 0 < length x.undo → HasRoomToUndo (flushed_log log) (length x.undo)
+
+-- whether it does
+abbrev pub finds_room : Session → Log → Bool
+finds_room x log = (length x.undo == 0) || leb (filled (flushed_log log) + (64 * length x.undo + 2064)) (1900 * log.blocks)
+
+-- a session behind a sync up to this number
+abbrev pub synced_session : Session → ℕ → Session
+synced_session x number = record x { clock = record x.clock { clock = number }; unflushed = 0 }
+
+-- So it is while no abort is half done; and once it is so, it is so behind the flush and behind a sync too.
+pub record FlushLaws : Type 0 where
+  pub decided : (x : Session) (log : Log) → (finds_room x log ≡ true) ↔ MayFlush x log
+  pub whole : (z : Shape) (v : View) (x : Session) (log : Log) → Holds z v x log → x.is_half_aborted ≡ false → MayFlush x log
+  pub flushed : (x : Session) (log : Log) → MayFlush x log → MayFlush x (flushed_log log)
+  pub synced : (x : Session) (log : Log) (number : ℕ) → MayFlush x log → MayFlush (synced_session x number) (raised log number)
+
+abbrev pub EveryFlush : Type 0
+EveryFlush = FlushLaws
 
 -- ## A flush of one log
 
@@ -54,10 +79,6 @@ pub record HasSynced (v w : View) (number : ℕ) : Type 0 where
   pub seen : w.seen ≡ v.seen ++ told.Sync number ∷ []
   pub held : w.held ≡ v.held
   pub met : may (opening v.given) (state v).core (happening.Event.Sync number) ≡ true
-
--- a session behind a sync up to this number
-abbrev pub synced_session : Session → ℕ → Session
-synced_session x number = record x { clock = record x.clock { clock = number }; unflushed = 0 }
 
 -- Behind a sync each session whose log is flushed whole is as between two calls, with its clock and its log raised to the number.
 abbrev pub EverySynced : Type 0

@@ -1,8 +1,8 @@
 -- What a transaction has still to put back.
-use Rattle.std.specs.Prelude.{◌≤◌, ◌<◌, ◌+◌, ◌-◌, ◌*◌, ◌^◌, ℕ, min, List, [], ◌∷◌, length, Option, Some, None}
+use Rattle.std.specs.Prelude.{◌≡◌, ◌≤◌, ◌<◌, ◌+◌, ◌-◌, ◌*◌, ◌^◌, ℕ, min, List, [], ◌∷◌, length, Option, Some, None}
 use Rattle.image_model.specs.Entries.{Entry}
 use Rattle.page_model.specs.Limits.{transaction_changes}
-use Rattle.worker_log.specs.Logs.{Log}
+use Rattle.worker_log.specs.Logs.{Log, used}
 use Rattle.session_state.specs.declared.undo.Undone.{Undone}
 
 -- the newest one, if there is one
@@ -20,6 +20,12 @@ abbrev pub AreKeys : List Undone → Type 0
 AreKeys [] = Unit {0}
 AreKeys (c ∷ cs) = (c.key < 2 ^ 64 - 1) × AreKeys cs
 
+-- the list has room for as many as a transaction may make, and no more of them, each of such a key
+pub record AreUndone (changes : List Undone) (most : ℕ) : Type 0 where
+  pub room : transaction_changes ≤ most
+  pub few : length changes ≤ transaction_changes
+  pub keys : AreKeys changes
+
 -- of each listed change its key, and the word before it
 abbrev pub undo_of : List Entry → List Undone
 undo_of [] = []
@@ -36,6 +42,16 @@ filled log = 1900 * (log.next - log.head) + min (length log.payload) 2000
 abbrev pub HasRoomToUndo : Log → ℕ → Type 0
 HasRoomToUndo log many = filled log + (64 * many + 2064) ≤ 1900 * log.blocks
 
--- room for so many records of any size, and then, behind a flush, for all that a transaction may put back, and its end
+-- how many blocks are kept, behind all that a call stages, for its transaction to be put back: four for 64 put-backs and an end, and one for each of three
+-- flushes among them
+abbrev pub kept_blocks : ℕ
+kept_blocks = 7
+
+-- Room for so many records of any size, and the blocks that are kept. A record uses one block more at most; a flush uses none, since the block in hand counts
+-- as used.
 abbrev pub HasRoomToStage : Log → ℕ → Type 0
-HasRoomToStage log many = filled log + (1962 * many + (1900 + (64 * transaction_changes + 2064))) ≤ 1900 * log.blocks
+HasRoomToStage log many = used log + (many + kept_blocks) ≤ log.blocks
+
+-- a block in hand without a record has no bytes
+abbrev pub HasHand : Log → Type 0
+HasHand log = log.count ≡ 0 → log.payload ≡ []

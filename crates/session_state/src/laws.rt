@@ -2,7 +2,7 @@
 ghost use Rattle.session_state.specs.Opened.{EveryFellow, EveryOpened};
 ghost use Rattle.session_state.specs.Others.{EveryHome, EveryOther, EverySteps};
 ghost use Rattle.session_state.specs.Reserves.{EveryReserve};
-ghost use Rattle.session_state.specs.Syncs.{EverySynced};
+ghost use Rattle.session_state.specs.Syncs.{EveryFlush, EverySynced};
 
 /// On rows that were opened, with a session that has done nothing and a log at the base, an engine is as between two calls, in a run
 /// with no outcome yet.
@@ -34,6 +34,11 @@ pub fn every_home()
 /// Behind a sync each session whose log is flushed whole is as between two calls.
 pub fn every_synced()
     ensures { EverySynced }
+{}
+
+/// Which sessions may be flushed, so that what they have still to put back finds room.
+pub fn every_flush()
+    ensures { EveryFlush }
 {}
 
 /// The blocks that are kept back suffice for all that a call stages behind its test, and for all that its transaction puts back.

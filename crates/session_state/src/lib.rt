@@ -18,12 +18,13 @@ pub use draw_trait::staged::Staged;
 pub use free::FreePages;
 pub use held::HeldRows;
 pub use laws::{
-    every_fellow, every_home, every_opened, every_other, every_reserve, every_steps, every_synced,
+    every_fellow, every_flush, every_home, every_opened, every_other, every_reserve, every_steps,
+    every_synced,
 };
 pub use log_calls::stage_end;
 pub use numbers::{clocks_low, next_fits};
 pub use opening::{further_session, open_session};
 pub use session::Session;
-pub use syncs::{Flushes, flush_own, settle, store_synced, wait_for_flush};
+pub use syncs::{Flushes, flush_own, may_flush, settle, store_synced, wait_for_flush};
 pub use undo::{UndoList, Undone};
 pub use work::{Stages, Work};

@@ -1,5 +1,5 @@
 // What a sync does to a session: its log is flushed whole, and then its clock is raised.
-ghost use Rattle.std.specs.Prelude.{◌≡◌, ◌↔◌, ◌<◌, ◌+◌, IsErr, IsOk, OnOk, false, length, true};
+ghost use Rattle.std.specs.Prelude.{◌≡◌, ◌↔◌, ◌<◌, ◌+◌, IsErr, IsOk, OnOk, true};
 ghost use Rattle.core_state.specs.Events as happening;
 ghost use Rattle.core_state.specs.Needs.{may};
 ghost use Rattle.lean_disk.specs.Faults.{HasCause};
@@ -8,7 +8,7 @@ ghost use Rattle.row_words.specs.Openings.{opening};
 ghost use Rattle.rows_trait.specs.Views.{state};
 ghost use Rattle.session_state.specs.Holds.{Holds, IsSameSession};
 ghost use Rattle.session_state.specs.Staging.{KeepsLog};
-ghost use Rattle.session_state.specs.Syncs.{FlushesOwn, HasNoneBehind, HasSynced, synced_session};
+ghost use Rattle.session_state.specs.Syncs.{FlushesOwn, HasNoneBehind, HasSynced, MayFlush, finds_room, synced_session};
 
 use crate::session::Session;
 use crate::work::Work;
@@ -16,7 +16,7 @@ use lean_disk::Disk;
 use log_calls::flush_whole;
 use rows_trait::names::Names;
 use rows_trait::rows::Rows;
-use worker_log::DiskFault;
+use worker_log::{DiskFault, RESERVE, WorkerLog};
 
 /// The event of a flush of a session's log up to this number.
 #[derive(Drop)]
@@ -60,8 +60,19 @@ pub fn settle(session: &mut Session)
     session.unflushed = 0;
 }
 
-/// Flushes all that the session's log has, if something of it is not flushed yet. The last of it is a record then. While an abort is half done each
-/// flush takes a block that it may still need, so then there is none.
+/// Whether all that a session has still to put back finds room behind a flush of its log.
+pub fn may_flush(session: &Session, log: &WorkerLog) -> bool
+    ensures { result ≡ finds_room session.now log.now }
+{
+    // The numbers are in their ranges.
+    log.last();
+    session.undo.few();
+    let many = session.undo.len() as u32;
+    many == 0 || 1900 * log.used() + (64 * many + 2064) <= 1900 * (log.limit() + RESERVE)
+}
+
+/// Flushes all that the session's log has, if something of it is not flushed yet. The last of it is a record then. The flush may take a block, so what the
+/// session has still to put back has to find room behind it.
 pub fn flush_own<R: Rows, D: Disk>(
     rows: &mut R,
     seat: &mut R::Seat,
@@ -72,7 +83,7 @@ pub fn flush_own<R: Rows, D: Disk>(
     requires works { work.old.session.works ≡ true }
     requires ends { EndsInRecord (state (R.view seat.old)).core work.old.session.own work.old.log }
     requires last { HasNoneBehind (state (R.view seat.old)).core work.old.session.own work.old.log }
-    requires whole { 0 < length work.old.session.undo → work.old.session.is_half_aborted ≡ false }
+    requires room { MayFlush work.old.session work.old.log }
     ensures fits { R.fits rows.new seat.new × (R.shape rows.new ≡ R.shape rows.old) }
     ensures holds { OnOk result (Holds (R.shape rows.new) (R.view seat.new) work.new.session work.new.log) }
     // Also where the device failed.

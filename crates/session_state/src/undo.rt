@@ -1,5 +1,5 @@
 // What a transaction has still to put back.
-ghost use Rattle.std.specs.Prelude.{◌≡◌, ◌<◌, ◌-◌, ◌^◌, [], ◌∷◌, length, IfOk, IfSome};
+ghost use Rattle.std.specs.Prelude.{◌≡◌, ◌≤◌, ◌<◌, ◌-◌, ◌^◌, [], ◌∷◌, length, IfOk, IfSome};
 ghost use Rattle.page_model.specs.Limits.{transaction_changes};
 ghost use Rattle.session_state.specs.Undo.{newest_of, without_newest};
 
@@ -15,24 +15,23 @@ pub struct Undone {
 }
 
 /// The changes of a transaction that are still to put back. Room for as many as it may make is reserved. They are kept the oldest first,
-/// so that the newest one is taken from the end. Each is of a key that a leaf can have.
+/// so that the newest one is taken from the end. They are no more than that, each of a key that a leaf can have.
 #[derive(Drop)]
 pub struct UndoList {
     changes: Vec<Undone>,
 }
 
 impl Model for UndoList {
-    ghost use Rattle.std.specs.Prelude.{◌≤◌, reverse, vec_capacity, List};
-    ghost use Rattle.page_model.specs.Limits.{transaction_changes};
+    ghost use Rattle.std.specs.Prelude.{reverse, vec_capacity, List};
     ghost use Rattle.session_state.specs.declared.undo.Undone.{Undone};
-    ghost use Rattle.session_state.specs.Undo.{AreKeys};
+    ghost use Rattle.session_state.specs.Undo.{AreUndone};
 
     // The newest first.
     ghost Value = { List Undone };
 
     ghost view = { λ u. reverse u.changes.items };
 
-    ghost invariant = { λ u. (transaction_changes ≤ vec_capacity u.changes) × AreKeys (reverse u.changes.items) };
+    ghost invariant = { λ u. AreUndone (reverse u.changes.items) (vec_capacity u.changes) };
 }
 
 impl UndoList {
@@ -49,6 +48,13 @@ impl UndoList {
         ensures { result ≡ length self.now }
     {
         self.changes.len()
+    }
+
+    /// They are no more than a transaction may make. The call does nothing.
+    pub fn few(&self)
+        ensures { length self.now ≤ transaction_changes }
+    {
+        let _ = &self.changes;
     }
 
     /// The newest one.

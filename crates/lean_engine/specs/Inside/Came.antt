@@ -11,7 +11,7 @@ use Rattle.rows_trait.specs.Views.{Shape}
 use Rattle.rows_trait.specs.declared.view.View.{View}
 use Rattle.session_state.specs.Holds.{Holds, IsSameSession}
 use Rattle.session_state.specs.Others.{Steps}
-use Rattle.row_engine.specs.declared.commits.Ended.{Ended}
+use Rattle.row_ends.specs.declared.ending.Ended.{Ended}
 use Rattle.lean_engine.specs.Calls.{IsTo, MayBe}
 use Rattle.lean_engine.specs.Inside.Asks.{IsEndOf}
 use Rattle.session_desks.specs.declared.desk.Desk.{Desk}

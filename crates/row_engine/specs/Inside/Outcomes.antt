@@ -26,7 +26,8 @@ use Rattle.engine_trait.specs.Refusals.{room_refusal}
 use Rattle.session_state.specs.declared.session.Session.{Session}
 use Rattle.session_state.specs.Ties.{Behind}
 use Rattle.row_engine.specs.Grown.{Goes, Grows, Went}
-use Rattle.row_changes.specs.Rooms.{IsSpentBehind, IsUnfit}
+use Rattle.row_changes.specs.Paths.{IsUnfit}
+use Rattle.row_growth.specs.Rooms.{IsSpentBehind}
 
 -- Room was made, and then the change was seen, at a moment at which the leaf said this of the key; the disk stands for all of it.
 pub record HasPut (key value : ℕ) (before : Option ℕ) (v w : View) (x : Session) (was is : Log) (old new : Story) : Type 0 where

@@ -21,6 +21,7 @@ use Rattle.session_state.specs.Others.{AreHome}
 use Rattle.session_state.proofs.HomeLemmas.{every_home}
 use Rattle.lean_engine.proofs.HomeLemmas.{home_synced}
 use Rattle.session_desks.proofs.MachineLemmas.{machine_behind}
+use Rattle.session_desks.proofs.MayFlushes.{may_whole}
 use Rattle.session_desks.proofs.SeatLemmas.{holds_of, turn_high, turn_low}
 use Rattle.lean_engine.proofs.SyncBegins.{with_sync}
 use Rattle.lean_engine.proofs.SyncEnds.{begin_fails}
@@ -44,6 +45,11 @@ returns-in-Err-clause-went g c =
     (begin_fails s.work.session.workers s.work.session.group (holds_of z s.seat.view x s.desks.items are).rows.most s.seat.view x s.desks.items s.master (story s.work.disk) (story n.work.disk) (laws s.work.disk)
     (every_part c.laws.ensures.versions c.laws.ensures.kept c.laws.ensures.prefixes c.laws.ensures.seals (story s.work.disk) (story s.work.disk) (story n.work.disk)) own c.args.is_long c.requires.long n.seat.view (here n) n.desks.items (memory n) (e.failed refl))
     e.fits (λ on. e.works.0 on refl) e.session (e.cause_disk_fault.later, e.cause_disk_fault.cause refl))
+
+pub sync_all-requires-clause-may : goal.sync_all-requires-clause-may
+sync_all-requires-clause-may g c κs within =
+    let s = c.args.machine.now in
+    may_whole c.every_flush.ensures (shape s) s.seat.view (here s) s.desks.items c.requires.machine.desks c.requires.whole
 
 pub turn_to-requires-clause-session : goal.turn_to-requires-clause-session
 turn_to-requires-clause-session g c κs within =

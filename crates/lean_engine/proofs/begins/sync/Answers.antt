@@ -10,6 +10,7 @@ use Rattle.lean_engine.specs.declared.machine.Response.{Response}
 use Rattle.lean_engine.proofs.BeginSteps.{spent_where}
 use Rattle.lean_engine.proofs.HomeLemmas.{home_synced}
 use Rattle.lean_engine.proofs.HalfLates.{whole}
+use Rattle.session_desks.proofs.MayFlushes.{may_whole}
 use Rattle.session_desks.proofs.SeatLemmas.{holds_of}
 use Rattle.lean_engine.proofs.SyncEnds.{sync_does, sync_fails}
 use Rattle.lean_engine.proofs.WentLemmas.{fault_went, synced_went, went_spent}
@@ -28,13 +29,13 @@ returns-then-any_half g c =
     (went_spent story g.D.Disk.faults OnLine 1 0 call.Sync s c.requires.machine c.requires.works tt
     (spent_where c.laws.ensures.reached c.laws.ensures.needs st (laws s.work.disk) (every_part c.laws.ensures.versions c.laws.ensures.kept c.laws.ensures.prefixes c.laws.ensures.seals st st st) z s.seat.view x s.desks.items s.master are (sym c.any_half.ensures ∙ c.if-any_half.true) OnLine (λ h xs m. m) 0 call.Sync (omega arith) (λ h xs. tt) (λ h xs. refl) (λ h q. refl)))
 
-pub sync_all-requires-clause-whole : goal.sync_all-requires-clause-whole
-sync_all-requires-clause-whole g c κs within =
+pub sync_all-requires-clause-may : goal.sync_all-requires-clause-may
+sync_all-requires-clause-may g c κs within =
     let s = c.args.machine.now in
     let x : Desk = here s in
     let z = shape s in
     let are = c.requires.machine.desks in
-    whole z s.seat.view x s.desks.items are (sym c.any_half.ensures ∙ c.if-any_half.false)
+    may_whole c.every_flush.ensures z s.seat.view x s.desks.items are (whole z s.seat.view x s.desks.items are (sym c.any_half.ensures ∙ c.if-any_half.false))
 
 pub returns-in-Ok : goal.returns-in-Ok
 returns-in-Ok g c =

@@ -50,7 +50,7 @@ returns-clause-holds g c =
     let turned = subst (λ k. Turned z own 0 (λ _. k) (λ _. Flush own k ∷ []) v n w) c.last-number.ensures.answer c.store_control.ensures.step.1 in
     holds_as (g.R.Rows.shape c.args.rows.now) (g.R.Rows.shape c.store_control.new.self) w c.settle.new.session c.settle.new.session c.flush_whole.new.log c.store_control.ensures.shape refl
     (holds_whole (g.R.Rows.shape c.args.rows.now) (g.R.Rows.view c.args.seat.now) c.args.work.now.session c.args.work.now.log c.requires.holds c.requires.ends c.requires.last differs n w turned
-    c.settle.new.session c.settle.ensures c.flush_whole.new.log (c.in_default.ensures.after differs) c.requires.whole)
+    c.settle.new.session c.settle.ensures c.flush_whole.new.log (c.in_default.ensures.after differs) c.requires.room)
 
 pub returns-clause-flushes : goal.returns-clause-flushes
 returns-clause-flushes g c =

@@ -5,6 +5,7 @@ use Rattle.session_desks.specs.Syncs.{Flushed, FlushedOne}
 use Rattle.session_desks.specs.declared.desk.Desk.{Desk}
 use Rattle.session_desks.proofs.SeatLemmas.{holds_of}
 use Rattle.session_desks.proofs.FlushOnes.{still_more}
+use Rattle.session_desks.proofs.MayFlushes.{may_still}
 use Rattle.session_desks.proofs.SyncViews.{ends_still, flush_fails, flushed_more, flushed_none, none_still}
 use Rattle.session_desks.proofs.machine.Machine.flush_all.Goals as goal
 
@@ -95,3 +96,16 @@ flush_one-requires-clause-last g c κs within =
     let high : l.session ≤ s.work.session.workers = let a = c.loop-session-test.true in omega arith in
     none_still (l.session - 1) l.session s.work.session.workers s.seat.view m.seat.view (log_of x s.desks.items) (log_of d m.desks.items) (g.D.Disk.story s.work.disk) (g.D.Disk.story m.work.disk) i.flushed (let a = i.some in omega arith) high
     (c.requires.logged l.session i.some high).last
+
+pub flush_one-requires-clause-may : goal.flush_one-requires-clause-may
+flush_one-requires-clause-may g c κs within =
+    let s = c.args.self.now in
+    let l = c.loop-session in
+    let i = l.invariant in
+    let m = l.self in
+    let x : Desk = here s in
+    let d : Desk = here m in
+    let high : l.session ≤ s.work.session.workers = let a = c.loop-session-test.true in omega arith in
+    let low : l.session - 1 < l.session = let a = i.some in omega arith in
+    may_still (desk_of x s.desks.items l.session).session (desk_of d m.desks.items l.session).session (log_of x s.desks.items l.session) (log_of d m.desks.items l.session)
+    (i.still l.session i.some high) (i.flushed.others l.session low high) (c.requires.may l.session i.some high)

@@ -1,11 +1,11 @@
-use Rattle.std.proofs.Common.{false, sym, refl, subst}
+use Rattle.std.proofs.Common.{sym, refl, subst}
 use Rattle.session_state.specs.Staging.{KeepsLog}
 use Rattle.session_desks.specs.Parts.{here, in_store, shape}
 use Rattle.session_desks.specs.Desks.{log_of}
 use Rattle.session_desks.specs.Machines.{AreDesks}
 use Rattle.session_desks.specs.Syncs.{FlushedOne}
 use Rattle.session_desks.specs.declared.desk.Desk.{Desk}
-use Rattle.session_desks.proofs.FlushOnes.{flushed_one, from_turn, half_is, on_ok, same, still_same}
+use Rattle.session_desks.proofs.FlushOnes.{flushed_one, from_turn, may_is, on_ok, same, still_same}
 use Rattle.session_desks.proofs.MachineLemmas.{machine_behind}
 use Rattle.session_desks.proofs.SeatLemmas.{holds_of}
 use Rattle.session_desks.proofs.machine.Machine.flush_one.Goals as goal
@@ -69,10 +69,10 @@ returns-clause-keeps g c =
     (from_turn (shape s) s.seat.view s.seat.view c.args.session old x x s.desks.items t.desks.items c.requires.machine.desks c.requires.session.0 c.requires.session.1 c.turn_to.ensures.turned
     (λ o l. KeepsLog o l (g.D.Disk.story t.work.disk) (g.D.Disk.story n.work.disk)) c.flush_own.ensures.keeps)
 
-pub flush_own-requires-clause-whole : goal.flush_own-requires-clause-whole
-flush_own-requires-clause-whole g c κs within =
+pub flush_own-requires-clause-room : goal.flush_own-requires-clause-room
+flush_own-requires-clause-room g c κs within =
     let t = c.turn_to.new.self in
     let x : Desk = here t in
     let s = c.args.self.now in
     let old : Desk = here s in
-    λ _. half_is (shape s) s.seat.view s.seat.view c.args.session old x x s.desks.items t.desks.items c.requires.machine.desks c.requires.session.0 c.requires.session.1 c.turn_to.ensures.turned false c.requires.whole
+    may_is (shape s) s.seat.view s.seat.view c.args.session old x x s.desks.items t.desks.items c.requires.machine.desks c.requires.session.0 c.requires.session.1 c.turn_to.ensures.turned c.requires.may

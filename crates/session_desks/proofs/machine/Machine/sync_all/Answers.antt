@@ -1,11 +1,12 @@
-use Rattle.std.proofs.Common.{refl, subst}
+use Rattle.std.proofs.Common.{ℕ, refl, sym, ◌∙◌, subst}
 use Rattle.lean_disk.specs.Story.{IsLawful}
 use Rattle.disk_slots.specs.declared.master.Master.{Master}
 use Rattle.session_desks.specs.Parts.{here, memory, shape}
 use Rattle.session_desks.specs.Runs.{memory_with}
 use Rattle.session_desks.specs.Desks.{log_of}
-use Rattle.session_desks.specs.Syncs.{SyncFails, SyncMade}
+use Rattle.session_desks.specs.Syncs.{AreRaisedTo, MayFlushEach, SyncFails, SyncMade}
 use Rattle.session_desks.specs.declared.desk.Desk.{Desk}
+use Rattle.session_desks.proofs.MayFlushes.{may_raised}
 use Rattle.session_desks.proofs.SyncGoes.{all_logged, if_all, if_ok, sync_fails, sync_made, sync_sessions}
 use Rattle.session_desks.proofs.SyncNeeds.{numbered}
 use Rattle.session_desks.proofs.SyncWholes.{flush_fails}
@@ -35,6 +36,20 @@ returns-clause-sessions g c =
     let y : Desk = here n in
     let z = shape m in
     if_ok c.sync_flushed.result c.sync_flushed.ensures.raised c.sync_flushed.ensures.number (λ k r at. sync_sessions z s.seat.view m.seat.view x d s.desks.items m.desks.items g.D.Disk.story s.work.disk m.work.disk e.session.0 c.requires.logged e.flushed e.machine.desks c.laws.ensures.reached m.master e.machine.numbers c.requires.opens c.clocks_low.ensures k at y n.desks.items e.still r)
+
+pub returns-clause-may : goal.returns-clause-may
+returns-clause-may g c =
+    let s = c.args.self.now in
+    let m = c.flush_all.new.self in
+    let n = c.sync_flushed.new.self in
+    let e = c.in_ok-flush_all.ensures in
+    let x : Desk = here s in
+    let d : Desk = here m in
+    let y : Desk = here n in
+    if_ok c.sync_flushed.result c.sync_flushed.ensures.raised c.sync_flushed.ensures.number (λ k r at.
+    subst (λ (many : ℕ). MayFlushEach many y n.desks.items) (sym (c.sync_flushed.ensures.session.0 ∙ e.session.0))
+    (may_raised c.every_flush.ensures s.work.session.workers x d y s.desks.items m.desks.items n.desks.items k e.still e.flushed.after
+    (subst (λ (many : ℕ). AreRaisedTo many d m.desks.items y n.desks.items k) e.session.0 r) c.requires.may))
 
 pub returns-clause-made : goal.returns-clause-made
 returns-clause-made g c =

@@ -1,0 +1,12 @@
+pub mod Misses
+pub mod GoingLemmas
+pub mod FlushLemmas
+pub mod BeginLemmas
+pub mod LatchLemmas
+pub mod MissLemmas
+pub mod EndLemmas
+pub mod CommitLemmas
+pub mod FinishLemmas
+pub mod ReceiptLemmas
+pub mod EndSteps
+pub mod OutcomeLemmas

@@ -1,0 +1,37 @@
+use Rattle.std.proofs.Common.{◌∙◌, Ok, sym, true≢false}
+use Rattle.map_model.specs.declared.call.Refusal.TheVariants as refusal
+use Rattle.row_ends.proofs.EndSteps.{latch_steps}
+use Rattle.row_ends.proofs.MissLemmas.{holds_missed}
+use Rattle.row_ends.proofs.OutcomeLemmas.{cause_as, commits_err, commits_ok, commits_steps, ok_err}
+use Rattle.row_ends.proofs.commits.commit_tested.Goals as goal
+
+pub returns-then-not-latch_held-clause-holds : goal.returns-then-not-latch_held-clause-holds
+returns-then-not-latch_held-clause-holds g c _ =
+    let m = c.latch_held.ensures.missed c.if-not-latch_held.true in
+    holds_missed (g.R.Rows.shape c.args.rows.now) (g.R.Rows.shape c.latch_held.new.rows) (g.R.Rows.view c.args.seat.now) (g.R.Rows.view c.latch_held.new.seat) c.args.work.now.session c.args.work.now.log c.latch_held.ensures.fits.1 m.0 c.requires.holds
+
+pub returns-then-not-latch_held-clause-steps : goal.returns-then-not-latch_held-clause-steps
+returns-then-not-latch_held-clause-steps g c _ =
+    latch_steps c.args.work.now.session.own _ (g.R.Rows.view c.args.seat.now) (g.R.Rows.view c.latch_held.new.seat) (c.latch_held.ensures.missed c.if-not-latch_held.true).0
+
+pub returns-in-Ok-clause-commits : goal.returns-in-Ok-clause-commits
+returns-in-Ok-clause-commits g c =
+    let l = c.latch_held.ensures.latched c.if-not-latch_held.false in
+    commits_ok g.D.Disk.story (g.R.Rows.view c.args.seat.now) (g.R.Rows.view c.latch_held.new.seat) (g.R.Rows.view c.finish.new.seat) c.args.work.now.session c.finish.new.work.session c.args.work.now.log c.finish.new.work.log c.args.work.now.disk c.finish.new.work.disk l.given l.seen c.in-Ok.ended c.in-Ok.ensures.commits
+
+pub returns-in-Ok-clause-steps : goal.returns-in-Ok-clause-steps
+returns-in-Ok-clause-steps g c _ =
+    let l = c.latch_held.ensures.latched c.if-not-latch_held.false in
+    commits_steps g.D.Disk.story (Ok c.in-Ok.ended) (g.R.Rows.view c.args.seat.now) (g.R.Rows.view c.finish.new.seat) c.args.work.now.session c.finish.new.work.session c.args.work.now.log c.finish.new.work.log c.args.work.now.disk c.finish.new.work.disk
+    (commits_ok g.D.Disk.story (g.R.Rows.view c.args.seat.now) (g.R.Rows.view c.latch_held.new.seat) (g.R.Rows.view c.finish.new.seat) c.args.work.now.session c.finish.new.work.session c.args.work.now.log c.finish.new.work.log c.args.work.now.disk c.finish.new.work.disk l.given l.seen c.in-Ok.ended c.in-Ok.ensures.commits) (ok_err c.in-Ok.ended refusal.DiskFault)
+
+pub returns-in-Ok-clause-cause_disk_fault : goal.returns-in-Ok-clause-cause_disk_fault
+returns-in-Ok-clause-cause_disk_fault g c = cause_as _ _ _ _ (λ i. absurd (true≢false (sym i))) (λ q. absurd (ok_err c.in-Ok.ended refusal.DiskFault q)) c.in-Ok.ensures.cause_disk_fault
+
+pub returns-in-Err-clause-commits : goal.returns-in-Err-clause-commits
+returns-in-Err-clause-commits g c =
+    let l = c.latch_held.ensures.latched c.if-not-latch_held.false in
+    commits_err g.D.Disk.story (g.R.Rows.view c.args.seat.now) (g.R.Rows.view c.latch_held.new.seat) (g.R.Rows.view c.finish.new.seat) c.args.work.now.session c.finish.new.work.session c.args.work.now.log c.finish.new.work.log c.args.work.now.disk c.finish.new.work.disk l.given l.seen c.in-Err.ensures.commits
+
+pub returns-in-Ok-clause-unmarked : goal.returns-in-Ok-clause-unmarked
+returns-in-Ok-clause-unmarked g c works = c.in-Ok.ensures.unmarked works ∙ sym c.requires.unmarked

@@ -1,0 +1,10 @@
+use Rattle.std.proofs.Common.{◌≡◌}
+use Rattle.row_ends.specs.Ends.{AreMarkedTo, Latching}
+use Rattle.row_ends.proofs.latching.latch_rows.Given as goal
+
+abbrev pub invariant-loop-at : goal.invariant-loop-at
+invariant-loop-at g l = record {
+  fits : g.R.Rows.fits l.rows l.seat × (g.R.Rows.shape l.rows ≡ g.R.Rows.shape l.fn.rows);
+  latching : Latching l.fn.session.frames l.fn.session.held l.latches (g.R.Rows.view l.fn.seat) (g.R.Rows.view l.seat);
+  all : AreMarkedTo l.at l.fn.session.held.rows l.latches;
+}

@@ -1,9 +1,0 @@
-use Rattle.std.proofs.Common.{◌≡◌}
-use Rattle.row_engine.specs.Inside.Ends.{Giving}
-use Rattle.row_engine.proofs.commits.unlock_rows.Given as goal
-
-abbrev pub invariant-loop-at : goal.invariant-loop-at
-invariant-loop-at g l = record {
-  fits : g.R.Rows.fits l.rows l.seat × (g.R.Rows.shape l.rows ≡ g.R.Rows.shape l.fn.rows);
-  giving : Giving l.fn.session.own l.fn.session.frames l.fn.session.held l.at l.latches (g.R.Rows.view l.fn.seat) (g.R.Rows.view l.seat);
-}

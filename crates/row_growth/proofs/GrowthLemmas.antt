@@ -1,0 +1,295 @@
+-- A change of the tree that was staged: what holds behind it, and what was done.
+use Rattle.std.proofs.Common.{◌≡◌, ◌↔◌, ◌≤◌, ◌<◌, ◌++◌, ◌&&◌, ◌==◌, ltb, ℕ, suc, Bool, true, false, cond, List, [], ◌∷◌, length, None, Ok, refl, sym, ap, ◌∙◌, subst, arith, true≢false, eq-eqb, append-nil}
+use Rattle.map_model.specs.Lists.{Has, keep}
+use Rattle.map_model.proofs.ListLemmas.{upd_same}
+use Rattle.page_model.specs.Records as records
+use Rattle.page_model.specs.Tree.{IsTree}
+use Rattle.image_model.specs.Entries.{Entry, Kind, is_commit}
+use Rattle.core_state.specs.Needs.{holds_row, may}
+use Rattle.core_state.specs.Openings.{Opening}
+use Rattle.core_state.specs.States.{Place, State, Worker, in_frame, nodes_of}
+use Rattle.core_state.specs.Steps.{at_pages, happens, moves, page_entry, records_in}
+use Rattle.core_calls.specs.LogEvents.{behind}
+use Rattle.core_calls.specs.Warms.{IsWarmFrom}
+use Rattle.core_calls.specs.Room.{free_list, room_takes}
+use Rattle.lean_disk.specs.Story.{Story}
+use Rattle.log_record.specs.declared.record.Record.{Record}
+use Rattle.disk_image.specs.Records.{entry_of}
+use Rattle.worker_log.specs.Logs.{Log}
+use Rattle.row_words.specs.declared.event.Event.{Event}
+use Rattle.row_words.specs.declared.event.Event.TheVariants as event
+use Rattle.row_words.specs.declared.given.Given.{Given}
+use Rattle.row_words.specs.Moments.{Moment, event_of}
+use Rattle.row_words.specs.Openings.{opening}
+use Rattle.row_words.specs.Sealed.{begun}
+use Rattle.row_words.proofs.SealedLemmas.{run_append}
+use Rattle.rows_trait.specs.Causes.{EveryLow}
+use Rattle.rows_trait.specs.Views.{AreLow, Shape, after_all, state}
+use Rattle.rows_trait.specs.declared.view.View.{View}
+use Rattle.btree_descent.specs.Known.{Sound}
+use Rattle.btree_descent.specs.Puts.{Onward, clock_in}
+use Rattle.btree_smo.specs.Outcomes.{Caused, Changed, IsHotIn, Missed, WasSo}
+use Rattle.btree_smo.specs.declared.outcome.Outcome.TheVariants.{RowSpent}
+use Rattle.engine_trait.specs.Refusals.{room_refusal}
+use Rattle.engine_trait.specs.Rooms.{IsNextRoom}
+use Rattle.flush_avoidance.specs.Clocks.{risen}
+use Rattle.session_state.specs.Free.{without_first}
+use Rattle.session_state.specs.Holds.{AreNumbers, Holds, IsOf}
+use Rattle.row_changes.specs.Puts.{MayChange}
+use Rattle.session_state.specs.Undo.{HasHand, HasRoomToStage, undo_of}
+use Rattle.row_growth.specs.Rooms.{IsGrown, IsGrowth, IsSpentBehind}
+use Rattle.session_state.specs.Staging.{Staging}
+use Rattle.session_state.specs.declared.session.Session.{Session}
+use Rattle.session_state.proofs.HoldLemmas.{rows_on}
+use Rattle.row_changes.proofs.TouchLemmas.{Touched, touched}
+use Rattle.row_changes.proofs.Misses.{misses_core}
+use Rattle.row_changes.proofs.PutLemmas.{floor_same, same_flushed}
+use Rattle.row_changes.proofs.SeenLemmas.{ran_seen, seen_core}
+use Rattle.session_state.proofs.UndoLemmas.{hand_after, room_after, room_kept, room_to_end, room_to_undo}
+
+-- ## Moments of a call, where nobody else steps
+
+-- the moment is that of the view at which the call began
+pub now_is : (alone : Bool) (v w : View) (past : List Event) → alone ≡ true → w.given ≡ v.given → Onward alone v past → after_all w.given past ≡ state v
+now_is alone v w past is given o =
+    let whole : past ≡ v.seen = o.whole ∙ (ap (λ ys. v.seen ++ ys) (o.quiet is) ∙ append-nil v.seen) in
+    λ i. after_all (given i) (whole i)
+
+-- so what was so at some moment is so there
+pub was_then : (alone : Bool) (v w : View) (P : Moment → Type 0) → alone ≡ true → w.given ≡ v.given → WasSo alone v w P → P (state v)
+was_then alone v w P is given so = subst P (now_is alone v w so.past is given so.onward) so.so
+
+pub missed_core : (alone : Bool) (v w : View) → alone ≡ true → Missed alone v w → (state w).core ≡ (state v).core
+missed_core alone v w is m =
+    ap (λ n. n.core) ((λ i. after_all (m.ran.given i) (ran_seen alone v w m.events is m.ran i)) ∙ run_append v.given (begun v.given) v.seen m.events)
+    ∙ misses_core v.given (state v) m.events m.misses
+
+-- ## Where the core is as it was
+
+pub holds_same : (z : Shape) (v w : View) (x : Session) (log : Log) → w.given ≡ v.given → (state w).core ≡ (state v).core → w.held ≡ [] → Holds z v x log → Holds z w x log
+holds_same z v w x log given core held h = record {
+  alone = h.alone;
+  idle = held;
+  rows = rows_on z v w x.own x.workers x.frames x.held.count given h.rows;
+  session = subst (λ s. IsOf x (s.worker x.own)) (sym core) h.session;
+  numbers = h.numbers;
+  flushed = ap (λ s. s.flushed x.own) core ∙ h.flushed;
+  floor = floor_same v w x.clock.floor given (ap (λ s. s.flushed) core) h.floor;
+  behind = ap (λ s. behind s x.own) core ∙ h.behind;
+  held = λ i. subst (λ s. holds_row (s.row i) x.own ≡ true ↔ Has i x.held.rows) (sym core) (h.held i);
+  within = h.within;
+  fewer = h.fewer;
+  none = h.none;
+  free = h.free ∙ (λ i. free_list (opening (sym given i)) (sym core i));
+  spare = h.spare;
+}
+
+-- a version that was found is low, so many events were seen
+pub spent_behind : EveryLow → (alone : Bool) (v w : View) (row : ℕ) → alone ≡ true → AreLow (length w.seen) w.steps → Missed alone v w → Caused v (RowSpent row) w → IsSpentBehind v w
+spent_behind low alone v w row is are m c = record {
+  misses = m.events;
+  are_misses = m.misses;
+  few = m.few;
+  given = m.ran.given;
+  seen = ran_seen alone v w m.events is m.ran;
+  many =
+      let a = low (length w.seen) c.2.since.acts v.steps row c.0 (subst (AreLow (length w.seen)) c.2.since.steps are) c.2.finds in
+      let b = c.1 in
+      omega arith;
+}
+
+-- ## Where each page stands
+
+module _ (z : Shape) (v : View) (x : Session) (log : Log) (h : Holds z v x log) where
+  pub sound : Sound v.given (state v)
+  sound = h.rows.tree_sound v.seen
+
+  in_it : (p frame : ℕ) → (state v).core.place p ≡ Place.Hot frame → in_frame ((state v).core.place p) frame ≡ true
+  in_it p frame hot = ap (λ k. in_frame k frame) hot ∙ eq-eqb frame frame refl
+
+  -- one page stands in a frame
+  pub one_in : (p q frame : ℕ) → (state v).core.place p ≡ Place.Hot frame → (state v).core.place q ≡ Place.Hot frame → p ≡ q
+  one_in p q frame a b = sound.residence.one p q frame (in_it p frame a) (in_it q frame b)
+
+  -- it is one of the disk's pages
+  pub hot_in : (p frame : ℕ) → (state v).core.place p ≡ Place.Hot frame → IsHotIn v.given (state v) frame p
+  hot_in p frame hot = record { below = (sound.residence.within p frame (in_it p frame hot)).0; hot = hot }
+
+  -- and the frame one of the rows'
+  pub framed : (p frame : ℕ) → (state v).core.place p ≡ Place.Hot frame → frame < x.frames
+  framed p frame hot =
+      let within = (sound.residence.within p frame (in_it p frame hot)).1 in
+      let given = h.rows.tree.given in
+      omega arith
+
+-- ## What it leaves as it was
+
+-- no page is moved, and no lock row changes
+pub record Leaves (s t : State) : Type 0 where
+  pub place : t.place ≡ s.place
+  pub row : (i : ℕ) → t.row i ≡ s.row i
+
+pub growth_leaves : (own : ℕ) (g : Opening) (s : State) (e : Event) → IsGrowth own e → Leaves s (happens g s (event_of e))
+growth_leaves own g s (event.Split w l r q i) a = record { place = refl; row = λ j. refl }
+growth_leaves own g s (event.Lift w c) a = record { place = refl; row = λ j. refl }
+growth_leaves own g s _ a = absurd a
+
+-- ## Behind a change
+
+module _ (z : Shape) (v w : View) (x : Session) (log : Log) (h : Holds z v x log) (key : ℕ) (f : MayChange v x log key) (kind : Kind) (no_commit : is_commit kind ≡ false) (e : Event) (ps : List ℕ) (made : records.Record) (entry_in : State → Entry)
+    (rs now : List Record) (y : Session) (log_now : Log) (d : Changed z.alone x.own e entry_in v rs w y.clock now)
+    (does : happens (opening v.given) (state v).core (event_of e) ≡ moves (state v).core kind x.own ps made)
+    (enters : entry_in (state v).core ≡ page_entry kind (state v).core x.own (at_pages (state v).core x.own ((state v).core.worker x.own) ps) ps made) where
+  abbrev s : State
+  s = (state v).core
+
+  -- the worker has met the stamps of the pages
+  abbrev a : Worker
+  a = at_pages s x.own (s.worker x.own) ps
+
+  met_by : Touched (s.worker x.own) a
+  met_by = touched s x.own (s.worker x.own) ps
+
+  abbrev r : Entry
+  r = page_entry kind s x.own a ps made
+
+  -- and has taken the next number
+  abbrev b : Worker
+  b = record a { clock = r.number; changes = a.changes }
+
+  abbrev t : State
+  t = records_in s x.own a r a.changes
+
+  then_is : after_all w.given d.past ≡ state v
+  then_is = now_is z.alone v w d.past h.alone d.ran.given d.onward
+
+  past_is : d.past ≡ v.seen
+  past_is = d.onward.whole ∙ (ap (λ ys. v.seen ++ ys) (d.onward.quiet h.alone) ∙ append-nil v.seen)
+
+  pub seen_is : w.seen ≡ v.seen ++ e ∷ []
+  seen_is = ran_seen z.alone v w (e ∷ []) h.alone d.ran
+
+  pub met : may (opening v.given) s (event_of e) ≡ true
+  met = (λ i. may (opening (sym d.ran.given i)) (sym then_is i).core (event_of e)) ∙ d.met
+
+  happened : (state w).core ≡ happens (opening v.given) s (event_of e)
+  happened = seen_core v w e d.ran.given seen_is met
+
+  core_is : (state w).core ≡ t
+  core_is = happened ∙ does
+
+  worker_is : t.worker x.own ≡ b
+  worker_is = upd_same s.worker x.own b x.own refl
+
+  clock_of : y.clock ≡ clock_in b
+  clock_of = d.clock ∙ ((λ i. clock_in ((after_all w.given ((ap (λ ys. ys ++ e ∷ []) past_is ∙ sym seen_is) i)).core.worker x.own)) ∙ (ap (λ k. clock_in (k.worker x.own)) core_is ∙ ap clock_in worker_is))
+
+  pub clock_rises : x.clock.clock < y.clock.clock
+  clock_rises = let e = ap (λ c. c.clock) clock_of in let q = h.session.clock in let k = met_by.clock in omega arith
+
+  -- which is no commit
+  abbrev waiting : List Entry
+  waiting = keep (λ q. is_commit q.kind && ((q.log == x.own) && ltb (s.flushed x.own) q.number)) s.entries
+
+  behind_on : behind t x.own ≡ x.unflushed
+  behind_on = (λ i. length (cond (no_commit i && ((r.log == x.own) && ltb (s.flushed x.own) r.number)) (r ∷ waiting) waiting)) ∙ h.behind
+
+  module _ (old new : Story) (S : Type 0) (f0 f1 : ℕ) (held : w.held ≡ []) (st : Staging (Ok tt) x y rs now log log_now old new S f0 f1) (last : log_now.last ≡ y.clock.clock)
+      (page : ℕ) (rest : List ℕ) (least : x.free ≡ page ∷ rest) (left : free_list (opening v.given) (happens (opening v.given) s (event_of e)) ≡ rest) where
+    abbrev u : Session
+    u = record x { clock = risen x.clock y.clock; free = rest }
+
+    flushed_is : log_now.flushed ≡ log.flushed
+    flushed_is = same_flushed st.came.entry log log_now st.came.after
+
+    session_on : IsOf u b
+    session_on = record {
+      is_open = met_by.is_open ∙ h.session.is_open;
+      txn = met_by.txn ∙ h.session.txn;
+      clock = sym (ap (λ c. c.clock) clock_of);
+      floor = met_by.floor ∙ h.session.floor;
+      debt = sym (ap (λ c. c.debt) clock_of);
+      end = met_by.end ∙ h.session.end;
+      undo = ap undo_of met_by.changes ∙ h.session.undo;
+    }
+
+    -- what is still to come finds room
+    room_on : HasRoomToStage log_now (room_takes (opening v.given) s key)
+    room_on = room_after st.came.entry log log_now (room_takes (opening v.given) s key) st.came.short st.came.after h.numbers.hand f.room
+
+    hand_on : HasHand log_now
+    hand_on = hand_after st.came.entry log log_now st.came.after
+
+    numbers_on : AreNumbers u log_now
+    numbers_on = record {
+      last = omega arith;
+      order = let q = flushed_is in let b = h.numbers.order in let c = h.numbers.last in let k = clock_rises in omega arith;
+      end = let b = h.numbers.end in let k = clock_rises in omega arith;
+      room = λ _. room_to_end log_now _ room_on;
+      closed_txn = λ q. absurd (true≢false (sym f.is_open ∙ q));
+      txn = let b = h.numbers.txn in let k = clock_rises in omega arith;
+      undo_room = λ _. room_to_undo log_now (length x.undo) hand_on (room_kept log_now _ room_on) h.numbers.few;
+      flush_room = λ _ _. room_kept log_now _ room_on;
+      hand = hand_on;
+      few = h.numbers.few;
+      behind = h.numbers.behind;
+    }
+
+    after_growth : Holds z w u log_now
+    after_growth = record {
+      alone = h.alone;
+      idle = held;
+      rows = rows_on z v w x.own x.workers x.frames x.held.count d.ran.given h.rows;
+      session = subst (λ k. IsOf u (k.worker x.own)) (sym core_is) (subst (λ k. IsOf u k) (sym worker_is) session_on);
+      numbers = numbers_on;
+      flushed = ap (λ k. k.flushed x.own) core_is ∙ (h.flushed ∙ sym flushed_is);
+      floor = floor_same v w x.clock.floor d.ran.given (ap (λ k. k.flushed) core_is) h.floor;
+      behind = ap (λ k. behind k x.own) core_is ∙ behind_on;
+      held = λ i. subst (λ k. holds_row (k.row i) x.own ≡ true ↔ Has i x.held.rows) (sym core_is) (h.held i);
+      within = h.within;
+      fewer = h.fewer;
+      none = h.none;
+      free = sym ((λ i. free_list (opening (d.ran.given i)) (happened i)) ∙ left);
+      spare = let k = h.spare in let q = ap length least in omega arith;
+    }
+
+    free_is : without_first y.free ≡ rest
+    free_is = ap (λ k. without_first k.free) st.session ∙ ap without_first least
+
+    pub holds_grown : Holds z w (record y { free = without_first y.free }) log_now
+    holds_grown = subst (λ k. Holds z w k log_now) (λ i. record (sym st.session i) { free = sym free_is i }) after_growth
+
+    staged_is : entry_of x.own st.came.entry ≡ entry_in s
+    staged_is = ap (entry_of x.own) same ∙ (d.staged.2 ∙ ap (λ m. entry_in m.core) then_is)
+      where
+        same : st.came.entry ≡ d.staged.0
+        same = let told = st.came.told in let staged = d.staged.1 in cc
+
+    pub grown : IsGrowth x.own e → IsNextRoom x.own (opening v.given) s key (event_of e) → room_refusal (opening v.given) s key ≡ None
+        → (IsWarmFrom (opening v.given) s key 0 → IsWarmFrom (opening v.given) (happens (opening v.given) s (event_of e)) key 0)
+        → (IsTree (opening v.given).format (nodes_of (happens (opening v.given) s (event_of e))) → room_takes (opening v.given) (happens (opening v.given) s (event_of e)) key < room_takes (opening v.given) s key)
+        → IsGrown key v w x (record y { free = without_first y.free }) log log_now old new
+    grown growth next fits warm_now fewer_now = record {
+      event = e;
+      growth = growth;
+      given = d.ran.given;
+      seen = seen_is;
+      met = met;
+      next = next;
+      fits = fits;
+      entry = st.came.entry;
+      entry_is = ap (λ k. k.entries) does ∙ ap (λ t. t ∷ s.entries) (sym enters ∙ sym staged_is);
+      after = st.came.after;
+      stands = st.came.stands;
+      keeps = st.came.keeps;
+      short = st.came.short;
+      session = ap (λ (k : Session). record k { free = without_first y.free }) st.session;
+      fewer = ap (λ l. suc (length l)) free_is ∙ sym (ap length least);
+      takes =
+          let now : room_takes (opening w.given) (state w).core key ≡ room_takes (opening v.given) (happens (opening v.given) s (event_of e)) key = (λ i. room_takes (opening (d.ran.given i)) (happened i) key) in
+          let tree = subst (λ (k : Given). IsTree (opening k).format (nodes_of (state w).core)) d.ran.given (sound z w u log_now after_growth).tree in
+          let less = fewer_now (subst (λ k. IsTree (opening v.given).format (nodes_of k)) happened tree) in
+          omega arith;
+      stays = ap (λ k. k.place) happened ∙ (growth_leaves x.own (opening v.given) s e growth).place;
+      warm = λ hot. subst (λ (k : Given). IsWarmFrom (opening k) (state w).core key 0) (sym d.ran.given) (subst (λ k. IsWarmFrom (opening v.given) k key 0) (sym happened) (warm_now hot));
+    }

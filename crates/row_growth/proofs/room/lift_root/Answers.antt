@@ -1,0 +1,82 @@
+use Rattle.std.proofs.Common.{◌≡◌, ◌∙◌, refl, sym, ap, subst, Err}
+use Rattle.std.specs.Prelude.{Result}
+use Rattle.map_model.specs.declared.call.Refusal.{Refusal}
+use Rattle.map_model.specs.declared.call.Refusal.TheVariants as refusal
+use Rattle.lean_disk.specs.Faults.{HasCause}
+use Rattle.row_growth.specs.Rooms.{session_after}
+use Rattle.row_growth.proofs.ChangeLemmas.{faults_told, session_kept}
+use Rattle.row_growth.proofs.GrowthLemmas.{framed}
+use Rattle.row_changes.proofs.PutLemmas.{holds_as}
+use Rattle.row_growth.proofs.LiftLemmas.{lift_expected, lift_answered, lift_holds, lift_apart}
+use Rattle.row_growth.proofs.room.lift_root.Goals as goal
+
+pub lift-outcome-requires-clause-frame : goal.lift-outcome-requires-clause-frame
+lift-outcome-requires-clause-frame g c =
+    framed (g.R.Rows.shape c.args.rows.now) (g.R.Rows.view c.args.seat.now) c.args.work.now.session c.args.work.now.log c.requires.holds c.requires.can.page c.args.frame c.requires.can.stands
+
+pub finish-requires : goal.finish-requires
+finish-requires g c =
+    let z = g.R.Rows.shape c.args.rows.now in
+    let v = g.R.Rows.view c.args.seat.now in
+    let w = g.R.Rows.view c.lift-outcome.new.seat in
+    let x = c.args.work.now.session in
+    let y = c.lift-outcome.new.draw.session in
+    lift_expected c.every_room.ensures z v w x y c.args.work.now.log c.lift-outcome.new.draw.log c.requires.holds c.args.key c.requires.may c.next_fits.ensures c.args.frame c.requires.can
+    c.args.work.now.staged.list c.lift-outcome.new.draw.staged.list (g.D.Disk.story c.args.work.now.disk) (g.D.Disk.story c.lift-outcome.new.draw.disk) (c.lift-outcome.new.draw.disk ≡ c.args.work.now.disk) (c.lift-outcome.new.draw ≡ c.args.work.now) (g.D.Disk.faults c.args.work.now.disk) (g.D.Disk.faults c.lift-outcome.new.draw.disk)
+    c.lift-outcome.result c.lift-outcome.ensures.raised c.lift-outcome.ensures.drew (c.lift-outcome.ensures.quiet c.requires.holds.alone (lift_apart c.every_room.ensures z v w x y c.args.work.now.log c.lift-outcome.new.draw.log c.requires.holds c.args.key c.requires.may c.next_fits.ensures c.args.frame c.requires.can
+    c.args.work.now.staged.list c.lift-outcome.new.draw.staged.list (g.D.Disk.story c.args.work.now.disk) (g.D.Disk.story c.lift-outcome.new.draw.disk) (c.lift-outcome.new.draw.disk ≡ c.args.work.now.disk) (c.lift-outcome.new.draw ≡ c.args.work.now) (g.D.Disk.faults c.args.work.now.disk) (g.D.Disk.faults c.lift-outcome.new.draw.disk)))
+
+pub returns-clause-holds : goal.returns-clause-holds
+returns-clause-holds g c works =
+    let z = g.R.Rows.shape c.args.rows.now in
+    let v = g.R.Rows.view c.args.seat.now in
+    let w = g.R.Rows.view c.lift-outcome.new.seat in
+    let x = c.args.work.now.session in
+    let y = c.lift-outcome.new.draw.session in
+    let after = c.finish.ensures.after in
+    holds_as z (g.R.Rows.shape c.lift-outcome.new.rows) w (session_after c.lift-outcome.result y) c.finish.new.session c.lift-outcome.new.draw.log c.lift-outcome.new.draw.log c.lift-outcome.ensures.fits.1 after refl
+    (lift_holds c.every_room.ensures z v w x y c.args.work.now.log c.lift-outcome.new.draw.log c.requires.holds c.args.key c.requires.may c.next_fits.ensures c.args.frame c.requires.can
+    c.args.work.now.staged.list c.lift-outcome.new.draw.staged.list (g.D.Disk.story c.args.work.now.disk) (g.D.Disk.story c.lift-outcome.new.draw.disk) (c.lift-outcome.new.draw.disk ≡ c.args.work.now.disk) (c.lift-outcome.new.draw ≡ c.args.work.now) (g.D.Disk.faults c.args.work.now.disk) (g.D.Disk.faults c.lift-outcome.new.draw.disk)
+    c.every_low.ensures c.versions.ensures.low c.lift-outcome.ensures.fits.2
+    (λ e. ap (λ k. k.session) e) (λ e. ap (λ k. k.log) e) c.lift-outcome.result (lift_expected c.every_room.ensures z v w x y c.args.work.now.log c.lift-outcome.new.draw.log c.requires.holds c.args.key c.requires.may c.next_fits.ensures c.args.frame c.requires.can
+    c.args.work.now.staged.list c.lift-outcome.new.draw.staged.list (g.D.Disk.story c.args.work.now.disk) (g.D.Disk.story c.lift-outcome.new.draw.disk) (c.lift-outcome.new.draw.disk ≡ c.args.work.now.disk) (c.lift-outcome.new.draw ≡ c.args.work.now) (g.D.Disk.faults c.args.work.now.disk) (g.D.Disk.faults c.lift-outcome.new.draw.disk)
+    c.lift-outcome.result c.lift-outcome.ensures.raised c.lift-outcome.ensures.drew (c.lift-outcome.ensures.quiet c.requires.holds.alone (lift_apart c.every_room.ensures z v w x y c.args.work.now.log c.lift-outcome.new.draw.log c.requires.holds c.args.key c.requires.may c.next_fits.ensures c.args.frame c.requires.can
+    c.args.work.now.staged.list c.lift-outcome.new.draw.staged.list (g.D.Disk.story c.args.work.now.disk) (g.D.Disk.story c.lift-outcome.new.draw.disk) (c.lift-outcome.new.draw.disk ≡ c.args.work.now.disk) (c.lift-outcome.new.draw ≡ c.args.work.now) (g.D.Disk.faults c.args.work.now.disk) (g.D.Disk.faults c.lift-outcome.new.draw.disk)))) c.lift-outcome.ensures.raised c.lift-outcome.ensures.drew c.lift-outcome.ensures.last (ap (λ k. k.works) (sym after) ∙ works))
+
+pub returns-clause-grew : goal.returns-clause-grew
+returns-clause-grew g c =
+    let z = g.R.Rows.shape c.args.rows.now in
+    let v = g.R.Rows.view c.args.seat.now in
+    let w = g.R.Rows.view c.lift-outcome.new.seat in
+    let x = c.args.work.now.session in
+    let y = c.lift-outcome.new.draw.session in
+    let after = c.finish.ensures.after in
+    lift_answered c.every_room.ensures z v w x y c.args.work.now.log c.lift-outcome.new.draw.log c.requires.holds c.args.key c.requires.may c.next_fits.ensures c.args.frame c.requires.can
+    c.args.work.now.staged.list c.lift-outcome.new.draw.staged.list (g.D.Disk.story c.args.work.now.disk) (g.D.Disk.story c.lift-outcome.new.draw.disk) (c.lift-outcome.new.draw.disk ≡ c.args.work.now.disk) (c.lift-outcome.new.draw ≡ c.args.work.now) (g.D.Disk.faults c.args.work.now.disk) (g.D.Disk.faults c.lift-outcome.new.draw.disk)
+    c.every_low.ensures c.versions.ensures.low c.lift-outcome.ensures.fits.2
+    _ _ c.lift-outcome.result (lift_expected c.every_room.ensures z v w x y c.args.work.now.log c.lift-outcome.new.draw.log c.requires.holds c.args.key c.requires.may c.next_fits.ensures c.args.frame c.requires.can
+    c.args.work.now.staged.list c.lift-outcome.new.draw.staged.list (g.D.Disk.story c.args.work.now.disk) (g.D.Disk.story c.lift-outcome.new.draw.disk) (c.lift-outcome.new.draw.disk ≡ c.args.work.now.disk) (c.lift-outcome.new.draw ≡ c.args.work.now) (g.D.Disk.faults c.args.work.now.disk) (g.D.Disk.faults c.lift-outcome.new.draw.disk)
+    c.lift-outcome.result c.lift-outcome.ensures.raised c.lift-outcome.ensures.drew (c.lift-outcome.ensures.quiet c.requires.holds.alone (lift_apart c.every_room.ensures z v w x y c.args.work.now.log c.lift-outcome.new.draw.log c.requires.holds c.args.key c.requires.may c.next_fits.ensures c.args.frame c.requires.can
+    c.args.work.now.staged.list c.lift-outcome.new.draw.staged.list (g.D.Disk.story c.args.work.now.disk) (g.D.Disk.story c.lift-outcome.new.draw.disk) (c.lift-outcome.new.draw.disk ≡ c.args.work.now.disk) (c.lift-outcome.new.draw ≡ c.args.work.now) (g.D.Disk.faults c.args.work.now.disk) (g.D.Disk.faults c.lift-outcome.new.draw.disk)))) c.lift-outcome.ensures.raised c.lift-outcome.ensures.drew c.lift-outcome.ensures.cause c.lift-outcome.ensures.last
+    (λ row e s. (λ i. record c.lift-outcome.new.draw { session = (after ∙ ap (λ k. session_after k y) e) i }) ∙ s)
+    (λ why e. ap (λ k. k.works) after ∙ ap (λ k. (session_after k y).works) e)
+    c.finish.result c.finish.new.session c.finish.ensures.answer after
+
+pub returns-clause-cause_disk_fault : goal.returns-clause-cause_disk_fault
+returns-clause-cause_disk_fault g c =
+    let z = g.R.Rows.shape c.args.rows.now in
+    let v = g.R.Rows.view c.args.seat.now in
+    let w = g.R.Rows.view c.lift-outcome.new.seat in
+    let x = c.args.work.now.session in
+    let y = c.lift-outcome.new.draw.session in
+    subst (λ (r : Result (Unit {0}) Refusal). HasCause (g.D.Disk.faults c.args.work.now.disk) (g.D.Disk.faults c.lift-outcome.new.draw.disk) (r ≡ Err refusal.DiskFault)) (sym c.finish.ensures.answer)
+    (faults_told x y c.args.work.now.staged.list c.lift-outcome.new.draw.staged.list c.args.work.now.log c.lift-outcome.new.draw.log (g.D.Disk.story c.args.work.now.disk) (g.D.Disk.story c.lift-outcome.new.draw.disk) (c.lift-outcome.new.draw.disk ≡ c.args.work.now.disk) (c.lift-outcome.new.draw ≡ c.args.work.now)
+    (g.D.Disk.faults c.args.work.now.disk) (g.D.Disk.faults c.lift-outcome.new.draw.disk) (λ e. ap (λ k. g.D.Disk.faults k.disk) e) c.lift-outcome.result (lift_expected c.every_room.ensures z v w x y c.args.work.now.log c.lift-outcome.new.draw.log c.requires.holds c.args.key c.requires.may c.next_fits.ensures c.args.frame c.requires.can
+    c.args.work.now.staged.list c.lift-outcome.new.draw.staged.list (g.D.Disk.story c.args.work.now.disk) (g.D.Disk.story c.lift-outcome.new.draw.disk) (c.lift-outcome.new.draw.disk ≡ c.args.work.now.disk) (c.lift-outcome.new.draw ≡ c.args.work.now) (g.D.Disk.faults c.args.work.now.disk) (g.D.Disk.faults c.lift-outcome.new.draw.disk)
+    c.lift-outcome.result c.lift-outcome.ensures.raised c.lift-outcome.ensures.drew (c.lift-outcome.ensures.quiet c.requires.holds.alone (lift_apart c.every_room.ensures z v w x y c.args.work.now.log c.lift-outcome.new.draw.log c.requires.holds c.args.key c.requires.may c.next_fits.ensures c.args.frame c.requires.can
+    c.args.work.now.staged.list c.lift-outcome.new.draw.staged.list (g.D.Disk.story c.args.work.now.disk) (g.D.Disk.story c.lift-outcome.new.draw.disk) (c.lift-outcome.new.draw.disk ≡ c.args.work.now.disk) (c.lift-outcome.new.draw ≡ c.args.work.now) (g.D.Disk.faults c.args.work.now.disk) (g.D.Disk.faults c.lift-outcome.new.draw.disk)))) c.lift-outcome.ensures.drew)
+
+pub returns-clause-session : goal.returns-clause-session
+returns-clause-session g c =
+    session_kept c.args.work.now.session c.lift-outcome.new.draw.session c.args.work.now.staged.list c.lift-outcome.new.draw.staged.list c.args.work.now.log c.lift-outcome.new.draw.log (g.D.Disk.story c.args.work.now.disk) (g.D.Disk.story c.lift-outcome.new.draw.disk) (c.lift-outcome.new.draw.disk ≡ c.args.work.now.disk) (c.lift-outcome.new.draw ≡ c.args.work.now)
+    (g.D.Disk.faults c.args.work.now.disk) (g.D.Disk.faults c.lift-outcome.new.draw.disk) (λ e. ap (λ k. k.session) e) c.lift-outcome.result c.lift-outcome.ensures.drew c.finish.new.session c.finish.ensures.after

@@ -1,0 +1,76 @@
+-- What a put does behind the taking of its row, step by step, by answer.
+use Rattle.std.specs.Prelude.{◌≡◌, ◌≤◌, ◌<◌, ◌^◌, ℕ, Option, None, Some, Result, Ok, Err}
+use Rattle.map_model.specs.declared.call.Refusal.{Refusal}
+use Rattle.map_model.specs.declared.call.Refusal.TheVariants as refusal
+use Rattle.lean_disk.specs.Story.{Story}
+use Rattle.row_words.specs.Openings.{opening}
+use Rattle.rows_trait.specs.declared.view.View.{View}
+use Rattle.rows_trait.specs.Views.{state}
+use Rattle.worker_log.specs.Logs.{Log}
+use Rattle.engine_trait.specs.Refusals.{room_refusal}
+use Rattle.session_state.specs.Staging.{KeepsLog}
+use Rattle.session_state.specs.declared.session.Session.{Session}
+use Rattle.row_changes.specs.Paths.{IsUnfit}
+use Rattle.row_changes.specs.Puts.{IsChanged, MayChange}
+use Rattle.row_changes.specs.Ways.{HasMetCold}
+use Rattle.row_changes.specs.declared.ways.Unmade.{Unmade}
+use Rattle.row_changes.specs.declared.ways.Unmade.TheVariants as unmade
+use Rattle.row_growth.specs.Rooms.{IsGrown, IsNeeded, IsSpentBehind}
+use Rattle.row_growth.specs.declared.room.Placed.{Placed}
+use Rattle.row_growth.specs.declared.steps.Stepped.{Stepped}
+use Rattle.row_growth.specs.declared.steps.Stepped.TheVariants as stepped
+
+-- ## One step
+
+-- nothing was seen; the leaf is full, and there can be no room
+pub record Crowded (key : ℕ) (why : Refusal) (v w : View) (clock : ℕ) : Type 0 where
+  pub given : w.given ≡ v.given
+  pub seen : w.seen ≡ v.seen
+  pub leaf : ℕ
+  pub unfit : IsUnfit w key leaf
+  pub ready : clock < 2 ^ 62
+  pub cause : room_refusal (opening w.given) (state w).core key ≡ Some why
+
+-- the tree was changed, and that brought the clock to its end
+pub record Stopped (key : ℕ) (v w : View) (x y : Session) (was is : Log) (old new : Story) : Type 0 where
+  pub grown : IsGrown key v w x y was is old new
+  pub spent : 2 ^ 62 ≤ y.clock.clock
+
+-- the leaf is full, and a change of the tree takes this page next, which is not the one that was brought into a frame
+pub record Wants (key : ℕ) (placed : Option Placed) (page : ℕ) (v w : View) (x : Session) : Type 0 where
+  pub leaf : ℕ
+  pub unfit : IsUnfit w key leaf
+  pub needed : IsNeeded v w x key placed page
+
+abbrev pub Steps : Result Stepped Unmade → (placed : Option Placed) → (v w : View) → (key value : ℕ) → (x y : Session) → (was is : Log) → (old new : Story) → (same : Type 0) → Type 0
+Steps (Ok (stepped.Done before)) placed v w key value x y was is old new same = IsChanged x.own v w key value before was is old new
+Steps (Ok stepped.Grown) placed v w key value x y was is old new same = IsGrown key v w x y was is old new × MayChange w y is key
+Steps (Ok (stepped.Needs page)) placed v w key value x y was is old new same = Wants key placed page v w x × same
+Steps (Err (unmade.Cold cold)) placed v w key value x y was is old new same = HasMetCold key cold.page v w × same
+Steps (Err (unmade.Refused refusal.TooTall)) placed v w key value x y was is old new same = Crowded key refusal.TooTall v w x.clock.clock × same
+Steps (Err (unmade.Refused refusal.NoPages)) placed v w key value x y was is old new same = Crowded key refusal.NoPages v w x.clock.clock × same
+Steps (Err (unmade.Refused refusal.ClockSpent)) placed v w key value x y was is old new same = Stopped key v w x y was is old new
+Steps (Err (unmade.Refused refusal.RowSpent)) placed v w key value x y was is old new same = IsSpentBehind v w × same
+Steps (Err (unmade.Refused refusal.DiskFault)) placed v w key value x y was is old new same = KeepsLog x.own was old new
+Steps (Err why) placed v w key value x y was is old new same = ⊥
+
+-- ## All of it, where each page stands in the frame of its own number
+
+-- from the first view to the last room was made for the key by changes of the tree, one behind the other
+pub data AreGrown {D : Type 0} (story : D → Story) (key : ℕ) (v : View) (x : Session) (was : Log) (old : D) : View → Session → Log → D → Type 0 where
+  Unchanged : AreGrown story key v x was old v x was old
+  Further : (u w : View) (y z : Session) (mid is : Log) (s new : D) → AreGrown story key v x was old u y mid s → IsGrown key u w y z mid is (story s) (story new) → AreGrown story key v x was old w z is new
+
+-- the last step of a put with this answer
+abbrev pub step_of : Result (Option ℕ) Refusal → Result Stepped Unmade
+step_of (Ok before) = Ok (stepped.Done before)
+step_of (Err why) = Err (unmade.Refused why)
+
+-- room was made, and then the last step came out so
+pub record Puts {D : Type 0} (story : D → Story) (r : Result (Option ℕ) Refusal) (v w : View) (key value : ℕ) (x y : Session) (was is : Log) (old new : D) : Type 0 where
+  pub view : View
+  pub session : Session
+  pub log : Log
+  pub disk : D
+  pub grown : AreGrown story key v x was old view session log disk
+  pub last : Steps (step_of r) None view w key value session y log is (story disk) (story new) ((y ≡ session) × (is ≡ log) × (new ≡ disk))

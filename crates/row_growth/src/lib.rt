@@ -1,0 +1,13 @@
+//! Room for a key whose leaf is full, on rows of words where one thread executes, and what a put is made of with it: a try, and where the leaf
+//! has no room, one change of the tree, into a free page that was brought into a frame.
+//!
+//! Each step says which event it was, by its answer, and keeps what session_state's `Holds` says. Read specs/Rooms, then Outcomes.
+#![tactic(auto)]
+
+mod held;
+mod room;
+mod steps;
+
+pub use held::put_held;
+pub use room::{Growth, Placed, make_room};
+pub use steps::{Stepped, put_step};
