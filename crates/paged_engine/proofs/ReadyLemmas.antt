@@ -1,14 +1,13 @@
 -- What an opening made is a machine that is ready, at the start of a run.
-use Rattle.std.proofs.Common.{◌≡◌, inl, inr, ◌≤◌, ◌<◌, ◌+◌, ◌-◌, ◌^◌, ℕ, suc, false, List, [], length, map, replicate, refl, sym, ap, ◌∙◌, subst, arith, true≢false}
+use Rattle.std.proofs.Common.{◌≡◌, ◌≤◌, ◌<◌, ◌+◌, ◌-◌, ◌^◌, ℕ, suc, true, false, List, [], length, map, replicate, refl, sym, ap, ◌∙◌, subst, arith}
 use Rattle.image_model.specs.Laws.{EveryUndone}
 use Rattle.core_state.specs.Openings.{Opening}
 use Rattle.core_state.specs.States as core
 use Rattle.core_state.specs.States.{start}
 use Rattle.draw_trait.specs.declared.staged.Staged.{Staged}
-use Rattle.disk_image.specs.Shown.{IsCleanDisk}
 use Rattle.disk_runs.specs.Openings as runs
 use Rattle.disk_slots.specs.declared.master.Master.{Master}
-use Rattle.lean_disk.specs.Story.{Story, areas_of}
+use Rattle.lean_disk.specs.Story.{Story, Tells}
 use Rattle.btree_descent.specs.Known as descent
 use Rattle.row_words.specs.declared.given.Given.{Given}
 use Rattle.rows_trait.specs.declared.view.View.{View}
@@ -31,6 +30,7 @@ use Rattle.session_desks.specs.declared.desk.Desk.{Desk}
 use Rattle.session_state.specs.Holds.{Holds}
 use Rattle.session_state.specs.Opened.{IsFirst, plain_shape}
 use Rattle.session_state.specs.Ties.{Behind, Ties}
+use Rattle.session_state.specs.Undo.{HasHand}
 use Rattle.session_state.specs.declared.session.Session.{Session}
 use Rattle.worker_log.specs.Logs.{Log}
 use Rattle.paged_opening.specs.Opened as paging
@@ -40,10 +40,10 @@ use Rattle.paged_opening.proofs.MirrorLemmas.{opened_length}
 use Rattle.paged_desks.specs.Machines.{IsReady, memory, pages}
 use Rattle.paged_desks.specs.declared.machine.PagedMachine.{PagedMachine}
 use Rattle.paged_engine.specs.Inside.{HasSeats}
-use Rattle.paged_engine.specs.Openings.{BeginsOn, Feeds, HasOpened, IsAtStart, IsFrom, IsFurther, IsMadeBy, OpeningLaws}
+use Rattle.paged_engine.specs.Openings.{BeginsOn, HasOpened, IsAtStart, IsFrom, IsFurther, IsMadeBy, OpeningLaws}
 use Rattle.paged_engine.specs.declared.opening.Size.{Size}
 use Rattle.paged_engine.specs.declared.seats.Seats.{Seats}
-use Rattle.paged_engine.proofs.OpeningLemmas.{every_opening, told}
+use Rattle.paged_engine.proofs.OpeningLemmas.{every_opening}
 use Rattle.paged_engine.proofs.SeatLemmas.{at_each}
 use Rattle.paged_engine.proofs.StartLemmas as begun
 use Rattle.paged_engine.proofs.StartLemmas.{Begun, Laws, first_too}
@@ -54,6 +54,9 @@ last_of n w log made = ap (λ (l : Log). l.last) made.is
 
 flushed_of : (n : Master) (w : ℕ) (log : Log) → IsMadeBy n w log → log.flushed ≡ n.floor
 flushed_of n w log made = ap (λ (l : Log). l.flushed) made.is
+
+hand_of : (n : Master) (w : ℕ) (log : Log) → IsMadeBy n w log → HasHand log
+hand_of n w log made none = ap (λ (l : Log). l.payload) made.is
 
 below_more : (n more : ℕ) → n < 2 ^ 61 → n < 2 ^ 61 + more
 below_more n more low = omega arith
@@ -180,7 +183,7 @@ module _ (D : Type 0) (story : D → Story) (disk : D) (laws : Laws) (size : Siz
   -- a session of this number, with the log that was made for it, and all else of the first one
   holding : (w : ℕ) (few : w ≤ 16) (log : Log) → IsMadeBy o.master w log → 0 < w → w ≤ x.workers → Holds z u (record x { own = w; few = few }) log
   holding w few log it low high = begun.holding laws rows (record x { own = w; few = few }) log (first_too r.master.floor x w x.free few first_is)
-      (last_of o.master w log it ∙ floor_is) (flushed_of o.master w log it ∙ floor_is) low (among w high) many_is seats.first.frames seats.first.rows (seats.first.free ∙ h.paged.free)
+      (last_of o.master w log it ∙ floor_is) (flushed_of o.master w log it ∙ floor_is) (hand_of o.master w log it) low (among w high) many_is seats.first.frames seats.first.rows (seats.first.free ∙ h.paged.free)
 
   first_desk : IsDesk z u x 1 first
   first_desk = record {
@@ -190,7 +193,7 @@ module _ (D : Type 0) (story : D → Story) (disk : D) (laws : Laws) (size : Siz
     frames = refl;
     count = refl;
     works = first_is.works;
-    holds = begun.holding laws rows x first.log first_is (last_of o.master 1 first.log seats.log ∙ floor_is) (flushed_of o.master 1 first.log seats.log ∙ floor_is)
+    holds = begun.holding laws rows x first.log first_is (last_of o.master 1 first.log seats.log ∙ floor_is) (flushed_of o.master 1 first.log seats.log ∙ floor_is) (hand_of o.master 1 first.log seats.log)
         first_low first_high many_is seats.first.frames seats.first.rows (seats.first.free ∙ h.paged.free);
   }
 
@@ -281,15 +284,15 @@ module _ (D : Type 0) (story : D → Story) (disk : D) (laws : Laws) (size : Siz
 
     -- ## What the device gives
 
-    module _ (keeps : Keeps s0 s1) (mirrors : TellsAll size.sessions s0 → (m : Master) → IsCleanDisk m (areas_of s0) → IsMirror o.pager.slots o.pager.generation (state o.seat.view).core.saved s1) where
-      is_fed : Feeds size.sessions s0 → IsFedIfFaithful (pages machine) s1
-      is_fed (inl blind) faithful = absurd (true≢false (sym faithful ∙ (ap (λ (t : View). t.given.faithful) h.paged.view ∙ (keeps.tells 1 ∙ blind))))
-      is_fed (inr known) faithful =
-          let mirror = mirrors known.0 known.1.0 known.1.1 in
-          record { tells = told s0 s1 keeps 1 known.0.pages; mirrored = record { mirrors = mirror.mirrors; spans = mirror.spans } }
+    module _ (keeps : Keeps s0 s1) (mirrors : Tells s0 1 → IsMirror o.pager.slots o.pager.generation (state o.seat.view).core.saved s1) where
+      is_fed : IsFedIfFaithful (pages machine) s1
+      is_fed faithful =
+          let tells : s1.tells 1 ≡ true = sym (ap (λ (t : View). t.given.faithful) h.paged.view) ∙ faithful in
+          let mirror = mirrors (sym (keeps.tells 1) ∙ tells) in
+          record { tells = tells; mirrored = record { mirrors = mirror.mirrors; spans = mirror.spans } }
 
-      pub ready_if : Feeds size.sessions s0 → IsReady story machine
-      ready_if feeds = is_ready (is_fed feeds)
+      pub ready : IsReady story machine
+      ready = is_ready is_fed
 
       -- ## The run
 
@@ -319,8 +322,6 @@ module _ (D : Type 0) (story : D → Story) (disk : D) (laws : Laws) (size : Siz
 
         pub has_opened : HasOpened story size s0 machine o.winners o.undone
         has_opened = record {
-          ready = is_ready;
-          fed = is_fed;
           group = seats.first.group;
           turn = seats.first.own;
           opening = g;

@@ -30,6 +30,7 @@ use Rattle.session_state.specs.Holds.{AreNumbers, AreRows, Holds, IsOf}
 use Rattle.session_state.specs.Numbers.{AreNumbered}
 use Rattle.session_state.specs.Opened.{IsFirst, plain_shape}
 use Rattle.session_state.specs.Ties.{Behind, Ties}
+use Rattle.session_state.specs.Undo.{HasHand}
 use Rattle.session_state.specs.declared.session.Session.{Session}
 use Rattle.session_state.proofs.EntryNumbers.{entries_clocked}
 use Rattle.paged_opening.proofs.BeginLemmas.{pages_long}
@@ -174,7 +175,7 @@ module _ (laws : Laws) (b : Begun) where
 
   -- ## A session
 
-  module _ (x : Session) (log : Log) (s : IsFirst b.base x) (last : log.last ≡ b.base) (flushed : log.flushed ≡ b.base) where
+  module _ (x : Session) (log : Log) (s : IsFirst b.base x) (last : log.last ≡ b.base) (flushed : log.flushed ≡ b.base) (hand : HasHand log) where
     -- of the state, and of the start
     at : (P : State → Type 0) → P (start g) → P (state (first_plain v)).core
     at P p = subst P (sym rest) p
@@ -192,6 +193,7 @@ module _ (laws : Laws) (b : Begun) where
       txn = let a = s.txn in omega arith;
       undo_room = λ some. let a = ap length s.undo in absurd (omega arith);
       flush_room = λ _ some. let a = ap length s.undo in absurd (omega arith);
+      hand = hand;
       few = let a = ap length s.undo in omega arith;
       behind = let e = s.behind in let k = s.group in omega arith;
     }

@@ -1,5 +1,5 @@
 -- What the opening of a disk gives to a machine whose pages need not all be in memory.
-use Rattle.std.specs.Prelude.{◌≡◌, ◌⊎◌, ◌≤◌, ◌<◌, ◌%◌, ◌+◌, ℕ, suc, true, false, List, [], length, slice_get, Some}
+use Rattle.std.specs.Prelude.{◌≡◌, ◌≤◌, ◌<◌, ◌%◌, ◌+◌, ℕ, suc, true, false, List, [], length, slice_get, Some}
 use Rattle.page_model.specs.Limits.{most_sessions}
 use Rattle.image_model.specs.Images.{lost_by, map_of, won_by}
 use Rattle.call_parts.specs.Memory.{IsOf, Memory}
@@ -13,10 +13,9 @@ use Rattle.disk_slots.specs.declared.master.Master.{Master}
 use Rattle.lean_disk.specs.Area.{Area}
 use Rattle.lean_disk.specs.Moments.{LeavesOnly}
 use Rattle.lean_disk.specs.Story.{Crash, Story, areas_of}
-use Rattle.paged_desks.specs.Machines.{IsReady, memory, pages, view_of}
+use Rattle.paged_desks.specs.Machines.{memory, view_of}
 use Rattle.paged_desks.specs.declared.machine.PagedMachine.{PagedMachine}
 use Rattle.paged_opening.specs.Opened.{HasRecovered}
-use Rattle.paged_rows.specs.Paged.{IsFedIfFaithful}
 use Rattle.recovery.specs.Crashes.{IsNextOf, RecoveryLeaves}
 use Rattle.recovery.specs.Masters.{HasOpenable, IsOpenable}
 use Rattle.recovery.specs.Opened.{Keeps}
@@ -97,15 +96,8 @@ pub record IsAtStart {D : Type 0} (g : Opening) (m : PagedMachine D) : Type 0 wh
   pub logged : (w : ℕ) → 0 < w → w ≤ g.workers → IsLogged (start g) w ((memory m).log w)
   pub sessions : (w : ℕ) → 0 < w → w ≤ g.workers → IsFirst g.base (desk_of (here m.machine) m.machine.desks.items w).session
 
--- What the device gives of a page that is brought in is known, or it does not matter: the disk does not tell of its pages, so the rows did not begin faithful; or it tells of all and is clean.
-abbrev pub Feeds : (most : ℕ) → Story → Type 0
-Feeds most s = (s.tells 1 ≡ false) ⊎ (TellsAll most s × ((m : Master) × IsCleanDisk m (areas_of s)))
-
 -- A machine so large stands on a disk that told s0, at the start of a run, which is so.
 pub record HasOpened {D : Type 0} (story : D → Story) (size : Size) (s0 : Story) (m : PagedMachine D) (won lost : ℕ) : Type 0 where
-  -- all that is asked between two calls holds, but for what the device gives of pages
-  pub ready : IsFedIfFaithful (pages m) (story m.machine.work.disk) → IsReady story m
-  pub fed : Feeds size.sessions s0 → IsFedIfFaithful (pages m) (story m.machine.work.disk)
   pub group : m.machine.work.session.group ≡ size.group
   pub turn : m.machine.work.session.own ≡ 1
   pub opening : Opening

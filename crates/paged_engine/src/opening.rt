@@ -5,7 +5,7 @@ ghost use Rattle.lean_disk.specs.Faults.{HasCause};
 ghost use Rattle.recovery.specs.Opened.{IsRefusal, IsUntouched};
 ghost use Rattle.recovery.specs.declared.opening.Unrecovered.{Unrecovered};
 ghost use Rattle.paged_desks.specs.Machines.{IsReady};
-ghost use Rattle.paged_engine.specs.Openings.{Feeds, HasOpened, OpenKeeps, Shows};
+ghost use Rattle.paged_engine.specs.Openings.{HasOpened, OpenKeeps, Shows};
 
 use crate::seats::{Seats, seat_sessions};
 use lean_disk::Disk;
@@ -46,7 +46,7 @@ pub fn open<D: Disk>(alloc: Global, mut disk: D, size: Size) -> Result<Opened<D>
     requires group { 1 ≤ size.group }
     requires sessions { size.sessions ≤ most_sessions }
     ensures opened { IfOk result (λ o. HasOpened D.story size (D.story disk) o.machine o.winners o.undone) }
-    ensures ready { IfOk result (λ o. Feeds size.sessions (D.story disk) → IsReady D.story o.machine) }
+    ensures ready { IfOk result (λ o. IsReady D.story o.machine) }
     ensures keeps { MatchResult result (λ o. OpenKeeps size.sessions (D.story disk) (D.story o.machine.machine.work.disk)) (λ u. OpenKeeps size.sessions (D.story disk) (D.story u.disk)) }
 
     // A disk that is refused is left as it was.

@@ -1,13 +1,11 @@
--- Behind the recovery of a clean disk the slot that is given for a page holds it, and is on the disk.
+-- Behind the recovery of a disk that tells of its pages the slot that is given for a page holds it, and is on the disk.
 use Rattle.std.proofs.Common.{◌≡◌, ◌<◌, ◌≤◌, ◌+◌, ℕ, zero, suc, List, [], ◌∷◌, length, map, get_or, Some, slice_get, refl, sym, ap, ◌∙◌, subst, arith}
 use Rattle.std.proofs.lemmas.Option.{none-some, same_Some, slice_get-get_or}
 use Rattle.page_model.specs.Nodes.{free}
 use Rattle.page_model.specs.Page.{Page, new_page}
 use Rattle.lean_disk.specs.Area.{Area, IsApart}
-use Rattle.lean_disk.specs.Story.{Story, areas_of}
-use Rattle.disk_slots.specs.declared.master.Master.{Master}
+use Rattle.lean_disk.specs.Story.{Story, Tells}
 use Rattle.disk_image.specs.PageSlots.{page_in}
-use Rattle.disk_image.specs.Shown.{IsCleanDisk}
 use Rattle.row_words.specs.declared.given.Given.{Given}
 use Rattle.rows_trait.specs.Views.{first_plain, state}
 use Rattle.rows_trait.specs.declared.view.View.{View}
@@ -20,8 +18,7 @@ use Rattle.page_calls.specs.Slots.{last_slot, opened_slot}
 use Rattle.page_calls.specs.Mirrors.{IsMirror, IsOnDisk, Mirrors}
 use Rattle.page_provider.specs.Providers.{Provider}
 use Rattle.row_opening.specs.Rooted.{IsRooted}
-use Rattle.recovery.specs.Opened.{Counts, IsOpened, IsRecovered, IsSettled, IsWhole}
-use Rattle.recovery.specs.Telling.{TellsAll}
+use Rattle.recovery.specs.Opened.{Counts, HasSlots, IsSettled, IsWhole}
 use Rattle.recovery.specs.declared.opening.Recovered.{Recovered}
 use Rattle.paged_opening.specs.Opened.{HasOpened, given_by}
 use Rattle.paged_opening.specs.declared.opening.Opened as code
@@ -58,7 +55,7 @@ on_disk at area settled whole = record {
 
 -- ## Recovered pages
 
-module _ (whole : EveryWhole) (m : Master) (r : Recovered) (s0 s : Story) (is : IsWhole r) (answer : IsRecovered m (areas_of s0) r) (o : IsOpened m (areas_of s0) r s) where
+module _ (whole : EveryWhole) (r : Recovered) (s : Story) (is : IsWhole r) (slots : HasSlots r s) where
   abbrev bytes : List ℕ
   bytes = (s.area 1).bytes
 
@@ -68,44 +65,38 @@ module _ (whole : EveryWhole) (m : Master) (r : Recovered) (s0 s : Story) (is : 
   abbrev page : ℕ → Page
   page p = get_or r.pages.items p (new_page p free)
 
-  pages : r.master.pages ≡ m.pages
-  pages = ap (λ (z : Master). z.pages) answer.master
+  many : length (map opened_slot r.slots.items) ≡ r.master.pages
+  many = opened_length r.slots.items ∙ is.places
 
-  many : length (map opened_slot r.slots.items) ≡ m.pages
-  many = opened_length r.slots.items ∙ (is.places ∙ pages)
+  here : (p : ℕ) → p < r.master.pages → slice_get r.pages.items p ≡ Some (page p)
+  here p lt = slice_get-get_or r.pages.items p (new_page p free) (let k = is.count in omega arith)
 
-  half : (p : ℕ) → p < m.pages → at p < 2
-  half p lt = is.halves p (let e = pages in omega arith)
+  counts : (p : ℕ) → p < r.master.pages → Counts r.master.pages bytes p (at p) (page p)
+  counts p lt = slots.counts p (page p) (here p lt)
 
-  here : (p : ℕ) → p < m.pages → slice_get r.pages.items p ≡ Some (page p)
-  here p lt = slice_get-get_or r.pages.items p (new_page p free) (let k = answer.count in omega arith)
-
-  counts : (p : ℕ) → p < m.pages → Counts m.pages bytes p (at p) (page p)
-  counts p lt = o.counts p (page p) (here p lt)
-
-  within : (p : ℕ) → p < m.pages → place_of p (at p) + 1024 ≤ length bytes
-  within p lt = let c = counts p lt in whole m.pages p (at p) bytes c.node c.there
+  within : (p : ℕ) → p < r.master.pages → place_of p (at p) + 1024 ≤ length bytes
+  within p lt = let c = counts p lt in whole r.master.pages p (at p) bytes c.node c.there
 
   module _ (v : Given) (rooted : IsRooted r.pages.items v) where
-    saved_is : (p : ℕ) → p < m.pages → image_page (page p) ≡ (state (first_plain v)).core.saved p
+    saved_is : (p : ℕ) → p < r.master.pages → image_page (page p) ≡ (state (first_plain v)).core.saved p
     saved_is p lt = sym (rooted.saved p ∙ ap image_page (page_is r.pages.items p (page p) (here p lt)))
 
     -- what the slot of a page holds is what is saved of it
-    held_is : (p : ℕ) → p < m.pages → (y : Page) → page_in p (length (map opened_slot r.slots.items)) (slot_bytes p (last_slot (opened_slot (at p))) bytes) ≡ Some y → image_page y ≡ (state (first_plain v)).core.saved p
+    held_is : (p : ℕ) → p < r.master.pages → (y : Page) → page_in p (length (map opened_slot r.slots.items)) (slot_bytes p (last_slot (opened_slot (at p))) bytes) ≡ Some y → image_page y ≡ (state (first_plain v)).core.saved p
     held_is p lt y e =
         let c = counts p lt in
-        let read : page_in p m.pages (slot_bytes p (at p) bytes) ≡ Some y = subst (λ (i : ℕ). page_in p m.pages (slot_bytes p i bytes) ≡ Some y) (last_is (at p) (half p lt))
+        let read : page_in p r.master.pages (slot_bytes p (at p) bytes) ≡ Some y = subst (λ (i : ℕ). page_in p r.master.pages (slot_bytes p i bytes) ≡ Some y) (last_is (at p) (is.halves p lt))
         (subst (λ (n : ℕ). page_in p n (slot_bytes p (last_slot (opened_slot (at p))) bytes) ≡ Some y) many e) in
         ap image_page (same_Some y c.node (sym read ∙ c.there)) ∙ (c.is ∙ saved_is p lt)
 
     mirrors : (generation : ℕ) → Mirrors (map opened_slot r.slots.items) generation (state (first_plain v)).core.saved s
     mirrors generation told p lt y holds =
-        let few : p < m.pages = let k = many in omega arith in
-        held_is p few y (holds (opened_slot (at p)) (there_is p r.slots.items (let k = is.places in let l = pages in omega arith))).0
+        let few : p < r.master.pages = let k = many in omega arith in
+        held_is p few y (holds (opened_slot (at p)) (there_is p r.slots.items (let k = is.places in omega arith))).0
 
-    last_page : (n : ℕ) → n ≡ m.pages → Reaches n bytes
+    last_page : (n : ℕ) → n ≡ r.master.pages → Reaches n bytes
     last_page zero e = omega arith
-    last_page (suc n) e = let w = within n (omega arith) in let h = half n (omega arith) in omega arith
+    last_page (suc n) e = let w = within n (omega arith) in let h = is.halves n (omega arith) in omega arith
 
     mirror : (generation : ℕ) → IsMirror (map opened_slot r.slots.items) generation (state (first_plain v)).core.saved s
     mirror generation = record {
@@ -113,21 +104,17 @@ module _ (whole : EveryWhole) (m : Master) (r : Recovered) (s0 s : Story) (is : 
       spans = λ told. last_page (length (map opened_slot r.slots.items)) many;
       on_disk = λ p t e late.
           let k = opened_at p r.slots.items t e in
-          let few : p < m.pages = let l = k.0 in let a = is.places in let b = pages in omega arith in
-          let last : last_slot t ≡ at p = ap last_slot k.1 ∙ last_is (at p) (half p few) in
-          on_disk (place_of p (last_slot t)) (s.area 1) (o.settled 1 (omega arith)) (subst (λ (i : ℕ). place_of p i + 1024 ≤ length bytes) (sym last) (within p few));
+          let few : p < r.master.pages = let l = k.0 in let a = is.places in omega arith in
+          let last : last_slot t ≡ at p = ap last_slot k.1 ∙ last_is (at p) (is.halves p few) in
+          on_disk (place_of p (last_slot t)) (s.area 1) slots.settled (subst (λ (i : ℕ). place_of p i + 1024 ≤ length bytes) (sym last) (within p few));
     }
 
 -- ## The opening
 
-pub mirrored : EveryWhole → (frames locks most : ℕ) (s0 s : Story) (x : code.Opened) → HasOpened frames locks most s0 s x → TellsAll most s0 → (m : Master) → IsCleanDisk m (areas_of s0)
-    → IsMirror x.pager.slots x.pager.generation (state x.seat.view).core.saved s
-mirrored whole frames locks most s0 s x h told m clean =
+pub mirrored : EveryWhole → (frames locks most : ℕ) (s0 s : Story) (x : code.Opened) → HasOpened frames locks most s0 s x → Tells s0 1 → IsMirror x.pager.slots x.pager.generation (state x.seat.view).core.saved s
+mirrored whole frames locks most s0 s x h told =
     let r = h.recovered in
-    let a = h.is.answer told in
     let v = given_by (s.tells 1) frames locks r in
-    let answer : IsRecovered m (areas_of s0) r = subst (λ (z : Master). IsRecovered z (areas_of s0) r) (same_Some a.0 m (sym a.2.sound.master ∙ clean.master)) a.2 in
-    let made = mirror whole m r s0 s h.is.whole answer (h.is.opened told m clean) v h.paged.rooted r.master.generation in
-    let k = x.pager in
+    let made = mirror whole r s h.is.whole (h.is.slots told) v h.paged.rooted r.master.generation in
     let here = subst (λ (u : View). IsMirror (map opened_slot r.slots.items) r.master.generation (state u).core.saved s) (sym h.paged.view) made in
     subst (λ (z : Provider). IsMirror z.slots z.generation (state x.seat.view).core.saved s) (sym h.paged.pager) here

@@ -3,7 +3,7 @@
 use Rattle.std.specs.Prelude.{◌≡◌, ◌<◌, ◌≤◌, ◌+◌, ◌^◌, ℕ, zero, suc, Bool, true, false, not, List, length, map, replicate, Some}
 use Rattle.page_model.specs.Page.{Page}
 use Rattle.core_calls.specs.Room.{frees_from}
-use Rattle.lean_disk.specs.Story.{Story, areas_of}
+use Rattle.lean_disk.specs.Story.{Story, Tells, areas_of}
 use Rattle.disk_slots.specs.declared.master.Master.{Master}
 use Rattle.disk_image.specs.MasterSlots.{master_on}
 use Rattle.disk_image.specs.Shown.{IsCleanDisk}
@@ -22,7 +22,7 @@ use Rattle.page_provider.specs.Providers.{Keeps}
 use Rattle.session_state.specs.Free.{nodes_in}
 use Rattle.recovery.specs.Installed.{HasInstalled}
 use Rattle.recovery.specs.Masters.{IsOpenable}
-use Rattle.recovery.specs.Opened.{IsOpened, IsRecovered, IsWhole}
+use Rattle.recovery.specs.Opened.{HasSlots, IsOpened, IsRecovered, IsWhole}
 use Rattle.recovery.specs.Telling.{TellsAll}
 use Rattle.recovery.specs.declared.opening.Recovered.{Recovered}
 use Rattle.paged_opening.specs.declared.opening.Opened as code
@@ -34,6 +34,7 @@ pub record HasRecovered (most : ℕ) (s0 s1 : Story) (r : Recovered) : Type 0 wh
   pub answer : TellsAll most s0 → (m : Master) × IsOpenable most m × IsRecovered m (areas_of s0) r
   pub opened : TellsAll most s0 → (m : Master) → IsCleanDisk m (areas_of s0) → IsOpened m (areas_of s0) r s1
   pub installed : TellsAll most s0 → (m : Master) → master_on (areas_of s0 0) ≡ Some m → HasInstalled m r s0 s1
+  pub slots : Tells s0 1 → HasSlots r s1
   pub whole : IsWhole r
   pub few : length r.master.heads ≤ most
   pub sequence : r.master.sequence < 2 ^ 61

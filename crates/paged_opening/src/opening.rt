@@ -2,7 +2,7 @@
 ghost use Rattle.std.specs.Prelude.{◌≡◌, ◌<◌, ◌≤◌, ◌+◌, ◌^◌, ℕ, Err, IfErr, IfOk, length};
 ghost use Rattle.lean_disk.specs.Faults.{HasCause};
 ghost use Rattle.lean_disk.specs.Moments.{LeavesOnly};
-ghost use Rattle.lean_disk.specs.Story.{areas_of};
+ghost use Rattle.lean_disk.specs.Story.{Tells, areas_of};
 ghost use Rattle.disk_slots.specs.declared.master.Master.{Master};
 ghost use Rattle.disk_image.specs.Breaks.{IsDamaged};
 ghost use Rattle.disk_image.specs.Shown.{IsCleanDisk};
@@ -107,8 +107,8 @@ pub fn open<D: Disk>(
     requires frames { 1 ≤ frames }
     requires few { frames + locks + sessions < 2 ^ 32 }
     ensures opened { IfOk result (HasOpened frames locks sessions (D.story disk.old) (D.story disk.new)) }
-    ensures mirrors { IfOk result (λ o. TellsAll sessions (D.story disk.old) → (m : Master) → IsCleanDisk m (areas_of (D.story disk.old))
-        → IsMirror o.pager.slots o.pager.generation (state o.seat.view).core.saved (D.story disk.new)) }
+    // Also of a disk that is not clean: wherever the rows begin faithful.
+    ensures mirrors { IfOk result (λ o. Tells (D.story disk.old) 1 → IsMirror o.pager.slots o.pager.generation (state o.seat.view).core.saved (D.story disk.new)) }
     ensures logs { (a : ℕ) → 1 < a → IsUntouched ((D.story disk.old).area a) ((D.story disk.new).area a) }
     ensures others { (a : ℕ) → 1 + sessions < a → (D.story disk.new).area a ≡ (D.story disk.old).area a }
     ensures keeps { Keeps (D.story disk.old) (D.story disk.new) }

@@ -1,6 +1,6 @@
 use Rattle.std.proofs.Common.{sym, subst}
 use Rattle.master_store.specs.Masters.{IsOfSlot}
-use Rattle.paged_engine.proofs.ReadyLemmas.{has_opened, ready_if}
+use Rattle.paged_engine.proofs.ReadyLemmas.{has_opened, ready}
 use Rattle.paged_engine.proofs.opening.open.Goals as goal
 
 -- the master is one of a slot
@@ -17,7 +17,7 @@ returns-clause-opened g c =
 pub returns-clause-ready : goal.returns-clause-ready
 returns-clause-ready g c =
     let o = c.in-Ok.ensures in
-    ready_if _ g.D.Disk.story c.open.new.disk (record { every = c.every_opened.ensures; reached = c.every_reached.ensures; sound = c.every_sound.ensures; numbers = c.every_begun.ensures })
+    ready _ g.D.Disk.story c.open.new.disk (record { every = c.every_opened.ensures; reached = c.every_reached.ensures; sound = c.every_sound.ensures; numbers = c.every_begun.ensures })
     c.args.size c.requires.frames c.requires.rows (g.D.Disk.story c.args.disk) c.in-Ok.opened o.opened c.in-Ok-seat_sessions.made c.in-Ok-seat_sessions.ensures _ c.open.ensures.keeps o.mirrors
 
 -- memory was refused behind an opening that met no fault
