@@ -1,5 +1,5 @@
 -- How a call ends by its parts.
-use Rattle.std.proofs.Common.{◌≡◌, ◌≤◌, ◌^◌, ◌++◌, ℕ, Bool, true, false, List, [], ◌∷◌, length, sym, ap, ◌∙◌, subst, arith}
+use Rattle.std.proofs.Common.{◌≡◌, ◌≤◌, ◌^◌, ◌++◌, ℕ, Bool, true, false, List, [], ◌∷◌, length, refl, sym, ap, ◌∙◌, subst, arith}
 use Rattle.std.proofs.lemmas.List.{append-nil}
 use Rattle.map_model.specs.Lists.{any}
 use Rattle.map_model.specs.declared.call.Answer.{Answer}
@@ -56,10 +56,10 @@ module _ (g : Opening) (group : ℕ) (xs : List Done) (own : ℕ) (half : Bool) 
   -- ## It is answered
 
   module _ (es : List Event) (w : View) (is : Memory) (x : Done) (p : Part g.workers es v w was is old new) (told : x.events ≡ events_of es) (tells : Tells limits g group xs x) where
-    back : events_of es ≡ x.events
+    pub back : events_of es ≡ x.events
     back = sym told
 
-    keeps : (s0 : Crash) (k : Known) → Between limits g group xs s0 k old → IsOf g was k → Keeps g group xs x s0 k is old new
+    pub keeps : (s0 : Crash) (k : Known) → Between limits g group xs s0 k old → IsOf g was k → Keeps g group xs x s0 k is old new
     keeps s0 k b o = record {
       answers = record {
         answer = tells;
@@ -76,10 +76,10 @@ module _ (g : Opening) (group : ℕ) (xs : List Done) (own : ℕ) (half : Bool) 
         r : GoesOn g.workers g xs [] (events_of es) s0 k is old new
         r = p.goes g xs [] start s0 k (stands s0 k b) o
 
-    logged : Logged g.workers g (state_after g (front xs)) (events_of es) was is
+    pub logged : Logged g.workers g (state_after g (front xs)) (events_of es) was is
     logged = p.logged g xs [] start
 
-    pub does : (a : Answer) → x.outcome.session ≡ own → asked x.outcome.deed ≡ c → answered x.outcome.deed ≡ a → Answers g xs x (was.log own) → Does g group xs own c a was is old new
+    abbrev pub does : (a : Answer) → x.outcome.session ≡ own → asked x.outcome.deed ≡ c → answered x.outcome.deed ≡ a → Answers g xs x (was.log own) → Does g group xs own c a was is old new
     does a session asks is_a how = record {
       done = x;
       session = session;
@@ -146,7 +146,7 @@ module _ (g : Opening) (group : ℕ) (xs : List Done) (own : ℕ) (half : Bool) 
 
 pub every_end : (old new : Story) → EveryEnd old new
 every_end old new many g group xs own half c v was t none workers = subst (λ n. EndLaws n g group xs own c v was old new) (t.opens.workers ∙ workers) (record {
-  does = λ es w is x a p told session asks is_a tells how. does g group xs own half c v was t none old new es w is x p told tells a session asks is_a how;
+  does = λ es w is x a p told session asks is_a tells how. (does g group xs own half c v was t none old new es w is x p told tells a session asks is_a how, refl);
   ties = λ es w is x half_now p told tells half_is. ties g group xs own half c v was t none old new es w is x p told tells half_now half_is;
   fails = λ saves syncs es f wide_saves wide_syncs room. fails g group xs own half c v was t none old new saves syncs es f wide_saves wide_syncs room;
   stops = λ saves syncs es rest x f wide_saves wide_syncs is session asks tells few. stops g group xs own half c v was t none old new saves syncs es f wide_saves wide_syncs rest x is session asks tells few;

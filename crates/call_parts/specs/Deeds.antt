@@ -1,6 +1,6 @@
 -- What a call of an engine did, where pages come and go: its answer, by which events, what is in memory then, for what its disk stands, and what a crash at any
 -- moment of it leaves.
-use Rattle.std.specs.Prelude.{◌≡◌, ◌⊎◌, ◌≤◌, ◌<◌, ◌^◌, ◌++◌, ℕ, false, List, Some, length}
+use Rattle.std.specs.Prelude.{◌≡◌, ◌⊎◌, ◌≤◌, ◌<◌, ◌^◌, ◌++◌, ℕ, Bool, true, false, List, Some, length}
 use Rattle.map_model.specs.Lists.{any}
 use Rattle.map_model.specs.declared.call.Answer.{Answer}
 use Rattle.map_model.specs.declared.call.Answer.TheVariants as answer
@@ -33,6 +33,22 @@ use Rattle.call_parts.specs.Rooms.{IsRoomFor, may_save, may_sync}
 
 -- ## The answer
 
+-- a leaf is read again
+abbrev pub is_fetch : Event → Bool
+is_fetch (Event.Fetch p pairs) = true
+is_fetch _ = false
+
+-- What the tests say before a call is its answer. That there is no room for a key is sure where the rows began faithful, or no leaf was read again: else the key's
+-- leaf may have other entries by then.
+abbrev pub IsSure : Opening → List Event → Refusal → Type 0
+IsSure g es refusal.TooTall = (g.faithful ≡ true) ⊎ (any is_fetch es ≡ false)
+IsSure g es refusal.NoPages = (g.faithful ≡ true) ⊎ (any is_fetch es ≡ false)
+IsSure g es why = Unit {0}
+
+-- It is this refusal, or one that comes before it: a latch is spent, or a sync for a page of the call has brought the clock to its end.
+abbrev pub IsRefusedOr : Refusal → Answer → Type 0
+IsRefusedOr why a = (a ≡ answer.Refused why) ⊎ ((a ≡ answer.Refused refusal.RowSpent) ⊎ (a ≡ answer.Refused refusal.ClockSpent))
+
 -- In the state behind all events of the call, with the log as it was before it, a refusal has its cause; it comes where the state before them has one, and then
 -- the tree is as it was. A put makes room for its key, and no call else changes the tree.
 pub record Answers (g : Opening) (xs : List Done) (x : Done) (was : Log) : Type 0 where
@@ -40,8 +56,8 @@ pub record Answers (g : Opening) (xs : List Done) (x : Done) (was : Log) : Type 
   pub few : length x.events ≤ 2 ^ 18
   pub refused : (why : Refusal) → answered x.outcome.deed ≡ answer.Refused why
       → IsRefusedFor g (state_after g (front xs ++ x.events)) x.outcome.session (is_half_done x.outcome.session xs) was (call_behind (outcomes xs) (asked x.outcome.deed)) why
-  pub refuses : (why : Refusal) → refusal_in g (state_after g (front xs)) x.outcome.session (is_half_done x.outcome.session xs) was (call_behind (outcomes xs) (asked x.outcome.deed)) ≡ Some why
-      → (answered x.outcome.deed ≡ answer.Refused why) ⊎ (answered x.outcome.deed ≡ answer.Refused refusal.RowSpent)
+  pub refuses : (why : Refusal) → IsSure g x.events why → refusal_in g (state_after g (front xs)) x.outcome.session (is_half_done x.outcome.session xs) was (call_behind (outcomes xs) (asked x.outcome.deed)) ≡ Some why
+      → IsRefusedOr why (answered x.outcome.deed)
   pub still : (why : Refusal) → refusal_in g (state_after g (front xs)) x.outcome.session (is_half_done x.outcome.session xs) was (call_behind (outcomes xs) (asked x.outcome.deed)) ≡ Some why → any is_structure x.events ≡ false
   pub room : MakesItsRoom x.outcome.session g (state_after g (front xs)) (call_behind (outcomes xs) (asked x.outcome.deed)) x.events
 

@@ -135,9 +135,9 @@ EveryMemory old new = (many : ℕ) (v w : View) (was is was_too is_too : Memory)
 
 -- In a run in which session `own` asks this, or for 0 nobody does, from the view v on, with this in memory.
 pub record EndLaws (many : ℕ) (g : Opening) (group : ℕ) (xs : List Done) (own : ℕ) (c : Call) (v : View) (was : Memory) (old new : Story) : Type 0 where
-  -- it is answered by the events of a part
+  -- it is answered by the events of a part, and so by this outcome
   pub does : (es : List Event) (w : View) (is : Memory) (x : Done) (a : Answer) → Part many es v w was is old new → x.events ≡ events_of es → x.outcome.session ≡ own → asked x.outcome.deed ≡ c → answered x.outcome.deed ≡ a
-      → Tells limits g group xs x → Answers g xs x (was.log own) → Does g group xs own c a was is old new
+      → Tells limits g group xs x → Answers g xs x (was.log own) → (d : Does g group xs own c a was is old new) × (d.done ≡ x)
   -- its view is tied to one outcome more
   pub ties : (es : List Event) (w : View) (is : Memory) (x : Done) (half : Bool) → Part many es v w was is old new → x.events ≡ events_of es → Tells limits g group xs x → is_half_done own (x ∷ xs) ≡ half → Ties g group (x ∷ xs) own half w
   -- it fails, where these events have done nothing but that; or as the first part of one that would be answered so

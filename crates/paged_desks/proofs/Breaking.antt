@@ -1,5 +1,5 @@
 -- What is left where a device failed, or a page was not to be had.
-use Rattle.std.proofs.Common.{◌≡◌, ◌∙◌, ◌≤◌, ◌+◌, ◌*◌, ◌++◌, ◌||◌, ℕ, suc, Bool, true, false, Err, List, [], ◌∷◌, ap, refl, sym, subst, arith, true≢false}
+use Rattle.std.proofs.Common.{◌≡◌, ◌∙◌, ◌≤◌, ◌+◌, ◌*◌, ◌++◌, ◌||◌, ◌⊎◌, inl, inr, ℕ, suc, Bool, true, false, Err, List, [], ◌∷◌, ap, refl, sym, subst, arith, true≢false}
 use Rattle.std.proofs.lemmas.Bool.{and_from, and_parts}
 use Rattle.std.proofs.Math.Nat.{mul-le-mul_right}
 use Rattle.std.proofs.lemmas.List.{length-append}
@@ -8,6 +8,9 @@ use Rattle.call_parts.proofs.JoinLemmas.{every_join}
 use Rattle.call_parts.specs.Areas.{is_save}
 use Rattle.call_parts.specs.Parts.{Failed}
 use Rattle.call_parts.specs.Rooms as rooms
+use Rattle.call_parts.specs.Rooms.{makes_sync}
+use Rattle.call_parts.specs.Steps.{moves_page}
+use Rattle.core_calls.specs.LogEvents.{AreFlushes, IsSync}
 use Rattle.core_state.specs.Events as happening
 use Rattle.core_state.specs.Local.{is_sync}
 use Rattle.core_disk.specs.Versions.{EveryVersion}
@@ -37,6 +40,7 @@ use Rattle.paged_desks.specs.Inside.{HasBroken, HasDone, HasServed, IsBeside, Is
 use Rattle.paged_desks.specs.Machines.{IsReady, memory, view_of}
 use Rattle.paged_desks.specs.Pages.{ArePaging, goes_on, is_paging, most_a_level}
 use Rattle.paged_desks.specs.Parts.{HasFailed}
+use Rattle.paged_desks.specs.Syncs.{HasNotSynced}
 use Rattle.paged_desks.specs.declared.machine.PagedMachine.{PagedMachine}
 use Rattle.paged_desks.specs.declared.warming.Unwarmed.{Unwarmed}
 use Rattle.paged_desks.proofs.Doing.{hot_few, sessions_few}
@@ -90,18 +94,51 @@ broken_by story m n ready b {most = most} moved law amounts served fits =
     }
 
 -- a sync
-pub broken_sync : {D : Type 0} (story : D → Story) (m : PagedMachine D) (t : Machine D) → IsReady story m → EverySyncPart (story m.machine.work.disk) (story t.work.disk) → FailsToSync story m.machine t → AreAsMany m.machine t → SeatFits t
-    → HasBroken story (suc m.machine.work.session.workers) m (record m { machine = t })
-broken_sync story m t ready law s same fits =
+flushes_sync : (es : List happening.Event) → AreFlushes es → all makes_sync es ≡ true
+flushes_sync [] k = refl
+flushes_sync (happening.Event.Flush w n ∷ es) k = flushes_sync es k
+flushes_sync (e ∷ es) k = absurd k
+
+sync_join : (a b : List happening.Event) → all makes_sync a ≡ true → all makes_sync b ≡ true → all makes_sync (a ++ b) ≡ true
+sync_join [] b p q = q
+sync_join (e ∷ a) b p q = let x = and_parts (makes_sync e) (all makes_sync a) p in and_from (makes_sync e) (all makes_sync (a ++ b)) x.0 (sync_join a b x.1 q)
+
+pub sync_events : (es : List happening.Event) → AreFlushes es ⊎ ((n : ℕ) × IsSync n es) → all makes_sync es ≡ true
+sync_events es (inl k) = flushes_sync es k
+sync_events es (inr s) = subst (λ ys. all makes_sync ys ≡ true) (sym s.1.1) (sync_join s.1.0 (happening.Event.Sync s.0 ∷ []) (flushes_sync s.1.0 s.1.2) refl)
+
+paging_sync : (es : List happening.Event) → all makes_sync es ≡ true → rooms.ArePaging es
+paging_sync [] k = refl
+paging_sync (e ∷ es) k = let x = and_parts (makes_sync e) (all makes_sync es) k in and_from (rooms.is_paging e) (all rooms.is_paging es) (or_sync (moves_page e) (makes_sync e) x.0) (paging_sync es x.1)
+  where
+    or_sync : (a b : Bool) → b ≡ true → (a || b) ≡ true
+    or_sync true b q = refl
+    or_sync false b q = q
+
+pub not_synced : {D : Type 0} (story : D → Story) (m : PagedMachine D) (t : Machine D) → IsReady story m → EverySyncPart (story m.machine.work.disk) (story t.work.disk) → FailsToSync story m.machine t → AreAsMany m.machine t → SeatFits t
+    → HasNotSynced story m (record m { machine = t })
+not_synced story m t ready law s same fits =
     let many = m.machine.work.session.workers in
     let rows = (holds_of (shape m.machine) (view_of m) (here m.machine) m.machine.desks.items ready.sound.desks).rows.workers in
     let laws = law many 0 (view_of m) (view_of m) (desks.memory m.machine) (desks.memory t) m.pager.slots rows in record {
       events = s.events;
-      paging = laws.paging s;
-      few = let a = s.few in omega arith;
-      failed = failed_wider many false true s.events (view_of m) (memory m) (story m.machine.work.disk) (story t.work.disk) (laws.failed s);
+      sync = sync_events s.events s.are;
+      few = s.few;
+      failed = laws.failed s;
       same = same;
       fits = fits;
+    }
+
+-- where it was made for a page
+pub broken_sync : {D : Type 0} {story : D → Story} (m n : PagedMachine D) → HasNotSynced story m n → HasBroken story (suc m.machine.work.session.workers) m n
+broken_sync {story = story} m n s =
+    let many = m.machine.work.session.workers in record {
+      events = s.events;
+      paging = paging_sync s.events s.sync;
+      few = let a = s.few in omega arith;
+      failed = failed_wider many false true s.events (view_of m) (memory m) (story m.machine.work.disk) (story n.machine.work.disk) s.failed;
+      same = s.same;
+      fits = s.fits;
     }
 
 -- behind what was done
@@ -158,6 +195,7 @@ failed_of story m n ready frames b = record {
   events = b.events;
   paging = b.paging;
   few = let a = b.few in let h = hot_few story m ready frames in let w = sessions_few story m ready frames in omega arith;
+  close = let a = b.few in let w = sessions_few story m ready frames in omega arith;
   failed = b.failed;
   same = b.same;
   fits = b.fits;

@@ -28,7 +28,8 @@ use Rattle.rows_trait.specs.Views.{state}
 use Rattle.session_desks.specs.Parts.{here, shape}
 use Rattle.session_desks.proofs.SeatLemmas.{holds_of}
 use Rattle.worker_log.specs.Laws.{EveryKept, EveryPrefix}
-use Rattle.paged_desks.specs.Inside.{HasDone, HasServed, IsBeside, IsSynced}
+use Rattle.paged_desks.specs.Inside.{HasDone, HasServed, IsBeside}
+use Rattle.paged_desks.specs.Syncs.{IsSynced}
 use Rattle.paged_desks.specs.Machines.{IsReady, memory, view_of}
 use Rattle.paged_desks.specs.Pages.{hot_in, most_a_level}
 use Rattle.paged_desks.specs.Parts.{HasGone}
@@ -68,7 +69,7 @@ module _ {D : Type 0} (story : D → Story) (m n : PagedMachine D) (ready : IsRe
 
 -- ## A sync
 
-pub done_sync : {D : Type 0} (story : D → Story) (key : ℕ) (m n : PagedMachine D) → EveryReached → EveryNeed → EveryWhere → (s : IsSynced story m n) → IsTight (opening (view_of m).given) (state (view_of m)).core key → HasDone story key (suc m.machine.work.session.workers) m n
+pub done_sync : {D : Type 0} (story : D → Story) (key : ℕ) (m n : PagedMachine D) → EveryReached → EveryNeed → EveryWhere → {number : ℕ} → (s : IsSynced story m n number) → IsTight (opening (view_of m).given) (state (view_of m)).core key → HasDone story key (suc m.machine.work.session.workers) m n
 done_sync story key m n reached needs places s t = record { paged = paged_sync story key m n reached needs places s t; part = subst (λ es. Part m.machine.work.session.workers es (view_of m) (view_of n) (memory m) (memory n) (story m.machine.work.disk) (story n.machine.work.disk)) (sym (sync_events story key m n reached needs places s t)) s.part }
 
 -- ## One behind another
@@ -120,5 +121,5 @@ module _ {D : Type 0} (story : D → Story) (m : PagedMachine D) (ready : IsRead
   pub sessions_few : m.machine.work.session.workers ≤ 16
   sessions_few = (holds_of (shape m.machine) (view_of m) (here m.machine) m.machine.desks.items ready.sound.desks).rows.most
 
-  pub gone_of : (key : ℕ) (n : PagedMachine D) → HasDone story key (9 * most_a_level m.machine.work.session.workers) m n → HasGone story key (9 * most_a_level m.machine.work.session.workers) m n
-  gone_of key n d = record { paged = d.paged; few = let a = d.paged.few in let h = hot_few in let w = sessions_few in omega arith; part = d.part }
+  pub gone_of : (key most : ℕ) (n : PagedMachine D) → most ≤ 9 * most_a_level m.machine.work.session.workers → HasDone story key most m n → HasGone story key most m n
+  gone_of key most n few d = record { paged = d.paged; few = let a = d.paged.few in let h = hot_few in let w = sessions_few in let b = few in omega arith; part = d.part }

@@ -13,11 +13,13 @@ use Rattle.engine_calls.specs.Parts.{behind_first}
 use Rattle.lean_disk.specs.Story.{Story}
 use Rattle.map_model.specs.Lists.{any}
 use Rattle.map_model.specs.declared.call.Call.TheVariants as call
-use Rattle.page_model.specs.Nodes.{Format}
+use Rattle.page_model.specs.Nodes.{Format, covers}
 use Rattle.page_pool.specs.Full.{IsHeldBack}
 use Rattle.page_pool.specs.Counts.{hot_pages}
 use Rattle.paged_rows.specs.Paged.{Paged}
-use Rattle.paged_rows.specs.Warms.{IsCrowded, IsKept}
+use Rattle.paged_rows.specs.Warms.{IsCrowded, IsKept, IsNeeded}
+use Rattle.paged_rows.specs.declared.wanted.Wanted.{Wanted}
+use Rattle.paged_rows.specs.declared.wanted.Wanted.TheVariants as want
 use Rattle.row_opening.specs.Openings.{EveryNeed, EveryReached}
 use Rattle.row_words.specs.Moments.{events_of}
 use Rattle.row_words.specs.Openings.{opening}
@@ -28,7 +30,7 @@ use Rattle.session_desks.proofs.SyncViews.{core_is}
 use Rattle.session_state.specs.Ties.{Behind}
 use Rattle.paged_desks.specs.Machines.{IsNobodyInside, view_of}
 use Rattle.paged_desks.specs.Pages.{HasPaged, hot_in}
-use Rattle.paged_desks.specs.Inside.{IsSynced}
+use Rattle.paged_desks.specs.Syncs.{IsSynced}
 use Rattle.paged_desks.specs.declared.machine.PagedMachine.{PagedMachine}
 use Rattle.paged_desks.proofs.Going.{any_join}
 
@@ -41,7 +43,7 @@ free_of s p outside h = none_some h.epoch (sym (outside h.worker) ∙ h.inside)
 
 -- ## A sync is due
 
-module _ (key on above held : ℕ) (q : Paged) (outside : IsNobodyInside (state q.view).core) (c : IsCrowded key on above held q) where
+module _ (key : ℕ) (wanted : Wanted) (on above held : ℕ) (q : Paged) (outside : IsNobodyInside (state q.view).core) (c : IsCrowded key wanted on above held q) where
   taken : (f : ℕ) → IsKept key f q → IsTaken (opening q.view.given) (state q.view).core key f
   taken f k = record { page = k.page; here = k.here; stays = go k.why }
     where
@@ -50,12 +52,16 @@ module _ (key on above held : ℕ) (q : Paged) (outside : IsNobodyInside (state 
       go (inr (inl b)) = inr b
       go (inr (inr h)) = absurd (free_of (state q.view).core k.page outside h)
 
+  needed : (w : Wanted) (page : ℕ) → IsNeeded key w page q → (covers ((state q.view).core.page page).node key ≡ true) ⊎ (((state q.view).core.page page).node.live ≡ false)
+  needed want.Way page n = inl n
+  needed (want.Free free) page n = inr n.1
+
   pub tight_is : IsTight (opening q.view.given) (state q.view).core key
-  tight_is = record { page = c.page; below = c.below; needed = inl c.covers; cold = c.cold; taken = λ f lt. taken f (c.kept f lt) }
+  tight_is = record { page = c.page; below = c.below; needed = needed wanted c.page c.needed; cold = c.cold; taken = λ f lt. taken f (c.kept f lt) }
 
 -- an opening of the same sizes says the same
 taken_in : (g h : Opening) (s : State) (key f : ℕ) → h.workers ≡ g.workers → IsTaken g s key f → IsTaken h s key f
-taken_in g h s key f e t = record { page = t.page; here = t.here; stays = subst (λ n. (Rattle.page_model.specs.Nodes.covers (s.page t.page).node key ≡ true) ⊎ (least s.flushed n < (s.page t.page).gsn)) (sym e) t.stays }
+taken_in g h s key f e t = record { page = t.page; here = t.here; stays = subst (λ n. (covers (s.page t.page).node key ≡ true) ⊎ (least s.flushed n < (s.page t.page).gsn)) (sym e) t.stays }
 
 tight_in : (g h : Opening) (s : State) (key : ℕ) → h.workers ≡ g.workers → h.frames ≡ g.frames → h.format ≡ g.format → IsTight g s key → IsTight h s key
 tight_in g h s key workers frames format t = record {
@@ -73,13 +79,13 @@ tight_behind reached needs g xs first v key b t =
 
 -- ## A sync, where it is due
 
-module _ {D : Type 0} (story : D → Story) (key : ℕ) (m n : PagedMachine D) (reached : EveryReached) (needs : EveryNeed) (where_ : EveryWhere) (s : IsSynced story m n) (t : IsTight (opening (view_of m).given) (state (view_of m)).core key) where
+module _ {D : Type 0} (story : D → Story) (key : ℕ) (m n : PagedMachine D) (reached : EveryReached) (needs : EveryNeed) (where_ : EveryWhere) {number : ℕ} (s : IsSynced story m n number) (t : IsTight (opening (view_of m).given) (state (view_of m)).core key) where
   or_true : (b : Bool) → (b || true) ≡ true
   or_true true = refl
   or_true false = refl
 
   synced : any is_sync (events_of s.events) ≡ true
-  synced = ap (any is_sync) s.sync.1 ∙ (any_join is_sync s.sync.0 (happening.Event.Sync s.number ∷ []) ∙ or_true (any is_sync s.sync.0))
+  synced = ap (any is_sync) s.sync.1 ∙ (any_join is_sync s.sync.0 (happening.Event.Sync number ∷ []) ∙ or_true (any is_sync s.sync.0))
 
   hot : hot_in n ≡ hot_in m
   hot = (λ i. hot_pages (opening (s.given i)) (state (view_of n)).core) ∙ ap (hot_pages (opening (view_of m).given)) s.rest
@@ -97,7 +103,7 @@ module _ {D : Type 0} (story : D → Story) (key : ℕ) (m n : PagedMachine D) (
     logged = s.logged;
     master = λ none. absurd (true≢false (sym synced ∙ none));
     behind = s.behind;
-    tight = λ g xs first f. (where_ (call.Get key) (call.Get key) g (behind_first g xs first) (events_of s.events)).due s.number s.sync (tight_behind reached needs g xs first (view_of m) key f t);
+    tight = λ g xs first f. (where_ (call.Get key) (call.Get key) g (behind_first g xs first) (events_of s.events)).due number s.sync (tight_behind reached needs g xs first (view_of m) key f t);
   }
 
   pub sync_events : paged_sync.events ≡ s.events
@@ -107,7 +113,7 @@ module _ {D : Type 0} (story : D → Story) (key : ℕ) (m n : PagedMachine D) (
 -- ## Behind a sync
 
 -- no page is above what is flushed everywhere, and so there is a frame
-module _ (key on above held : ℕ) (q : Paged) (reached : EveryReached) (lows : EveryLow) (o : HasOpening q.view.given) (frames : 8 < q.pager.frames) (outside : IsNobodyInside (state q.view).core) (low : IsAllFlushed (opening q.view.given) (state q.view).core) where
+module _ (key : ℕ) (wanted : Wanted) (on above held : ℕ) (q : Paged) (reached : EveryReached) (lows : EveryLow) (o : HasOpening q.view.given) (frames : 8 < q.pager.frames) (outside : IsNobodyInside (state q.view).core) (low : IsAllFlushed (opening q.view.given) (state q.view).core) where
   none_above : (p : ℕ) → ((state q.view).core.page p).gsn ≤ flushed_by_all (opening q.view.given) (state q.view).core
   none_above p =
       let g = o.opening in
@@ -119,7 +125,7 @@ module _ (key on above held : ℕ) (q : Paged) (reached : EveryReached) (lows : 
       let y = ap (λ (s : State). least s.flushed g.workers) at in
       let z = ap (least (state q.view).core.flushed) o.opens.workers in omega arith
 
-  pub never_full : IsCrowded key on above held q → ⊥
+  pub never_full : IsCrowded key wanted on above held q → ⊥
   never_full c = go above held c.sum c.some_above c.some_held
     where
       few : on ≤ 8

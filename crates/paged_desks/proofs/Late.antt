@@ -1,11 +1,12 @@
 -- Why a RowSpent comes.
-use Rattle.std.proofs.Common.{◌≡◌, ◌∙◌, ◌≤◌, ◌<◌, ◌+◌, ◌*◌, ◌^◌, ◌⊎◌, ◌||◌, inl, inr, ℕ, zero, suc, Bool, true, false, Result, Ok, Err, IfErr, List, [], ◌∷◌, length, get_or, ap, refl, sym, subst, arith, true≢false}
+use Rattle.std.proofs.Common.{◌≡◌, ◌∙◌, ◌≤◌, ◌<◌, ◌+◌, ◌*◌, ◌^◌, ◌⊎◌, ◌||◌, inl, inr, ℕ, zero, suc, Bool, true, false, Option, Result, Ok, Err, IfErr, List, [], ◌∷◌, length, get_or, ap, refl, sym, subst, arith, true≢false}
 use Rattle.map_model.specs.Lists.{any}
 use Rattle.page_provider.specs.declared.refusal.Refusal.{Refusal}
 use Rattle.page_provider.specs.declared.refusal.Refusal.TheVariants as refusal
 use Rattle.page_provider.specs.Refusals.{Caused}
 use Rattle.paged_rows.specs.Paged.{Paged}
 use Rattle.paged_rows.specs.Warms.{IsRefusedTo}
+use Rattle.paged_rows.specs.declared.wanted.Wanted.{Wanted}
 use Rattle.rows_trait.specs.Causes.{EveryLow}
 use Rattle.rows_trait.specs.declared.view.View.{View}
 use Rattle.rows_trait.specs.Views.{AreLow, Shape}
@@ -18,13 +19,12 @@ use Rattle.session_desks.proofs.DeskLemmas.{desk_apart, desk_own}
 use Rattle.session_desks.proofs.SeatLemmas.{turn_high, turn_low}
 use Rattle.session_desks.proofs.SyncNeeds.{seats}
 use Rattle.session_state.specs.declared.session.Session.{Session}
-use Rattle.paged_desks.specs.Inside.{IsBeside, IsOfPage, LateCause, stopped_by}
+use Rattle.paged_desks.specs.Inside.{IsOfPage, LateCause, stopped_by}
 use Rattle.paged_desks.specs.Machines.{view_of}
 use Rattle.paged_desks.specs.Pages.{AreKept}
-use Rattle.paged_desks.specs.Parts.{HasHalf, IsLate, IsSpent}
+use Rattle.paged_desks.specs.Parts.{HasHalf, IsLate, IsLateOrStuck, IsSpent}
 use Rattle.paged_desks.specs.declared.machine.PagedMachine.{PagedMachine}
 use Rattle.paged_desks.specs.declared.warming.Unwarmed.TheVariants as unwarmed
-use Rattle.paged_desks.proofs.Standing.{desk_is}
 
 -- ## A row
 
@@ -32,10 +32,10 @@ late_row : EveryLow → (v u : View) (row : ℕ) → AreLow (length u.seen) u.st
 late_row low v u row lows (inl h) = let q = low (length u.seen) h.1.2.acts v.steps row h.1.0 (subst (AreLow (length u.seen)) h.1.2.steps lows) h.1.2.finds in let last = h.1.1 in inl (omega arith)
 late_row low v u row lows (inr h) = inr h.1
 
-pub late_err : EveryLow → (key : ℕ) (p q : Paged) → AreLow (length q.view.seen) q.view.steps → (r : Result Bool Refusal) → IfErr r (λ why. IsRefusedTo key p why q) → IfErr r (LateCause q.view)
-late_err low key p q lows (Ok x) e = tt
-late_err low key p q lows (Err (refusal.RowSpent row)) e = late_row low p.view q.view row lows e.refused.cause
-late_err low key p q lows (Err _) e = tt
+pub late_err : EveryLow → (key : ℕ) (wanted : Wanted) (p q : Paged) → AreLow (length q.view.seen) q.view.steps → (r : Result (Option ℕ) Refusal) → IfErr r (λ why. IsRefusedTo key wanted p why q) → IfErr r (LateCause q.view)
+late_err low key wanted p q lows (Ok x) e = tt
+late_err low key wanted p q lows (Err (refusal.RowSpent row)) e = late_row low p.view q.view row lows e.refused.cause
+late_err low key wanted p q lows (Err _) e = tt
 
 pub late_of : (v : View) (why : Refusal) → IsOfPage why → stopped_by why ≡ unwarmed.RowSpent → LateCause v why → IsLate v
 late_of v (refusal.RowSpent row) k e h = h
@@ -81,13 +81,10 @@ half_of m are h = go work.session.is_half_aborted refl h
         high i lt (inl e) = let b = are.count in omega arith
         high i lt (inr e) = let a = turn_low (shape m.machine) (view_of m) work desks are in let b = turn_high (shape m.machine) (view_of m) work desks are in omega arith
 
--- it was so before what leaves sessions as they were
-pub half_beside : {D : Type 0} {m n : PagedMachine D} → IsBeside m n → HasHalf n → HasHalf m
-half_beside b h = record { session = h.session; low = h.low; high = subst (λ k. h.session ≤ k) (ap (λ (s : Session). s.workers) b.session) h.high; half = ap (λ (d : Desk). d.session.is_half_aborted) (sym (desk_is b h.session)) ∙ h.half }
-
+-- it was so before what leaves aborts as they were
 pub half_kept : {D : Type 0} {m n : PagedMachine D} → n.machine.work.session.workers ≡ m.machine.work.session.workers → AreKept m.machine n.machine → HasHalf n → HasHalf m
 half_kept many kept h = let high = subst (λ k. h.session ≤ k) many h.high in record { session = h.session; low = h.low; high = high; half = sym (ap (λ (s : Session). s.is_half_aborted) (kept h.session h.low high).session) ∙ h.half }
 
-pub spent_from : {D : Type 0} (m n q : PagedMachine D) → (HasHalf n → HasHalf m) → IsSpent n q → IsSpent m q
-spent_from m n q f (inl l) = inl l
-spent_from m n q f (inr h) = inr (f h)
+pub spent_from : {D : Type 0} (key : ℕ) (m n : PagedMachine D) → (HasHalf n → HasHalf m) → IsLateOrStuck key n → IsSpent m n
+spent_from key m n f (inl l) = inl l
+spent_from key m n f (inr h) = inr (f h.half)

@@ -10,3 +10,7 @@ pub mod Stopping
 pub mod Breaking
 pub mod Late
 pub mod Losses
+pub mod StandLemmas
+pub mod AsideLemmas
+pub mod HalfLates
+pub mod EndingLemmas

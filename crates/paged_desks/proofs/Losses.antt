@@ -61,7 +61,7 @@ unread_of story m why u by k = subst (UnreadCause story m) (sym by) (go why k)
     go (refusal.Altered page) l = l
     go _ l = tt
 
-pub damaged_of : {D : Type 0} (story : D → Story) (m : PagedMachine D) (r : Result (Unit {0}) Unwarmed) → IfErr r (UnreadCause story m) → (page : ℕ) → (r ≡ Err (unwarmed.Damaged page)) ⊎ (r ≡ Err (unwarmed.Altered page)) → StandsNowhere story m
+pub damaged_of : {A D : Type 0} (story : D → Story) (m : PagedMachine D) (r : Result A Unwarmed) → IfErr r (UnreadCause story m) → (page : ℕ) → (r ≡ Err (unwarmed.Damaged page)) ⊎ (r ≡ Err (unwarmed.Altered page)) → StandsNowhere story m
 damaged_of story m (Ok x) k p (inl e) = cc
 damaged_of story m (Ok x) k p (inr e) = cc
 damaged_of story m (Err (unwarmed.Damaged page)) k p e = k

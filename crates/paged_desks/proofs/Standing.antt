@@ -35,7 +35,7 @@ use Rattle.paged_desks.proofs.Moments.{IsRest, rest_is}
 -- ## Sessions
 
 -- the free pages are the same where the same pages are free
-frees_same : (a b : ℕ → Node) → ((p : ℕ) → (a p).live ≡ (b p).live) → (n p : ℕ) → frees_from a n p ≡ frees_from b n p
+pub frees_same : (a b : ℕ → Node) → ((p : ℕ) → (a p).live ≡ (b p).live) → (n p : ℕ) → frees_from a n p ≡ frees_from b n p
 frees_same a b same zero p = refl
 frees_same a b same (suc n) p = λ i. if same p i then frees_same a b same n (suc p) i else p ∷ frees_same a b same n (suc p) i
 

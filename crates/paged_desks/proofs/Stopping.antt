@@ -6,6 +6,7 @@ use Rattle.lean_disk.specs.Story.{Story}
 use Rattle.page_provider.specs.declared.refusal.Refusal.{Refusal}
 use Rattle.page_provider.specs.Sequels.{EverySequel}
 use Rattle.paged_rows.specs.Warms.{IsRefusedTo}
+use Rattle.paged_rows.specs.declared.wanted.Wanted.{Wanted}
 use Rattle.row_opening.specs.Openings.{EveryReached}
 use Rattle.row_words.specs.declared.given.Given.{Given}
 use Rattle.row_words.specs.Openings.{opening}
@@ -21,23 +22,23 @@ use Rattle.paged_desks.proofs.Moments.{rest_is}
 use Rattle.paged_desks.proofs.Stops.{broken_is, going, not_full, of_page}
 use Rattle.paged_desks.proofs.Warmth.{paged_is}
 
-module _ {D : Type 0} (story : D → Story) (key : ℕ) (m n : PagedMachine D) where
+module _ {D : Type 0} (story : D → Story) (key : ℕ) (wanted : Wanted) (m n : PagedMachine D) where
   -- where no page is above what is flushed everywhere, there was a frame
-  pub pages_refused : (why : Refusal) → EveryReached → EveryLow → EverySequel → IsReady story m → IsAllFlushed (opening (view_of m).given) (state (view_of m)).core → IsRefusedTo key (pages m) why (pages n) → IsOfPage why
+  pub pages_refused : (why : Refusal) → EveryReached → EveryLow → EverySequel → IsReady story m → IsAllFlushed (opening (view_of m).given) (state (view_of m)).core → IsRefusedTo key wanted (pages m) why (pages n) → IsOfPage why
   pages_refused why reached lows seq ready low e =
       let moved = e.refused.moved in
       let rest = rest_is seq refl ready.keeps moved in
       let given = moved.goes.ran.given in
       let frames = moved.same.frames in
       let some = ready.frames in
-      of_page key (pages m) (pages n) why (paged_is ready) ready.well
-      (not_full key (pages n) why
-      (λ on above held. never_full key on above held (pages n) reached lows (subst HasOpening (sym given) ready.opens) (omega arith) (subst IsNobodyInside (sym rest.is) ready.outside)
+      of_page key wanted (pages m) (pages n) why (paged_is ready) ready.well
+      (not_full key wanted (pages n) why
+      (λ on above held. never_full key wanted on above held (pages n) reached lows (subst HasOpening (sym given) ready.opens) (omega arith) (subst IsNobodyInside (sym rest.is) ready.outside)
       (subst (λ (q : Given × State). IsAllFlushed (opening q.0) q.1) (λ i. (sym given i, sym rest.is i)) low)) e.crowded) e
 
-  module _ (o : PagedMachine D) (why : Refusal) (u : Unwarmed) (ready : IsReady story m) (e : IsRefusedTo key (pages m) why (pages n)) (page : IsOfPage why) (by : u ≡ stopped_by why) (on : n.pager.broken ≡ false → o ≡ n) where
+  module _ (o : PagedMachine D) (why : Refusal) (u : Unwarmed) (ready : IsReady story m) (e : IsRefusedTo key wanted (pages m) why (pages n)) (page : IsOfPage why) (by : u ≡ stopped_by why) (on : n.pager.broken ≡ false → o ≡ n) where
     calm : (A : Type 0) → goes_on {A = A} (Err u) ≡ true → n.pager.broken ≡ false
-    calm A g = broken_is key (pages m) (pages n) why ready.well e ∙ going A why u by page g
+    calm A g = broken_is key wanted (pages m) (pages n) why ready.well e ∙ going A why u by page g
 
     pub stop_keeps : (A : Type 0) (P : PagedMachine D → Type 0) → (n.pager.broken ≡ false → P n) → goes_on {A = A} (Err u) ≡ true → P o
     stop_keeps A P r g = subst P (sym (on (calm A g))) (r (calm A g))

@@ -1,5 +1,5 @@
 -- Refusals, and what they leave of a machine.
-use Rattle.std.proofs.Common.{◌≡◌, ◌∙◌, ◌<◌, ◌≤◌, ◌⊎◌, ◌||◌, inl, inr, ℕ, zero, suc, Bool, true, false, Result, Err, List, [], ◌∷◌, length, get_or, ap, refl, sym, arith, true≢false}
+use Rattle.std.proofs.Common.{◌≡◌, ◌∙◌, ◌<◌, ◌≤◌, ◌⊎◌, ◌||◌, inl, inr, ℕ, zero, suc, Bool, true, false, Option, Result, Err, List, [], ◌∷◌, length, get_or, ap, refl, sym, arith, true≢false}
 use Rattle.std.proofs.lemmas.Bool.{cases_eq}
 use Rattle.map_model.specs.Lists.{any}
 use Rattle.page_provider.specs.declared.refusal.Refusal.{Refusal}
@@ -7,6 +7,7 @@ use Rattle.page_provider.specs.declared.refusal.Refusal.TheVariants as refusal
 use Rattle.page_provider.specs.Refusals.{breaks}
 use Rattle.paged_rows.specs.Paged.{IsPaged, Paged}
 use Rattle.paged_rows.specs.Warms.{CrowdedCause, IsCrowded, IsRefusedTo}
+use Rattle.paged_rows.specs.declared.wanted.Wanted.{Wanted}
 use Rattle.rows_trait.specs.declared.view.View.{View}
 use Rattle.rows_trait.specs.Views.{Shape}
 use Rattle.session_desks.specs.Desks.{desk_of, place_of}
@@ -26,34 +27,34 @@ use Rattle.paged_desks.specs.declared.warming.Unwarmed.{Unwarmed}
 -- ## Refusals
 
 -- where nobody else steps and the pager was not broken, a row, the device or the page is why, unless no frame could be given
-pub of_page : (key : ℕ) (p q : Paged) (why : Refusal) → IsPaged p → p.pager.broken ≡ false → is_full why ≡ false → IsRefusedTo key p why q → IsOfPage why
-of_page key p q (refusal.Moved m) i well full e = e.refused.quiet i.alone tt
-of_page key p q (refusal.Latched l) i well full e = e.refused.quiet i.alone tt
-of_page key p q (refusal.PoolFull on latched above held) i well full e = true≢false full
-of_page key p q refusal.NoPages i well full e = e.crowded
-of_page key p q (refusal.Damaged page counts other) i well full e = tt
-of_page key p q (refusal.Altered page) i well full e = tt
-of_page key p q refusal.DiskFault i well full e = tt
-of_page key p q (refusal.RowSpent row) i well full e = tt
-of_page key p q refusal.Broken i well full e = true≢false (sym (e.refused.earlier refl) ∙ well)
+pub of_page : (key : ℕ) (wanted : Wanted) (p q : Paged) (why : Refusal) → IsPaged p → p.pager.broken ≡ false → is_full why ≡ false → IsRefusedTo key wanted p why q → IsOfPage why
+of_page key wanted p q (refusal.Moved m) i well full e = e.refused.quiet i.alone tt
+of_page key wanted p q (refusal.Latched l) i well full e = e.refused.quiet i.alone tt
+of_page key wanted p q (refusal.PoolFull on latched above held) i well full e = true≢false full
+of_page key wanted p q refusal.NoPages i well full e = e.crowded
+of_page key wanted p q (refusal.Damaged page counts other) i well full e = tt
+of_page key wanted p q (refusal.Altered page) i well full e = tt
+of_page key wanted p q refusal.DiskFault i well full e = tt
+of_page key wanted p q (refusal.RowSpent row) i well full e = tt
+of_page key wanted p q refusal.Broken i well full e = true≢false (sym (e.refused.earlier refl) ∙ well)
 
--- no frame could be given to a page of the way
-pub too_full : {D : Type 0} (key : ℕ) (m : PagedMachine D) (why : Refusal) → is_full why ≡ true → CrowdedCause key why (pages m) → IsTooFull key m
-too_full key m (refusal.PoolFull on latched above held) full c = record { on = on; above = above; held = held; crowded = c }
-too_full key m _ full c = absurd (true≢false (sym full))
+-- no frame could be given to what was wanted
+pub too_full : {D : Type 0} (key : ℕ) (wanted : Wanted) (m : PagedMachine D) (why : Refusal) → is_full why ≡ true → CrowdedCause key wanted why (pages m) → IsTooFull key wanted m
+too_full key wanted m (refusal.PoolFull on latched above held) full c = record { on = on; above = above; held = held; crowded = c }
+too_full key wanted m _ full c = absurd (true≢false (sym full))
 
 pub full_calm : (why : Refusal) → is_full why ≡ true → breaks why ≡ false
 full_calm (refusal.PoolFull on latched above held) full = refl
 full_calm _ full = absurd (true≢false (sym full))
 
 -- unless that never is so
-pub not_full : (key : ℕ) (q : Paged) (why : Refusal) → ((on above held : ℕ) → IsCrowded key on above held q → ⊥) → CrowdedCause key why q → is_full why ≡ false
-not_full key q (refusal.PoolFull on latched above held) never c = absurd (never on above held c)
-not_full key q _ never c = refl
+pub not_full : (key : ℕ) (wanted : Wanted) (q : Paged) (why : Refusal) → ((on above held : ℕ) → IsCrowded key wanted on above held q → ⊥) → CrowdedCause key wanted why q → is_full why ≡ false
+not_full key wanted q (refusal.PoolFull on latched above held) never c = absurd (never on above held c)
+not_full key wanted q _ never c = refl
 
 -- whether the machine works on
-pub broken_is : (key : ℕ) (p q : Paged) (why : Refusal) → p.pager.broken ≡ false → IsRefusedTo key p why q → q.pager.broken ≡ breaks why
-broken_is key p q why well e = e.refused.broken ∙ ap (λ b. b || breaks why) well
+pub broken_is : (key : ℕ) (wanted : Wanted) (p q : Paged) (why : Refusal) → p.pager.broken ≡ false → IsRefusedTo key wanted p why q → q.pager.broken ≡ breaks why
+broken_is key wanted p q why well e = e.refused.broken ∙ ap (λ b. b || breaks why) well
 
 pub stop_works : (A : Type 0) (why : Refusal) (u : Unwarmed) (broken works then : Bool) → u ≡ stopped_by why → IsOfPage why → broken ≡ breaks why → works ≡ true → (broken ≡ false → then ≡ works) → (broken ≡ true → then ≡ false) → then ≡ goes_on {A = A} (Err u)
 stop_works A (refusal.RowSpent row) u broken works then e k b w on off = on b ∙ (w ∙ ap (λ x. goes_on {A = A} (Err x)) (sym e))
@@ -78,7 +79,7 @@ fault_is (refusal.Altered page) k e = cc
 fault_is _ k e = absurd k
 
 -- as a call answers it
-abbrev pub refusing : Unwarmed → Result Bool Unwarmed
+abbrev pub refusing : Unwarmed → Result (Option ℕ) Unwarmed
 refusing u = Err u
 
 pub err_same : {A E : Type 0} (r q : Result A E) (a b : E) → r ≡ Err a → q ≡ Err b → r ≡ q → a ≡ b
@@ -88,10 +89,17 @@ err_same r q a b x y e = cc
 abbrev pub unwarmed_by : Unwarmed → Result (Unit {0}) Unwarmed
 unwarmed_by u = Err u
 
+-- as frame_for does
+abbrev pub frameless_by : Unwarmed → Result ℕ Unwarmed
+frameless_by u = Err u
+
+pub frame_same : (a b : Unwarmed) → frameless_by a ≡ frameless_by b → a ≡ b
+frame_same a b e = err_same (frameless_by a) (frameless_by b) a b refl refl e
+
 pub warm_same : (a b : Unwarmed) → unwarmed_by a ≡ unwarmed_by b → a ≡ b
 warm_same a b e = err_same (unwarmed_by a) (unwarmed_by b) a b refl refl e
 
-pub stop_cause : (a b : ℕ) (r : Result Bool Refusal) (why : Refusal) (u : Unwarmed) → r ≡ Err why → u ≡ stopped_by why → IsOfPage why → HasCause a b (r ≡ Err refusal.DiskFault) → HasCause a b (refusing u ≡ refusing unwarmed.DiskFault)
+pub stop_cause : (a b : ℕ) (r : Result (Option ℕ) Refusal) (why : Refusal) (u : Unwarmed) → r ≡ Err why → u ≡ stopped_by why → IsOfPage why → HasCause a b (r ≡ Err refusal.DiskFault) → HasCause a b (refusing u ≡ refusing unwarmed.DiskFault)
 stop_cause a b r why u is by k c = record {
   later = c.later;
   cause = λ e. c.cause (let f = fault_is why k (sym by ∙ err_same (refusing u) (refusing unwarmed.DiskFault) u unwarmed.DiskFault refl refl e) in cc);

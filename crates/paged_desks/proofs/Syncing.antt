@@ -49,7 +49,7 @@ use Rattle.paged_desks.specs.Machines.{IsNobodyInside, IsReady, memory, pages}
 use Rattle.core_calls.specs.LogEvents.{AreFlushes}
 use Rattle.paged_desks.specs.Pages.{AreKept, ArePaging, is_paging}
 use Rattle.paged_desks.specs.Pages as words
-use Rattle.paged_desks.specs.Inside.{IsSynced}
+use Rattle.paged_desks.specs.Syncs.{IsSynced}
 use Rattle.paged_desks.specs.declared.machine.PagedMachine.{PagedMachine}
 use Rattle.session_desks.proofs.SeatLemmas.{holds_of}
 use Rattle.paged_desks.proofs.Moments.{IsFlushed, flushed_run, flushed_then, length_events, synced_step}
@@ -181,6 +181,9 @@ module _ {D : Type 0} (story : D → Story) (reached : EveryReached) (needs : Ev
   logged : (a : ℕ) → 0 < a → a ≤ m.machine.work.session.workers → (g : Opening) (s : State) → Logs a g s (events_of events) (logs m.machine a) (logs u a)
   logged a some most g s = subst (λ (l : Log). Logs a g s (events_of events) (logs m.machine a) l) (sym (turned.log_of a some (turns a most))) (made.whole.logs a some most g s)
 
+  after : (a : ℕ) → 0 < a → a ≤ m.machine.work.session.workers → logs u a ≡ Rattle.disk_runs.specs.MasterLaws.raised (Rattle.session_state.specs.Syncs.flushed_of (logs m.machine a)) number
+  after a some most = turned.log_of a some (turns a most) ∙ made.whole.after a some most
+
   low : IsAllFlushed (opening w.given) (state w).core
   low =
       let x = ready.opens.opening in
@@ -211,13 +214,12 @@ module _ {D : Type 0} (story : D → Story) (reached : EveryReached) (needs : Ev
       let q = (every_memory old new m.machine.work.session.workers v t.seat.view (memory m) (memory_with_slots (desks.memory t) m.pager.slots) (memory m) (memory n) many (record { log = λ a some most. refl; master = refl; slots = refl }) same_memory).part events p in
       subst (λ (x : View). Part m.machine.work.session.workers events v x (memory m) (memory n) old (story u.work.disk)) (sym view) (subst (λ d. Part m.machine.work.session.workers events v t.seat.view (memory m) (memory n) old (story d)) (sym disk) q)
 
-  pub synced_is : IsSynced story m n
+  pub synced_is : IsSynced story m n number
   synced_is = record {
     events = events;
     given = given;
     seen = seen;
     paging = sync_paging number events made.whole.are;
-    number = number;
     sync = made.whole.are;
     few = let a = made.whole.few in let b = length_events events in omega arith;
     pager = refl;
@@ -225,6 +227,7 @@ module _ {D : Type 0} (story : D → Story) (reached : EveryReached) (needs : Ev
     turn = turned.own;
     sessions = kept;
     logged = logged;
+    after = after;
     flushed = rest.flushed;
     floor = rest.floor;
     worker = rest.worker;

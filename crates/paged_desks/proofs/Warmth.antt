@@ -1,24 +1,32 @@
 -- A key's way that is hot from a level up, behind what is done to pages.
-use Rattle.std.proofs.Common.{◌≡◌, ◌∙◌, ◌≤◌, ◌<◌, ◌-◌, ℕ, Bool, true, false, Result, Ok, Err, IfOk, IfErr, ap, refl, sym, subst, arith}
+use Rattle.std.proofs.Common.{◌≡◌, ◌∙◌, ◌≤◌, ◌<◌, ◌-◌, ◌&&◌, ◌==◌, ℕ, true, false, Result, Ok, Err, IfOk, IfErr, Option, Some, None, ap, refl, sym, subst, arith}
 use Rattle.btree_descent.specs.Known.{Sound}
+use Rattle.cold_pages.specs.Laws.{IsButEntries}
+use Rattle.core_calls.specs.Room.{free_list}
 use Rattle.core_calls.specs.Warms.{EveryWarm, IsWarmFrom}
 use Rattle.core_state.specs.Openings.{Opening}
-use Rattle.core_state.specs.States.{State}
+use Rattle.core_state.specs.States.{State, is_hot}
+use Rattle.image_model.specs.Entries.{Contents}
 use Rattle.lean_disk.specs.Story.{Story}
 use Rattle.page_model.specs.Nodes.{covers}
 use Rattle.page_provider.specs.declared.refusal.Refusal.{Refusal}
 use Rattle.page_provider.specs.Moves.{Moved}
 use Rattle.page_provider.specs.Sequels.{EverySequel}
 use Rattle.paged_rows.specs.Paged.{IsPaged, IsWarm, Paged}
-use Rattle.paged_rows.specs.Warms.{HasCome, IsRefusedTo, Warms, most_a_page}
+use Rattle.paged_rows.specs.Warms.{Brings, CanBring, HasCome, IsRefusedTo, most_a_page}
+use Rattle.paged_rows.specs.declared.wanted.Wanted.{Wanted}
+use Rattle.paged_rows.specs.declared.wanted.Wanted.TheVariants as want
 use Rattle.row_words.specs.declared.given.Given.{Given}
 use Rattle.row_words.specs.Openings.{opening}
 use Rattle.rows_trait.specs.Views.{state}
 use Rattle.session_desks.specs.Parts.{here, shape}
 use Rattle.session_desks.proofs.SeatLemmas.{holds_of}
 use Rattle.paged_desks.specs.Machines.{IsReady, pages, view_of}
-use Rattle.paged_desks.specs.Inside.{Comes, IsSynced}
+use Rattle.paged_desks.specs.Inside.{Comes, IsHoused, IsWarmer}
+use Rattle.paged_desks.specs.Pages.{IsHome}
+use Rattle.paged_desks.specs.Syncs.{IsSynced}
 use Rattle.paged_desks.specs.declared.machine.PagedMachine.{PagedMachine}
+use Rattle.paged_desks.proofs.Standing.{frees_same}
 
 warm_up : (g : Opening) (s : State) (key : ℕ) {a b : ℕ} → a ≤ b → IsWarmFrom g s key a → IsWarmFrom g s key b
 warm_up g s key le w p below covered level = w p below covered (omega arith)
@@ -36,14 +44,16 @@ warm_first {m = m} key every r =
     warm_up (opening v.given) (state v).core key (omega arith) ((every (opening v.given) (state v).core key).first s.tree)
 
 -- pages have moved, however it ended
-pub moved_of : (key : ℕ) (p q : Paged) (r : Result Bool Refusal) → IfOk r (λ done. Warms key done p q) → IfErr r (λ why. IsRefusedTo key p why q) → (most : ℕ) × (most ≤ most_a_page) × Moved most p.shape p.view p.pager q.view q.pager
-moved_of key p q (Ok true) h e = (0, omega arith, h.0.moved)
-moved_of key p q (Ok false) h e = (most_a_page, omega arith, h.moved.moved)
-moved_of key p q (Err why) h e = (most_a_page, omega arith, e.refused.moved)
+pub moved_of : (key : ℕ) (wanted : Wanted) (p q : Paged) (r : Result (Option ℕ) Refusal) → IfOk r (λ come. Brings key wanted come p q) → IfErr r (λ why. IsRefusedTo key wanted p why q) → (most : ℕ) × (most ≤ most_a_page) × Moved most p.shape p.view p.pager q.view q.pager
+moved_of key want.Way p q (Ok None) h e = (0, omega arith, h.0.moved)
+moved_of key want.Way p q (Ok (Some frame)) h e = (most_a_page, omega arith, h.moved.moved)
+moved_of key (want.Free page) p q (Ok None) h e = absurd h
+moved_of key (want.Free page) p q (Ok (Some frame)) h e = (most_a_page, omega arith, h.moved.moved)
+moved_of key wanted p q (Err why) h e = (most_a_page, omega arith, e.refused.moved)
 
 -- one more page has come
-pub warmer : (key : ℕ) (p q : Paged) → EveryWarm → EverySequel → IsPaged p → IsPaged q → HasCome key p q → (level : ℕ) → IsWarm p key level → (0 < level) × IsWarm q key (level - 1)
-warmer key p q every seq i j c level w =
+pub warmer : (key frame : ℕ) (p q : Paged) → EveryWarm → EverySequel → IsPaged p → IsPaged q → HasCome key frame p q → (level : ℕ) → IsWarm p key level → (0 < level) × IsWarm q key (level - 1)
+warmer key frame p q every seq i j c level w =
     let v = p.view in let u = q.view in
     let given : u.given ≡ v.given = c.moved.moved.goes.ran.given in
     let same = seq.pages most_a_page p.shape v u p.pager q.pager i.alone i.keeps c.moved.moved c.page in
@@ -52,32 +62,83 @@ warmer key p q every seq i j c level w =
     let s : Sound u.given (state u) = j.keeps.sound u.seen in (
       omega arith,
       warm_up (opening u.given) (state u).core key (omega arith)
-          ((every (opening u.given) (state u).core key).up s.tree s.residence c.page (subst (λ (g : Given). c.page < (opening g).format.pages) (sym given) c.below) (ap (λ n. covers n key) same.fields ∙ c.covers) c.hot),
+          ((every (opening u.given) (state u).core key).up s.tree s.residence c.page (subst (λ (g : Given). c.page < (opening g).format.pages) (sym given) c.below) (ap (λ n. covers n key) same.fields ∙ c.covers) (ap is_hot c.hot)),
     )
 
-pub comes_of : {D : Type 0} (key : ℕ) (m n : PagedMachine D) → EveryWarm → EverySequel → IsPaged (pages m) → IsPaged (pages n) → (done : Bool) → Warms key done (pages m) (pages n) → Comes key done m n
-comes_of key m n every seq i j true h = h.1
-comes_of key m n every seq i j false h = warmer key (pages m) (pages n) every seq i j h
+-- the same pages are free
+frees_of : (p q : Paged) {most : ℕ} → EverySequel → IsPaged p → Moved most p.shape p.view p.pager q.view q.pager → (i : ℕ) → ((state q.view).core.page i).node.live ≡ ((state p.view).core.page i).node.live
+frees_of p q {most = most} seq j m i = ap (λ n. n.live) (seq.pages most p.shape p.view q.view p.pager q.pager j.alone j.keeps m i).fields
+
+pub comes_of : {D : Type 0} (key : ℕ) (wanted : Wanted) (m n : PagedMachine D) → EveryWarm → EverySequel → IsPaged (pages m) → IsPaged (pages n) → (come : Option ℕ) → Brings key wanted come (pages m) (pages n) → Comes key wanted come m n
+comes_of key want.Way m n every seq i j None h = h.1
+comes_of key want.Way m n every seq i j (Some frame) h = warmer key frame (pages m) (pages n) every seq i j h
+comes_of key (want.Free page) m n every seq i j None h = absurd h
+comes_of key (want.Free page) m n every seq i j (Some frame) h = record { hot = h.hot; same = h.same; warm = h.warm; frees = frees_of (pages m) (pages n) seq i h.moved.moved }
+
+-- a page more of the way
+pub warmer_of : {D : Type 0} (key : ℕ) (m n : PagedMachine D) {come : Option ℕ} {frame : ℕ} → come ≡ Some frame → Comes key want.Way come m n → IsWarmer key m n
+warmer_of key m n is h = subst (λ c. Comes key want.Way c m n) is h
+
+-- ## Behind a refusal, and behind a sync
+
+-- the way is as hot as it was, and the same pages are free, each as it was
+pub record IsAsWarm {D : Type 0} (key : ℕ) (l m : PagedMachine D) : Type 0 where
+  pub given : (view_of m).given ≡ (view_of l).given
+  pub warm : (level : ℕ) → IsWarm (pages l) key level → IsWarm (pages m) key level
+  pub frees : (p : ℕ) → ((state (view_of m)).core.page p).node.live ≡ ((state (view_of l)).core.page p).node.live
+  pub same : (p : ℕ) → ((state (view_of l)).core.page p).node.live ≡ false → (state (view_of m)).core.page p ≡ (state (view_of l)).core.page p
 
 -- a sync does nothing to pages
-pub warm_synced : {D : Type 0} {story : D → Story} (key : ℕ) {m n : PagedMachine D} → IsSynced story m n → (level : ℕ) → IsWarm (pages m) key level → IsWarm (pages n) key level
-warm_synced key s level w = subst (λ (q : Given × State). IsWarmFrom (opening q.0) q.1 key level) (λ i. (sym s.given i, sym s.rest i)) w
+pub warm_synced : {D : Type 0} {story : D → Story} (key : ℕ) {m n : PagedMachine D} {number : ℕ} → IsSynced story m n number → IsAsWarm key m n
+warm_synced key s = record {
+  given = s.given;
+  warm = λ level w. subst (λ (q : Given × State). IsWarmFrom (opening q.0) q.1 key level) (λ i. (sym s.given i, sym s.rest i)) w;
+  frees = λ p. ap (λ (t : State). (t.page p).node.live) s.rest;
+  same = λ p _. ap (λ (t : State). t.page p) s.rest;
+}
 
--- behind what keeps the way as it was
-pub comes_after : {D : Type 0} (key : ℕ) (l m n : PagedMachine D) → ((level : ℕ) → IsWarm (pages l) key level → IsWarm (pages m) key level) → (done : Bool) → Comes key done m n → Comes key done l n
-comes_after key l m n keeps true h = h
-comes_after key l m n keeps false h = λ level w. h level (keeps level w)
+page_is : (a b : Contents) → IsButEntries a b → a.node.live ≡ false → b ≡ a
+page_is a b c dead = let n = c.other (ap (λ x. x && (a.node.level == 0)) dead) in λ i. record { gsn = c.gsn i; last = c.last i; node = n i }
+
+pub warm_refused : {D : Type 0} (key : ℕ) (wanted : Wanted) (l m : PagedMachine D) (why : Refusal) → EverySequel → IsPaged (pages l) → IsRefusedTo key wanted (pages l) why (pages m) → IsAsWarm key l m
+warm_refused key wanted l m why seq i e = let n = e.refused.moved in record {
+  given = n.goes.ran.given;
+  warm = e.warm;
+  frees = frees_of (pages l) (pages m) seq i n;
+  same = λ p dead. page_is ((state (view_of l)).core.page p) ((state (view_of m)).core.page p) (seq.pages most_a_page (pages l).shape (view_of l) (view_of m) l.pager m.pager i.alone i.keeps n p) dead;
+}
+
+pub can_after : {D : Type 0} (key : ℕ) (wanted : Wanted) (l m : PagedMachine D) → IsAsWarm key l m → CanBring key wanted (pages l) → CanBring key wanted (pages m)
+can_after key want.Way l m a c = tt
+can_after key (want.Free page) l m a c = ((subst (λ (g : Given). page < (opening g).format.pages) (sym a.given) c.0.0, a.frees page ∙ c.0.1), a.warm 0 c.1)
+
+comes_after : {D : Type 0} (key : ℕ) (wanted : Wanted) (l m n : PagedMachine D) → IsAsWarm key l m → CanBring key wanted (pages l) → (come : Option ℕ) → Comes key wanted come m n → Comes key wanted come l n
+comes_after key want.Way l m n a c None h = h
+comes_after key want.Way l m n a c (Some frame) h = λ level w. h level (a.warm level w)
+comes_after key (want.Free page) l m n a c None h = absurd h
+comes_after key (want.Free page) l m n a c (Some frame) h = record { hot = h.hot; same = h.same ∙ a.same page c.0.1; warm = h.warm; frees = λ p. h.frees p ∙ a.frees p }
+
+pub comes_behind : {D E : Type 0} (key : ℕ) (wanted : Wanted) (l m n : PagedMachine D) → IsAsWarm key l m → CanBring key wanted (pages l) → (r : Result (Option ℕ) E) → IfOk r (λ come. Comes key wanted come m n) → IfOk r (λ come. Comes key wanted come l n)
+comes_behind key wanted l m n a c (Ok come) h = comes_after key wanted l m n a c come h
+comes_behind key wanted l m n a c (Err why) h = tt
 
 -- a page came: the pager is not broken
-pub well_of : (key : ℕ) (p q : Paged) (done : Bool) → Warms key done p q → p.pager.broken ≡ false → q.pager.broken ≡ false
-well_of key p q true h well = h.0.broken ∙ well
-well_of key p q false h well = h.moved.broken ∙ well
+pub well_of : (key : ℕ) (wanted : Wanted) (p q : Paged) (come : Option ℕ) → Brings key wanted come p q → p.pager.broken ≡ false → q.pager.broken ≡ false
+well_of key want.Way p q None h well = h.0.broken ∙ well
+well_of key want.Way p q (Some frame) h well = h.moved.broken ∙ well
+well_of key (want.Free page) p q None h well = absurd h
+well_of key (want.Free page) p q (Some frame) h well = h.moved.broken ∙ well
 
-pub comes_synced : {D E : Type 0} {story : D → Story} (key : ℕ) (l m n : PagedMachine D) → IsSynced story l m → (r : Result Bool E) → IfOk r (λ done. Comes key done m n) → IfOk r (λ done. Comes key done l n)
-comes_synced key l m n s (Ok done) h = comes_after key l m n (warm_synced key s) done h
-comes_synced key l m n s (Err why) h = tt
+-- ## A free page that has come
 
--- behind a refusal
-pub comes_refused : {D E : Type 0} (key : ℕ) (l m n : PagedMachine D) (why : Refusal) → IsRefusedTo key (pages l) why (pages m) → (r : Result Bool E) → IfOk r (λ done. Comes key done m n) → IfOk r (λ done. Comes key done l n)
-comes_refused key l m n why e (Ok done) h = comes_after key l m n e.warm done h
-comes_refused key l m n why e (Err u) h = tt
+pub free_is : {D : Type 0} {story : D → Story} {m : PagedMachine D} → IsReady story m → m.machine.work.session.free ≡ free_list (opening (view_of m).given) (state (view_of m)).core
+free_is {m = m} r = (holds_of (shape m.machine) (view_of m) (here m.machine) m.machine.desks.items r.sound.desks).free
+
+pub home_of : {D : Type 0} {story : D → Story} (key page frame : ℕ) {m n : PagedMachine D} → IsReady story m → IsReady story n → (view_of n).given ≡ (view_of m).given → IsHoused key page frame m n → IsHome key page frame m n
+home_of key page frame {m = m} {n = n} i j given h = record {
+  hot = h.hot;
+  same = h.same;
+  free = free_is j ∙ (ap (λ (g : Given). free_list (opening g) (state (view_of n)).core) given
+      ∙ (frees_same (λ p. ((state (view_of n)).core.page p).node) (λ p. ((state (view_of m)).core.page p).node) h.frees (opening (view_of m).given).format.pages 0 ∙ sym (free_is i)));
+  warm = h.warm;
+}

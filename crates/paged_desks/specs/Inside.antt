@@ -1,30 +1,24 @@
 -- Words of private functions.
-use Rattle.std.specs.Prelude.{◌≡◌, ◌≤◌, ◌<◌, ◌+◌, ◌*◌, ◌++◌, ◌-◌, ℕ, suc, Bool, true, false, List, length}
+use Rattle.std.specs.Prelude.{◌≡◌, ◌≤◌, ◌<◌, ◌+◌, ◌*◌, ◌-◌, ℕ, Bool, true, false, List, length, Option, Some, None}
 use Rattle.call_parts.specs.Parts.{Failed, Part}
 use Rattle.call_parts.specs.Rooms as rooms
-use Rattle.core_calls.specs.Fronts.{Done}
-use Rattle.core_calls.specs.LogEvents.{IsSync}
-use Rattle.core_covers.specs.Lows.{IsAllFlushed}
 use Rattle.core_state.specs.Events as happening
-use Rattle.core_state.specs.Openings.{Opening}
-use Rattle.core_state.specs.States.{State, Worker}
+use Rattle.core_state.specs.States.{Place}
 use Rattle.desk_parts.specs.Pages.{StaysWithin}
-use Rattle.engine_trait.specs.Logs.{Logs}
 use Rattle.lean_disk.specs.Story.{Story}
 use Rattle.page_provider.specs.Disks.{Disked}
 use Rattle.page_provider.specs.declared.refusal.Refusal.{Refusal}
 use Rattle.page_provider.specs.declared.refusal.Refusal.TheVariants as refusal
 use Rattle.paged_rows.specs.Paged.{IsWarm}
 use Rattle.paged_rows.specs.Warms.{IsCrowded, ReadsUnlessSaved}
+use Rattle.paged_rows.specs.declared.wanted.Wanted.{Wanted}
+use Rattle.paged_rows.specs.declared.wanted.Wanted.TheVariants as want
 use Rattle.row_words.specs.declared.event.Event.{Event}
-use Rattle.row_words.specs.Moments.{events_of}
-use Rattle.row_words.specs.Openings.{opening}
 use Rattle.rows_trait.specs.declared.view.View.{View}
 use Rattle.rows_trait.specs.Views.{state}
 use Rattle.session_desks.specs.Parts.{AreAsMany, SeatFits, logs, shape}
-use Rattle.session_state.specs.Ties.{Behind}
 use Rattle.paged_desks.specs.Machines.{memory, pages, view_of}
-use Rattle.paged_desks.specs.Pages.{AreKept, ArePaging, HasPaged, hot_in}
+use Rattle.paged_desks.specs.Pages.{ArePaging, HasPaged, hot_in}
 use Rattle.paged_desks.specs.Parts.{IsLate, StandsNowhere}
 use Rattle.paged_desks.specs.declared.machine.PagedMachine.{PagedMachine}
 use Rattle.paged_desks.specs.declared.warming.Unwarmed.{Unwarmed}
@@ -80,12 +74,12 @@ pub record IsBeside {D : Type 0} (m n : PagedMachine D) : Type 0 where
   pub latches : n.machine.latches ≡ m.machine.latches
   pub master : n.machine.master ≡ m.machine.master
 
--- no frame could be given to a page of the key's way
-pub record IsTooFull {D : Type 0} (key : ℕ) (m : PagedMachine D) : Type 0 where
+-- no frame could be given to a page of the key's way, or to the free one that was wanted
+pub record IsTooFull {D : Type 0} (key : ℕ) (wanted : Wanted) (m : PagedMachine D) : Type 0 where
   pub on : ℕ
   pub above : ℕ
   pub held : ℕ
-  pub crowded : IsCrowded key on above held (pages m)
+  pub crowded : IsCrowded key wanted on above held (pages m)
 
 -- what a call of the pager has made of the device
 pub record HasServed {D : Type 0} (story : D → Story) (m n : PagedMachine D) : Type 0 where
@@ -118,31 +112,16 @@ pub record IsStopped {D : Type 0} (m n : PagedMachine D) : Type 0 where
 abbrev pub IsWarmer : {D : Type 0} → (key : ℕ) → PagedMachine D → PagedMachine D → Type 0
 IsWarmer key m n = (level : ℕ) → IsWarm (pages m) key level → (0 < level) × IsWarm (pages n) key (level - 1)
 
--- all of it is hot, or so
-abbrev pub Comes : {D : Type 0} → (key : ℕ) → Bool → PagedMachine D → PagedMachine D → Type 0
-Comes key true m n = IsWarm (pages n) key 0
-Comes key false m n = IsWarmer key m n
+-- The free page stands hot in the frame, as it was; the way is hot, and the same pages are free.
+pub record IsHoused {D : Type 0} (key page frame : ℕ) (m n : PagedMachine D) : Type 0 where
+  pub hot : (state (view_of n)).core.place page ≡ Place.Hot frame
+  pub same : (state (view_of n)).core.page page ≡ (state (view_of m)).core.page page
+  pub warm : IsWarm (pages n) key 0
+  pub frees : (p : ℕ) → ((state (view_of n)).core.page p).node.live ≡ ((state (view_of m)).core.page p).node.live
 
--- ## A sync
-
--- Logs were flushed, and all were synced up to a number; no clock is above what is flushed everywhere then. What is known of pages is as it was.
-pub record IsSynced {D : Type 0} (story : D → Story) (m n : PagedMachine D) : Type 0 where
-  pub events : List Event
-  pub given : (view_of n).given ≡ (view_of m).given
-  pub seen : (view_of n).seen ≡ (view_of m).seen ++ events
-  pub paging : ArePaging events
-  pub number : ℕ
-  pub sync : IsSync number (events_of events)
-  pub few : length events ≤ suc m.machine.work.session.workers
-  pub pager : n.pager ≡ m.pager
-  pub same : AreAsMany m.machine n.machine
-  pub turn : n.machine.work.session.own ≡ m.machine.work.session.own
-  pub sessions : AreKept m.machine n.machine
-  pub logged : (w : ℕ) → 0 < w → w ≤ m.machine.work.session.workers → (g : Opening) (s : State) → Logs w g s (events_of events) (logs m.machine w) (logs n.machine w)
-  pub flushed : ℕ → ℕ
-  pub floor : ℕ
-  pub worker : ℕ → Worker
-  pub rest : (state (view_of n)).core ≡ record (state (view_of m)).core { flushed = flushed; floor = floor; worker = worker }
-  pub part : Part m.machine.work.session.workers events (view_of m) (view_of n) (memory m) (memory n) (story m.machine.work.disk) (story n.machine.work.disk)
-  pub low : IsAllFlushed (opening (view_of n).given) (state (view_of n)).core
-  pub behind : (g : Opening) (xs : List Done) (first : List happening.Event) → Behind g xs first (view_of m) → Behind g xs (first ++ events_of events) (view_of n)
+-- what has come: all of the way is hot, or one page more of it; or the free page
+abbrev pub Comes : {D : Type 0} → (key : ℕ) → Wanted → Option ℕ → PagedMachine D → PagedMachine D → Type 0
+Comes key want.Way None m n = IsWarm (pages n) key 0
+Comes key want.Way (Some frame) m n = IsWarmer key m n
+Comes key (want.Free page) None m n = ⊥
+Comes key (want.Free page) (Some frame) m n = IsHoused key page frame m n

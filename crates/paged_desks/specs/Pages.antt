@@ -6,11 +6,12 @@ use Rattle.core_calls.specs.LogEvents.{IsTight, SyncsWhere}
 use Rattle.core_state.specs.Events as happening
 use Rattle.core_state.specs.Local.{is_sync}
 use Rattle.core_state.specs.Openings.{Opening}
-use Rattle.core_state.specs.States.{State}
+use Rattle.core_state.specs.States.{Place, State}
 use Rattle.engine_calls.specs.Parts.{behind_first}
 use Rattle.engine_trait.specs.Logs.{Logs}
 use Rattle.page_pool.specs.Counts.{hot_pages}
 use Rattle.page_provider.specs.Moves.{is_pagers}
+use Rattle.paged_rows.specs.Paged.{IsWarm}
 use Rattle.paged_rows.specs.Warms.{most_a_page}
 use Rattle.row_words.specs.declared.event.Event.{Event}
 use Rattle.row_words.specs.declared.event.Event.TheVariants as told
@@ -22,7 +23,7 @@ use Rattle.session_desks.specs.Parts.{AreAsMany, here, logs}
 use Rattle.session_desks.specs.declared.machine.Machine.{Machine}
 use Rattle.session_state.specs.Ties.{Behind}
 use Rattle.session_state.specs.declared.session.Session.{Session}
-use Rattle.paged_desks.specs.Machines.{view_of}
+use Rattle.paged_desks.specs.Machines.{pages, view_of}
 use Rattle.paged_desks.specs.declared.machine.PagedMachine.{PagedMachine}
 use Rattle.paged_desks.specs.declared.warming.Unwarmed.{Unwarmed}
 use Rattle.paged_desks.specs.declared.warming.Unwarmed.TheVariants as unwarmed
@@ -74,9 +75,19 @@ pub record HasPaged {D : Type 0} (key most : ℕ) (m n : PagedMachine D) : Type 
   pub sessions : AreKept m.machine n.machine
   pub logged : (w : ℕ) → 0 < w → w ≤ m.machine.work.session.workers → (g : Opening) (s : State) → Logs w g s (events_of events) (logs m.machine w) (logs n.machine w)
   pub master : any is_sync (events_of events) ≡ false → n.machine.master ≡ m.machine.master
-  -- in each run the needs of the events are met, and a sync stands only where a page of the key's way finds no frame
+  -- in each run the needs of the events are met, and a sync stands only where a page of the key's way, or a free one, finds no frame
   pub behind : (g : Opening) (xs : List Done) (first : List happening.Event) → Behind g xs first (view_of m) → Behind g xs (first ++ events_of events) (view_of n)
   pub tight : (g : Opening) (xs : List Done) (first : List happening.Event) → Behind g xs first (view_of m) → SyncsWhere (λ s. IsTight g s key) g (behind_first g xs first) false (events_of events)
+
+-- ## A free page
+
+-- A page that was free stands hot in the frame, with the number and the node that it had, and the session's free pages are those that they were: so it is
+-- free still. The pages of the key's way are hot.
+pub record IsHome {D : Type 0} (key page frame : ℕ) (m n : PagedMachine D) : Type 0 where
+  pub hot : (state (view_of n)).core.place page ≡ Place.Hot frame
+  pub same : (state (view_of n)).core.page page ≡ (state (view_of m)).core.page page
+  pub free : n.machine.work.session.free ≡ m.machine.work.session.free
+  pub warm : IsWarm (pages n) key 0
 
 -- ## Answers
 

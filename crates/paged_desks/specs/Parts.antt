@@ -1,20 +1,22 @@
 -- The coming of pages, as a part of a call.
-use Rattle.std.specs.Prelude.{◌≡◌, ◌⊎◌, ◌≤◌, ◌<◌, ◌+◌, ◌^◌, ◌++◌, ℕ, true, List, length}
+use Rattle.std.specs.Prelude.{◌≡◌, ◌⊎◌, ◌≤◌, ◌<◌, ◌+◌, ◌*◌, ◌^◌, ◌++◌, ℕ, true, List, length}
 use Rattle.call_parts.specs.Memory.{IsOf}
 use Rattle.call_parts.specs.Parts.{Failed, Part}
 use Rattle.call_parts.specs.Rooms.{ArePaging}
 use Rattle.core_calls.specs.Fronts.{Done, front}
+use Rattle.core_calls.specs.LogEvents.{IsTight}
 use Rattle.core_state.specs.Events.{Event}
 use Rattle.core_state.specs.Openings.{Opening}
 use Rattle.disk_runs.specs.Stands.{Known, Stands}
 use Rattle.lean_disk.specs.Story.{Crash, Story}
+use Rattle.row_words.specs.Openings.{opening}
 use Rattle.rows_trait.specs.declared.view.View.{View}
 use Rattle.rows_trait.specs.Views.{state}
 use Rattle.session_desks.specs.Desks.{desk_of}
 use Rattle.session_desks.specs.Parts.{AreAsMany, SeatFits, here}
 use Rattle.session_state.specs.Ties.{Behind}
 use Rattle.paged_desks.specs.Machines.{memory, view_of}
-use Rattle.paged_desks.specs.Pages.{HasPaged}
+use Rattle.paged_desks.specs.Pages.{HasPaged, hot_in}
 use Rattle.paged_desks.specs.declared.machine.PagedMachine.{PagedMachine}
 
 -- so many events at most have the pages of one way
@@ -27,11 +29,12 @@ pub record HasGone {D : Type 0} (story : D → Story) (key most : ℕ) (m n : Pa
   pub few : length paged.events ≤ most_a_way
   pub part : Part m.machine.work.session.workers paged.events (view_of m) (view_of n) (memory m) (memory n) (story m.machine.work.disk) (story n.machine.work.disk)
 
--- A device failed in that, or a page was not to be had: these moves of pages and logs were under way.
+-- A device failed in that, or a page was not to be had: these moves of pages and logs were under way, few of them beside those by which pages cooled.
 pub record HasFailed {D : Type 0} (story : D → Story) (m n : PagedMachine D) : Type 0 where
   pub events : List Event
   pub paging : ArePaging events
   pub few : length events ≤ most_a_way
+  pub close : length events ≤ 2 * hot_in m + 2 ^ 10
   pub failed : Failed m.machine.work.session.workers true true events (view_of m) (memory m) (story m.machine.work.disk) (story n.machine.work.disk)
   pub same : AreAsMany m.machine n.machine
   pub fits : SeatFits n.machine
@@ -58,3 +61,12 @@ pub record HasHalf {D : Type 0} (m : PagedMachine D) : Type 0 where
 -- it is late behind the call, or before it an abort was half done, which had met that
 abbrev pub IsSpent : {D : Type 0} → PagedMachine D → PagedMachine D → Type 0
 IsSpent m n = IsLate (view_of n) ⊎ HasHalf m
+
+-- where it stopped a page that is needed finds no frame, so a sync is; and an abort is half done, which had met that
+pub record IsStuck {D : Type 0} (key : ℕ) (n : PagedMachine D) : Type 0 where
+  pub tight : IsTight (opening (view_of n).given) (state (view_of n)).core key
+  pub half : HasHalf n
+
+-- it is late behind the call, or it is stuck there
+abbrev pub IsLateOrStuck : {D : Type 0} → (key : ℕ) → PagedMachine D → Type 0
+IsLateOrStuck key n = IsLate (view_of n) ⊎ IsStuck key n

@@ -1,14 +1,14 @@
-// The pages of a key's way are brought into frames.
+// The pages of a key's way are brought into frames, and a free page beside them.
 ghost use Rattle.std.specs.Prelude.{◌≡◌, ◌⊎◌, ◌<◌, ◌+◌, ◌*◌, ◌^◌, ◌-◌, ℕ, suc, true, false, IfErr, IfOk, OnOk, Err};
 ghost use Rattle.core_covers.specs.Lows.{IsAllFlushed};
 ghost use Rattle.lean_disk.specs.Faults.{HasCause};
 ghost use Rattle.row_words.specs.Openings.{opening};
 ghost use Rattle.rows_trait.specs.Views.{state};
-ghost use Rattle.paged_rows.specs.Paged.{IsWarm};
-ghost use Rattle.paged_rows.specs.Warms.{most_a_page};
+ghost use Rattle.paged_rows.specs.Paged.{IsFree, IsWarm};
+ghost use Rattle.paged_rows.specs.Warms.{CanBring, most_a_page};
 ghost use Rattle.paged_desks.specs.Machines.{IsReady, pages};
-ghost use Rattle.paged_desks.specs.Pages.{goes_on, most_a_level};
-ghost use Rattle.paged_desks.specs.Parts.{HasFailed, HasGone, IsLate, IsSpent, StandsNowhere};
+ghost use Rattle.paged_desks.specs.Pages.{IsHome, goes_on, most_a_level};
+ghost use Rattle.paged_desks.specs.Parts.{HasFailed, HasGone, IsLate, IsLateOrStuck, IsSpent, StandsNowhere};
 ghost use Rattle.paged_desks.specs.Inside.{Comes, HasBroken, HasDone, IsOfPage, IsStopped, IsTooFull, UnreadCause, stopped_by};
 ghost use Rattle.paged_desks.specs.declared.warming.Unwarmed.TheVariants as refused;
 
@@ -16,10 +16,11 @@ use crate::laws::laws;
 use crate::machine::PagedMachine;
 use lean_proto::path::DEEPEST;
 use page_provider::Refusal;
+use paged_rows::Wanted;
 use session_state::Stages;
 use worker_log::DiskFault;
 
-/// Why the pages of a key's way were not brought into frames.
+/// Why a page was not brought into a frame.
 #[derive(Clone, Copy, Debug, PartialEq, Eq)]
 pub enum Unwarmed {
     /// The version of a row, or the global epoch, has come to its last number; or a sync is needed, and an abort is half done, which had met that.
@@ -73,40 +74,42 @@ impl<D: Stages> PagedMachine<D> {
         why_of(why)
     }
 
-    // Brings the page, where no page is above what is flushed everywhere: then there is a frame for it.
-    fn bring_again(&mut self, key: u64) -> Result<bool, Unwarmed>
+    // Brings what is wanted, where no page is above what is flushed everywhere: then there is a frame for it.
+    fn bring_again(&mut self, key: u64, wanted: Wanted) -> Result<Option<u32>, Unwarmed>
         requires ready { IsReady D.story self.old }
         requires low { IsAllFlushed (opening self.old.machine.seat.view.given) (state self.old.machine.seat.view).core }
         requires key { key < 2 ^ 64 - 1 }
+        requires can { CanBring key wanted (pages self.old) }
         ensures works { self.new.machine.work.session.works ≡ goes_on result }
         ensures ready { goes_on result ≡ true → IsReady D.story self.new }
         ensures done { goes_on result ≡ true → HasDone D.story key (3 * most_a_page) self.old self.new }
         ensures broke { goes_on result ≡ false → HasBroken D.story (3 * most_a_page) self.old self.new }
         ensures spent { result ≡ Err refused.RowSpent → IsLate self.new.machine.seat.view }
         ensures unread { IfErr result (UnreadCause D.story self.old) }
-        ensures comes { IfOk result (λ done. Comes key done self.old self.new) }
+        ensures comes { IfOk result (λ come. Comes key wanted come self.old self.new) }
 
         ensures cause_disk_fault { HasCause (D.faults self.old.machine.work.disk) (D.faults self.new.machine.work.disk) (result ≡ Err refused.DiskFault) }
     {
         laws();
-        match self.bring(key) {
-            Ok(done) => Ok(done),
+        match self.bring(key, wanted) {
+            Ok(come) => Ok(come),
             Err(why) => Err(self.stop(why)),
         }
     }
 
     // A page finds no frame: all logs are synced, and it is asked for once more.
-    fn sync_and_bring(&mut self, key: u64) -> Result<bool, Unwarmed>
+    fn sync_and_bring(&mut self, key: u64, wanted: Wanted) -> Result<Option<u32>, Unwarmed>
         requires ready { IsReady D.story self.old }
-        requires crowded { IsTooFull key self.old }
+        requires crowded { IsTooFull key wanted self.old }
         requires key { key < 2 ^ 64 - 1 }
+        requires can { CanBring key wanted (pages self.old) }
         ensures works { self.new.machine.work.session.works ≡ goes_on result }
         ensures ready { goes_on result ≡ true → IsReady D.story self.new }
         ensures done { goes_on result ≡ true → HasDone D.story key (3 * most_a_page + suc self.old.machine.work.session.workers) self.old self.new }
         ensures broke { goes_on result ≡ false → HasBroken D.story (3 * most_a_page + suc self.old.machine.work.session.workers) self.old self.new }
-        ensures spent { result ≡ Err refused.RowSpent → IsSpent self.old self.new }
+        ensures stuck { result ≡ Err refused.RowSpent → IsLateOrStuck key self.new }
         ensures unread { IfErr result (UnreadCause D.story self.old) }
-        ensures comes { IfOk result (λ done. Comes key done self.old self.new) }
+        ensures comes { IfOk result (λ come. Comes key wanted come self.old self.new) }
 
         ensures cause_disk_fault { HasCause (D.faults self.old.machine.work.disk) (D.faults self.new.machine.work.disk) (result ≡ Err refused.DiskFault) }
     {
@@ -115,32 +118,33 @@ impl<D: Stages> PagedMachine<D> {
             return Err(Unwarmed::RowSpent);
         }
         match self.sync() {
-            Ok(()) => self.bring_again(key),
+            Ok(_) => self.bring_again(key, wanted),
             Err(DiskFault) => Err(Unwarmed::DiskFault),
         }
     }
 
-    // Brings the first page of a key's way that is not hot into a frame, behind a sync where it finds none. True: there is no such page.
-    fn bring_or_sync(&mut self, key: u64) -> Result<bool, Unwarmed>
+    // Brings what is wanted into a frame, behind a sync where it finds none, and answers which. None: all of the key's way is hot.
+    fn bring_or_sync(&mut self, key: u64, wanted: Wanted) -> Result<Option<u32>, Unwarmed>
         requires ready { IsReady D.story self.old }
         requires key { key < 2 ^ 64 - 1 }
+        requires can { CanBring key wanted (pages self.old) }
         ensures works { self.new.machine.work.session.works ≡ goes_on result }
         ensures ready { goes_on result ≡ true → IsReady D.story self.new }
         ensures done { goes_on result ≡ true → HasDone D.story key (most_a_level self.old.machine.work.session.workers) self.old self.new }
         ensures broke { goes_on result ≡ false → HasBroken D.story (most_a_level self.old.machine.work.session.workers) self.old self.new }
-        ensures spent { result ≡ Err refused.RowSpent → IsSpent self.old self.new }
+        ensures stuck { result ≡ Err refused.RowSpent → IsLateOrStuck key self.new }
         ensures unread { IfErr result (UnreadCause D.story self.old) }
-        ensures comes { IfOk result (λ done. Comes key done self.old self.new) }
+        ensures comes { IfOk result (λ come. Comes key wanted come self.old self.new) }
 
         ensures cause_disk_fault { HasCause (D.faults self.old.machine.work.disk) (D.faults self.new.machine.work.disk) (result ≡ Err refused.DiskFault) }
     {
         laws();
-        let why = match self.bring(key) {
-            Ok(done) => return Ok(done),
+        let why = match self.bring(key, wanted) {
+            Ok(come) => return Ok(come),
             Err(why) => why,
         };
         if is_full(why) {
-            return self.sync_and_bring(key);
+            return self.sync_and_bring(key, wanted);
         }
         Err(self.stop(why))
     }
@@ -158,6 +162,7 @@ impl<D: Stages> PagedMachine<D> {
         ensures gone { goes_on result ≡ true → HasGone D.story key (9 * most_a_level self.old.machine.work.session.workers) self.old self.new }
         ensures failed { goes_on result ≡ false → HasFailed D.story self.old self.new }
         ensures spent { result ≡ Err refused.RowSpent → IsSpent self.old self.new }
+        ensures tight { result ≡ Err refused.RowSpent → IsLateOrStuck key self.new }
         ensures damaged { (page : ℕ) → (result ≡ Err (refused.Damaged page)) ⊎ (result ≡ Err (refused.Altered page)) → StandsNowhere D.story self.old }
         ensures warm { OnOk result (IsWarm (pages self.new) key 0) }
 
@@ -165,12 +170,41 @@ impl<D: Stages> PagedMachine<D> {
     {
         laws();
         for _come in 0..DEEPEST + 1 {
-            match self.bring_or_sync(key) {
-                Ok(true) => return Ok(()),
-                Ok(false) => {}
+            match self.bring_or_sync(key, Wanted::Way) {
+                Ok(None) => return Ok(()),
+                Ok(Some(_)) => {}
                 Err(why) => return Err(why),
             }
         }
         unreachable!()
+    }
+
+    /// Brings a free page into a frame, for a change of the tree on a key's way that is to take it, and answers which. The pages of that way, which are
+    /// hot, stay so. Where the page finds no frame, since each has a page of the way or one above the number up to which all logs are flushed, it makes a
+    /// sync first.
+    ///
+    /// The refusals are those of `warm`.
+    pub fn frame_for(&mut self, key: u64, page: u32) -> Result<u32, Unwarmed>
+        requires ready { IsReady D.story self.old }
+        requires key { key < 2 ^ 64 - 1 }
+        requires free { IsFree (pages self.old) page }
+        requires warm { IsWarm (pages self.old) key 0 }
+        ensures works { self.new.machine.work.session.works ≡ goes_on result }
+        ensures ready { goes_on result ≡ true → IsReady D.story self.new }
+        ensures gone { goes_on result ≡ true → HasGone D.story key (most_a_level self.old.machine.work.session.workers) self.old self.new }
+        ensures failed { goes_on result ≡ false → HasFailed D.story self.old self.new }
+        ensures spent { result ≡ Err refused.RowSpent → IsSpent self.old self.new }
+        ensures tight { result ≡ Err refused.RowSpent → IsLateOrStuck key self.new }
+        ensures damaged { (page : ℕ) → (result ≡ Err (refused.Damaged page)) ⊎ (result ≡ Err (refused.Altered page)) → StandsNowhere D.story self.old }
+        ensures home { IfOk result (λ frame. IsHome key page frame self.old self.new) }
+
+        ensures cause_disk_fault { HasCause (D.faults self.old.machine.work.disk) (D.faults self.new.machine.work.disk) (result ≡ Err refused.DiskFault) }
+    {
+        laws();
+        match self.bring_or_sync(key, Wanted::Free { page }) {
+            Ok(Some(frame)) => Ok(frame),
+            Ok(None) => unreachable!(),
+            Err(why) => Err(why),
+        }
     }
 }

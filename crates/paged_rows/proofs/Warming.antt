@@ -21,13 +21,21 @@ use Rattle.page_provider.specs.Providers.{Provider}
 use Rattle.page_provider.specs.Sequels.{EverySequel}
 use Rattle.page_provider.specs.declared.refusal.Refusal.{Refusal}
 use Rattle.rows_trait.proofs.Runs.{ran_none}
-use Rattle.paged_rows.specs.Paged.{IsFedIfFaithful, IsPaged}
+use Rattle.paged_rows.specs.Paged.{IsFedIfFaithful, IsFree, IsPaged}
 use Rattle.page_calls.specs.Mirrors.{Mirrors}
 use Rattle.page_provider.specs.Mirrored.{KeepsMirrored}
 use Rattle.lean_disk.specs.Moments.{Framed}
 use Rattle.std.specs.Prelude.{IsTrue}
 use Rattle.paged_rows.specs.Paged.{paged}
-use Rattle.paged_rows.specs.Warms.{CrowdedCause, HasCome, HasMoved, IsCrowded, IsKept, IsLost, IsRefusedTo, LostTo, most_a_page}
+use Rattle.paged_rows.specs.Warms.{CrowdedCause, HasCome, HasJoined, HasMoved, IsKept, IsLost, IsNeeded, IsRefusedTo, LostTo, most_a_page}
+use Rattle.paged_rows.specs.declared.wanted.Wanted.{Wanted}
+use Rattle.paged_rows.specs.declared.wanted.Wanted.TheVariants as want
+use Rattle.image_model.specs.Entries.{Contents}
+use Rattle.page_model.specs.Check.{names_page}
+use Rattle.page_model.specs.Pairs.{Span, spans}
+use Rattle.page_provider.specs.Moves.{KeepsPath}
+use Rattle.std.proofs.Common.{true≢false}
+use Rattle.std.proofs.lemmas.Bool.{ltb-true}
 use Rattle.map_model.specs.Lists.{any}
 use Rattle.map_model.proofs.ListLemmas.{any_has}
 use Rattle.page_pool.specs.Full.{IsTaken}
@@ -35,17 +43,17 @@ use Rattle.cold_pages.specs.Laws.{IsButEntries}
 use Rattle.page_provider.specs.Moves.{is_on, way}
 use Rattle.core_state.specs.States.{is_cold}
 use Rattle.std.proofs.Common.{◌++◌, ◌||◌, append-nil}
-use Rattle.std.proofs.Common.{IfErr, IfOk, Ok, Err, Option, Some, None, ◌∷◌, inl, inr, length, zero}
+use Rattle.std.proofs.Common.{Result, IfErr, IfOk, Ok, Err, Option, Some, None, ◌∷◌, inl, inr, length, zero}
 use Rattle.std.specs.Prelude.{slice_index}
 use Rattle.std.proofs.lemmas.Bool.{cond-true, eq-eqb}
 use Rattle.lean_proto.specs.Paths.{above}
-use Rattle.btree_descent.specs.Trails.{IsAbove, Routes}
+use Rattle.btree_descent.specs.Trails.{IsAbove, IsTrail, Routes}
 use Rattle.core_state.specs.States.{in_frame}
 use Rattle.page_model.proofs.Tree as page_tree
 use Rattle.map_model.specs.Lists.{Has}
 use Rattle.rows_trait.specs.Turns.{Ran}
 use Rattle.btree_descent.specs.Reaches.{CameThere, MetLeaf}
-use Rattle.btree_descent.specs.declared.reach.Way.TheVariants.{Cold}
+use Rattle.btree_descent.specs.declared.reach.Way.TheVariants.{Cold, Leaf}
 use Rattle.btree_descent.specs.Descents.{Sized}
 use Rattle.page_provider.specs.Descents.{EveryDescent}
 use Rattle.page_provider.specs.Ends.{HasRefused}
@@ -91,6 +99,29 @@ routes_cover v m key f sound r =
     let a = page_tree.span_fences (opening v).format (nodes_of m.core) sound.tree r.parent r.span r.below r.names in
     let low = r.low in let high = r.high in let b = a.0 in let d = a.2 in
     and_from n.live (leb n.low key && ltb key n.high) r.names.live (and_from (leb n.low key) (ltb key n.high) (le-leb n.low key (omega arith)) (lt-ltb key n.high (omega arith)))
+
+-- a page of the way stands in the frame
+pub record Stands (v : Given) (m : Moment) (key frame : ℕ) : Type 0 where
+  pub page : ℕ
+  pub below : page < (opening v).format.pages
+  pub hot : m.core.place page ≡ Place.Hot frame
+  pub covered : covers (m.core.page page).node key ≡ true
+
+node_stands : (v : Given) (m : Moment) (key f : ℕ) → Sound v m → Routes v m key f → Stands v m key f
+node_stands v m key f sound r = record { page = r.parent; below = r.below; hot = r.hot; covered = routes_cover v m key f sound r }
+
+leaf_stands : (v : Given) (m : Moment) (key f page : ℕ) → IsLeafAt v m f page key → Stands v m key f
+leaf_stands v m key f page l = let n = (m.core.page page).node in record { page = page; below = l.below; hot = l.hot; covered = (and_parts (is_leaf n) (covers n key) l.leaf).1 }
+
+-- nobody names a page that is free
+free_unnamed : (v : Given) (m : Moment) (q p : ℕ) → Sound v m → q < (opening v).format.pages → names_page (m.core.page q).node p ≡ true → (m.core.page p).node.live ≡ false → ⊥
+free_unnamed v m q p sound below names dead =
+    let n = (m.core.page q).node in
+    let a = and_parts (n.live && ltb 0 n.level) (any (λ (s : Span). s.child == p) (spans n.pairs n.high)) names in
+    let b = and_parts n.live (ltb 0 n.level) a.0 in
+    let s = any_has (λ (s : Span). s.child == p) (spans n.pairs n.high) a.1 in
+    let c = sound.tree.down q below s.0 (record { live = b.0; inner = ltb-true 0 n.level b.1; has = s.1 }) in
+    true≢false (sym c.live ∙ (ap (λ i. (m.core.page i).node.live) (eqb-true s.0.child p s.2) ∙ dead))
 
 in_hot : {x : Place} {f : ℕ} → x ≡ Place.Hot f → in_frame x f ≡ true
 in_hot {f = f} e = ap (λ q. in_frame q f) e ∙ eq-eqb f f refl
@@ -142,6 +173,43 @@ routes_at R path f has last inner = go (length path - suc p.0) refl
     go zero e = last (at 0 e)
     go (suc n) e = let lt = p.1 in inner n (slice_index path (length path - suc n)) (at (suc n) e) (above_at path n (omega arith))
 
+-- behind a call that has kept the frames of a way from the root, in each of which a page of the way stood
+module _ (key : ℕ) (path : List ℕ) (v u : View) (behind : Sound u.given (state u)) (root : Has 0 path) (keeps : KeepsPath path v u) (contents : (p : ℕ) → IsButEntries ((state v).core.page p) ((state u).core.page p)) (stands : (f : ℕ) → Has f path → Stands v.given (state v) key f) where
+  on_way : (f : ℕ) → Has f path → (p : ℕ) → (state u).core.place p ≡ Place.Hot f → covers ((state u).core.page p).node key ≡ true
+  on_way f has p hot =
+      let r = stands f has in
+      let stays = keeps f r.page has r.hot in
+      let e : p ≡ r.page = behind.residence.one p r.page f (in_hot hot) (in_hot stays) in
+      ap (λ q. covers ((state u).core.page q).node key) e ∙ (ap (λ n. covers n key) (contents r.page).fields ∙ r.covered)
+
+  on_path : (p : ℕ) → way path (state u).core p ≡ true → covers ((state u).core.page p).node key ≡ true
+  on_path p on = let a = hot_on path p ((state u).core.place p) root (λ e. ap (state u).core.place e ∙ behind.residence.root) on in on_way a.0 a.1 p a.2
+
+  kept : (z : Shape) (is : Provider) (f : ℕ) → IsTaken (opening u.given) (state u).core (way path (state u).core) f → IsKept key f (paged z u is)
+  kept z is f t = record { page = t.page; here = t.here; why = elim t.why [ inl on ↦ inl (on_path t.page on) | inr e ↦ inr e ] }
+
+  crowded_by : (x z : Shape) (k is : Provider) (page : ℕ) (wanted : Wanted) (s : Story) (why : Refusal) → x.alone ≡ true → length path ≤ 8 → page < (opening u.given).format.pages → IsNeeded key wanted page (paged z u is) → FaultCause x path k page s u is why → CrowdedCause key wanted why (paged z u is)
+  crowded_by x z k is page wanted s (refusal.PoolFull on latched above held) alone short below needed c =
+      let full = c.0.1 alone in
+      let none = full.0 in
+      let sum = c.0.0 in
+      let few = full.1.on_few in record {
+        page = page;
+        below = below;
+        needed = needed;
+        cold = c.1;
+        kept = λ f lt. kept z is f (full.1.taken f lt);
+        sum = omega arith;
+        few = omega arith;
+        some_above = full.1.some_above;
+        some_held = full.1.some_held;
+      }
+  crowded_by x z k is page wanted s refusal.NoPages alone short below needed c = absurd c
+  crowded_by x z k is page wanted s _ alone short below needed c = tt
+
+contents_same : (a b : Contents) → b.gsn ≡ a.gsn → b.last ≡ a.last → b.node ≡ a.node → b ≡ a
+contents_same a b gsn last node = λ i. record { gsn = gsn i; last = last i; node = node i }
+
 -- behind a search that appended nothing
 module _ {x y : Shape} {v w : View} {k : Provider} (same : x ≡ y) (i : IsPaged (paged y v k)) (seq : EverySequel) (ran : Ran y.alone v [] w) (free : w.held ≡ v.held) where
   rested : Moved 0 y v k w k
@@ -160,12 +228,57 @@ module _ {x y : Shape} {v w : View} {k : Provider} (same : x ≡ y) (i : IsPaged
     leaf_warm w.given (state w) key every (paged_now.keeps.sound w.seen) row m.page m.leaf,
   )
 
-  module _ {frames key page : ℕ} {path : List ℕ} (there : CameThere y.alone frames key path v (Cold page) w) (every : EveryDescent) (frames_are : frames ≡ k.frames) where
-    sized : Sized y v frames
-    sized = subst (λ n. Sized y v n) (sym frames_are) i.keeps.sized
+  sound : Sound w.given (state w)
+  sound = paged_now.keeps.sound w.seen
 
+  sized : {frames : ℕ} → frames ≡ k.frames → Sized y v frames
+  sized frames_are = subst (λ n. Sized y v n) (sym frames_are) i.keeps.sized
+
+  -- a trail is so now, and in each of its frames a page of the way stands, if one does in the last
+  led : {frames key row : ℕ} {path : List ℕ} → IsTrail y.alone frames key path row v w → (n frame next : ℕ) → above path (suc n) ≡ Some frame → above path n ≡ Some next → IsAbove w.given (state w) key frame next
+  led {key = key} t n frame next a b = subst (λ (q : Given × Moment). IsAbove q.0 q.1 key frame next) (λ j. (sym ran.given j, sym now j)) (t.still i.alone n frame next a b)
+
+  stands : {frames key row : ℕ} {path : List ℕ} → IsTrail y.alone frames key path row v w → Stands w.given (state w) key row → (f : ℕ) → Has f path → Stands w.given (state w) key f
+  stands {key = key} {row = row} {path = path} t last f has =
+      routes_at (Stands w.given (state w) key) path f has (λ e. subst (Stands w.given (state w) key) (some_same row f (sym t.ends ∙ e)) last) (λ n next a b. node_stands w.given (state w) key f sound (led t n f next a b).routes)
+
+  root_on : {frames key row : ℕ} {path : List ℕ} → IsTrail y.alone frames key path row v w → Has 0 path
+  root_on t = subst (λ fs. Has 0 fs) (sym t.starts) (inl refl)
+
+  contents : {u : View} {is : Provider} → Moved most_a_page x w k u is → (p : ℕ) → IsButEntries ((state w).core.page p) ((state u).core.page p)
+  contents {u = u} {is = is} m p = seq.pages most_a_page x w u k is paged_now.alone paged_now.keeps m p
+
+  moved_from : {z : Shape} {u : View} {is : Provider} → z ≡ x → Moved most_a_page x w k u is → is.broken ≡ k.broken → HasMoved most_a_page (paged y v k) (paged z u is)
+  moved_from {u = u} {is = is} later m broken = record {
+    shape = later ∙ same;
+    moved = seq.moved 0 most_a_page most_a_page y v w u k k is (omega arith) rested (subst (λ (q : Shape). Moved most_a_page q w k u is) same m);
+    broken = broken;
+  }
+
+  refused_from : {u : View} {is : Provider} {path : List ℕ} {why : Refusal} → HasRefused most_a_page x path w k why u is → HasRefused most_a_page y [] v k why u is
+  refused_from {u = u} {is = is} {path = path} {why = why} h = seq.refused 0 most_a_page most_a_page y path v w u k k is why (omega arith) rested refl (subst (λ (q : Shape). HasRefused most_a_page q path w k why u is) same h)
+
+  -- a page that is cold was so before the search too
+  pub lost_from : (page : ℕ) (path : List ℕ) (u : View) (is : Provider) → page < (opening w.given).format.pages → (s : Story) (why : Refusal) → FaultCause x path k page s u is why → ColdCause w page why → LostTo (paged y v k) s why
+  lost_from page path u is below s why c d = go why c d
+    where
+      as_lost : (r : Refusal) → LostCause k page s r → is_cold ((state w).core.place page) ≡ true → IsLost (paged y v k) page s r
+      as_lost r l e = record {
+        below = subst (λ (q : Given). page < (opening q).format.pages) ran.given below;
+        cold = ap (λ (m : Moment). is_cold (m.core.place page)) (sym now) ∙ e;
+        cause = l;
+      }
+
+      go : (r : Refusal) → FaultCause x path k page s u is r → ColdCause w page r → LostTo (paged y v k) s r
+      go (refusal.Damaged p counts other) l e = subst (λ q. IsLost (paged y v k) q s (refusal.Damaged q counts other)) (sym l.0) (as_lost (refusal.Damaged page counts other) (refl, l.1) e)
+      go (refusal.Altered p) l e = subst (λ q. IsLost (paged y v k) q s (refusal.Altered q)) (sym l.0) (as_lost (refusal.Altered page) (refl, l.1) e)
+      go _ l e = tt
+
+  -- ## A page of the way
+
+  module _ {frames key page : ℕ} {path : List ℕ} (there : CameThere y.alone frames key path v (Cold page) w) (every : EveryDescent) (frames_are : frames ≡ k.frames) where
     law : IsDescent y w path × ((p : ℕ) → IsColdBelow w.given (state w) key there.row p → LeadsTo y w path p × (y.alone ≡ true → IsWanted y w p))
-    law = every y v w frames key there.row path i.keeps.sound sized ran there.trail
+    law = every y v w frames key there.row path i.keeps.sound (sized frames_are) ran there.trail
 
     pub descent_is : IsDescent x w path
     descent_is = subst (λ (z : Shape). IsDescent z w path) (sym same) law.0
@@ -176,76 +289,36 @@ module _ {x y : Shape} {v w : View} {k : Provider} (same : x ≡ y) (i : IsPaged
     pub wanted_is : IsWanted x w page
     wanted_is = subst (λ (z : Shape). IsWanted z w page) (sym same) ((law.1 page there.there).1 i.alone)
 
-    pub has_come : {z : Shape} {u : View} {is : Provider} {frame : ℕ} → z ≡ x → HasPlaced most_a_page x path w k page frame u is → HasCome key (paged y v k) (paged z u is)
-    has_come {z = z} {u = u} {is = is} later h =
+    pub has_come : {z : Shape} {u : View} {is : Provider} {frame : ℕ} → z ≡ x → HasPlaced most_a_page x path w k page frame u is → HasCome key frame (paged y v k) (paged z u is)
+    has_come later h =
         let cold : IsColdBelow v.given (state v) key there.row page = subst (λ (q : Given × Moment). IsColdBelow q.0 q.1 key there.row page) (λ j. (ran.given j, now j)) there.there in record {
-          moved = record {
-            shape = later ∙ same;
-            moved = seq.moved 0 most_a_page most_a_page y v w u k k is (omega arith) rested (subst (λ (q : Shape). Moved most_a_page q w k u is) same h.moved);
-            broken = h.broken;
-          };
+          moved = moved_from later h.moved h.broken;
           page = page;
           below = subst (λ (q : Given). page < (opening q).format.pages) ran.given wanted_is.below;
           covers = cold_covers v.given (state v) key there.row page (i.keeps.sound v.seen) cold;
           cold = cold.cold;
-          hot = ap is_hot h.hot;
+          hot = h.hot;
         }
+
+    -- so the way was not hot
+    pub never_warm : IsWarm (paged y v k) key 0 → ⊥
+    never_warm m =
+        let cold : IsColdBelow v.given (state v) key there.row page = subst (λ (q : Given × Moment). IsColdBelow q.0 q.1 key there.row page) (λ j. (ran.given j, now j)) there.there in
+        true≢false (sym (m page (subst (λ (q : Given). page < (opening q).format.pages) ran.given wanted_is.below) (cold_covers v.given (state v) key there.row page (i.keeps.sound v.seen) cold) (omega arith)) ∙ cold.cold)
 
     -- behind a refused call: of the way from the root to the page that named it each one stands where it stood
     module _ {z : Shape} {u : View} {is : Provider} (s : Story) (why : Refusal) (warms : EveryWarm) (later : z ≡ x) (h : HasRefused most_a_page x path w k why u is) where
-      sound : Sound w.given (state w)
-      sound = paged_now.keeps.sound w.seen
-
       behind : Sound u.given (state u)
       behind = h.moved.goes.keeps.sound u.seen
 
       given : u.given ≡ w.given
       given = h.moved.goes.ran.given
 
-      contents : (p : ℕ) → IsButEntries ((state w).core.page p) ((state u).core.page p)
-      contents p = seq.pages most_a_page x w u k is paged_now.alone paged_now.keeps h.moved p
+      last : Stands w.given (state w) key there.row
+      last = node_stands w.given (state w) key there.row sound there.there.routes
 
-      led : (n frame next : ℕ) → above path (suc n) ≡ Some frame → above path n ≡ Some next → IsAbove w.given (state w) key frame next
-      led n frame next a b = subst (λ (q : Given × Moment). IsAbove q.0 q.1 key frame next) (λ j. (sym ran.given j, sym now j)) (there.trail.still i.alone n frame next a b)
-
-      routes : (f : ℕ) → Has f path → Routes w.given (state w) key f
-      routes f has = routes_at (Routes w.given (state w) key) path f has (λ e. subst (Routes w.given (state w) key) (some_same there.row f (sym there.trail.ends ∙ e)) there.there.routes) (λ n next a b. (led n f next a b).routes)
-
-      on_way : (f : ℕ) → Has f path → (p : ℕ) → (state u).core.place p ≡ Place.Hot f → covers ((state u).core.page p).node key ≡ true
-      on_way f has p hot =
-          let r = routes f has in
-          let stays = h.keeps f r.parent has r.hot in
-          let e : p ≡ r.parent = behind.residence.one p r.parent f (in_hot hot) (in_hot stays) in
-          ap (λ q. covers ((state u).core.page q).node key) e ∙ (ap (λ n. covers n key) (contents r.parent).fields ∙ routes_cover w.given (state w) key f sound r)
-
-      root : Has 0 path
-      root = subst (λ fs. Has 0 fs) (sym there.trail.starts) (inl refl)
-
-      covered : (p : ℕ) → way path (state u).core p ≡ true → covers ((state u).core.page p).node key ≡ true
-      covered p on = let a = hot_on path p ((state u).core.place p) root (λ e. ap (state u).core.place e ∙ behind.residence.root) on in on_way a.0 a.1 p a.2
-
-      kept : (f : ℕ) → IsTaken (opening u.given) (state u).core (way path (state u).core) f → IsKept key f (paged z u is)
-      kept f t = record { page = t.page; here = t.here; why = elim t.why [ inl on ↦ inl (covered t.page on) | inr e ↦ inr e ] }
-
-      crowded : (why : Refusal) → FaultCause x path k page s u is why → CrowdedCause key why (paged z u is)
-      crowded (refusal.PoolFull on latched over held) c =
-          let full = c.0.1 paged_now.alone in
-          let none = full.0 in
-          let sum = c.0.0 in
-          let few = full.1.on_few in
-          let short = there.trail.few in record {
-            page = page;
-            below = subst (λ (q : Given). page < (opening q).format.pages) (sym given) wanted_is.below;
-            covers = ap (λ n. covers n key) (contents page).fields ∙ cold_covers w.given (state w) key there.row page sound there.there;
-            cold = c.1;
-            kept = λ f lt. kept f (full.1.taken f lt);
-            sum = omega arith;
-            few = omega arith;
-            some_above = full.1.some_above;
-            some_held = full.1.some_held;
-          }
-      crowded refusal.NoPages c = absurd c
-      crowded _ c = tt
+      needed : covers ((state u).core.page page).node key ≡ true
+      needed = ap (λ n. covers n key) (contents h.moved page).fields ∙ cold_covers w.given (state w) key there.row page sound there.there
 
       -- its parent is hot still, and so all of the way that was
       warm : (level : ℕ) → IsWarm (paged y v k) key level → IsWarm (paged z u is) key level
@@ -255,34 +328,78 @@ module _ {x y : Shape} {v w : View} {k : Provider} (same : x ≡ y) (i : IsPaged
           let under : ((state w).core.page page).node.level < level = (warms (opening w.given) (state w).core key).lower page level at wanted_is.below (cold_covers w.given (state w) key there.row page sound there.there) there.there.cold in
           let child = (sound.tree.down r.parent r.below r.span r.names).level in
           let named = ap (λ p. ((state w).core.page p).node.level) there.there.child in
-          let over = ap (λ n. n.level) (contents r.parent).fields in
+          let over = ap (λ n. n.level) (contents h.moved r.parent).fields in
           let hot : is_hot ((state u).core.place r.parent) ≡ true = ap is_hot (h.keeps there.row r.parent (has_last path there.row there.trail.ends) r.hot) in
           warm_up (opening u.given) (state u).core key (omega arith)
           ((warms (opening u.given) (state u).core key).up behind.tree behind.residence r.parent (subst (λ (q : Given). r.parent < (opening q).format.pages) (sym given) r.below)
-          (ap (λ n. covers n key) (contents r.parent).fields ∙ routes_cover w.given (state w) key there.row sound r) hot)
+          (ap (λ n. covers n key) (contents h.moved r.parent).fields ∙ routes_cover w.given (state w) key there.row sound r) hot)
 
-      -- the page was cold before the search too
       pub lost_to : FaultCause x path k page s u is why → ColdCause w page why → LostTo (paged y v k) s why
-      lost_to c d = go why c d
-        where
-          as_lost : (r : Refusal) → LostCause k page s r → is_cold ((state w).core.place page) ≡ true → IsLost (paged y v k) page s r
-          as_lost r l e = record {
-            below = subst (λ (q : Given). page < (opening q).format.pages) ran.given wanted_is.below;
-            cold = ap (λ (m : Moment). is_cold (m.core.place page)) (sym now) ∙ e;
-            cause = l;
-          }
+      lost_to = lost_from page path u is wanted_is.below s why
 
-          go : (r : Refusal) → FaultCause x path k page s u is r → ColdCause w page r → LostTo (paged y v k) s r
-          go (refusal.Damaged p counts other) l e = subst (λ q. IsLost (paged y v k) q s (refusal.Damaged q counts other)) (sym l.0) (as_lost (refusal.Damaged page counts other) (refl, l.1) e)
-          go (refusal.Altered p) l e = subst (λ q. IsLost (paged y v k) q s (refusal.Altered q)) (sym l.0) (as_lost (refusal.Altered page) (refl, l.1) e)
-          go _ l e = tt
-
-      pub refused_to : FaultCause x path k page s u is why → IsRefusedTo key (paged y v k) why (paged z u is)
+      pub refused_to : FaultCause x path k page s u is why → IsRefusedTo key want.Way (paged y v k) why (paged z u is)
       refused_to c = record {
         shape = later ∙ same;
-        refused = seq.refused 0 most_a_page most_a_page y path v w u k k is why (omega arith) rested refl (subst (λ (q : Shape). HasRefused most_a_page q path w k why u is) same h);
+        refused = refused_from h;
         warm = warm;
-        crowded = crowded why c;
+        crowded = crowded_by key path w u behind (root_on there.trail) h.keeps (contents h.moved) (stands there.trail last) x z k is page want.Way s why paged_now.alone there.trail.few (subst (λ (q : Given). page < (opening q).format.pages) (sym given) wanted_is.below) needed c;
+      }
+
+  -- ## A free page
+
+  module _ {frames key row : ℕ} {path : List ℕ} (there : CameThere y.alone frames key path v (Leaf row) w) (met : MetLeaf y.alone key row v w) (every : EveryDescent) (frames_are : frames ≡ k.frames) (page : ℕ) (unused : IsFree (paged y v k) page) where
+    pub descent_free : IsDescent x w path
+    descent_free = subst (λ (z : Shape). IsDescent z w path) (sym same) (every y v w frames key there.row path i.keeps.sound (sized frames_are) ran there.trail).0
+
+    below : page < (opening w.given).format.pages
+    below = subst (λ (q : Given). page < (opening q).format.pages) (sym ran.given) unused.0
+
+    dead : ((state w).core.page page).node.live ≡ false
+    dead = ap (λ (m : Moment). (m.core.page page).node.live) now ∙ unused.1
+
+    pub wanted_free : IsWanted x w page
+    wanted_free = record { below = below; at_hand = inr (inl dead) }
+
+    pub leads_free : LeadsTo x w path page
+    leads_free only q lt names hot = absurd (free_unnamed w.given (state w) q page sound lt names dead)
+
+    at_row : IsLeafAt w.given (state w) there.row met.page key
+    at_row = subst (λ r. IsLeafAt w.given (state w) r met.page key) there.there met.leaf
+
+    -- behind a call that has kept the way: the leaf is hot still, and so all of the way is
+    module _ {z : Shape} {u : View} {is : Provider} (warms : EveryWarm) (later : z ≡ x) (m : Moved most_a_page x w k u is) (keeps : KeepsPath path w u) where
+      behind_joined : Sound u.given (state u)
+      behind_joined = m.goes.keeps.sound u.seen
+
+      leaf_last : Stands w.given (state w) key there.row
+      leaf_last = leaf_stands w.given (state w) key there.row met.page at_row
+
+      joined_warm : IsWarm (paged z u is) key 0
+      joined_warm =
+          let n = ((state w).core.page met.page).node in
+          let leaf = and_parts (is_leaf n) (covers n key) at_row.leaf in
+          let level : ((state u).core.page met.page).node.level ≡ 0 = ap (λ n. n.level) (contents m met.page).fields ∙ eqb-true n.level 0 (and_parts n.live (n.level == 0) leaf.0).1 in
+          subst (λ j. IsWarmFrom (opening u.given) (state u).core key j) level
+          ((warms (opening u.given) (state u).core key).up behind_joined.tree behind_joined.residence met.page (subst (λ (q : Given). met.page < (opening q).format.pages) (sym m.goes.ran.given) at_row.below)
+          (ap (λ n. covers n key) (contents m met.page).fields ∙ leaf.1) (ap is_hot (keeps there.row met.page (has_last path there.row there.trail.ends) at_row.hot)))
+
+      page_same : (state u).core.page page ≡ (state v).core.page page
+      page_same =
+          let c = contents m page in
+          let n = ((state w).core.page page).node in
+          contents_same ((state w).core.page page) ((state u).core.page page) c.gsn c.last (c.other (ap (λ b. b && (n.level == 0)) dead)) ∙ ap (λ (m : Moment). m.core.page page) now
+
+      pub has_joined : {frame : ℕ} → (state u).core.place page ≡ Place.Hot frame → is.broken ≡ k.broken → HasJoined key page frame (paged y v k) (paged z u is)
+      has_joined hot broken = record { moved = moved_from later m broken; hot = hot; same = page_same; warm = joined_warm }
+
+    module _ {z : Shape} {u : View} {is : Provider} (s : Story) (why : Refusal) (warms : EveryWarm) (later : z ≡ x) (h : HasRefused most_a_page x path w k why u is) where
+      pub refused_free : FaultCause x path k page s u is why → IsRefusedTo key (want.Free page) (paged y v k) why (paged z u is)
+      refused_free c = record {
+        shape = later ∙ same;
+        refused = refused_from h;
+        warm = λ level _. warm_up (opening u.given) (state u).core key (omega arith) (joined_warm warms later h.moved h.keeps);
+        crowded = crowded_by key path w u (behind_joined warms later h.moved h.keeps) (root_on there.trail) h.keeps (contents h.moved) (stands there.trail (leaf_last warms later h.moved h.keeps)) x z k is page (want.Free page) s why paged_now.alone there.trail.few
+            (subst (λ (q : Given). page < (opening q).format.pages) (sym h.moved.goes.ran.given) below) (refl, ap (λ (c : Contents). c.node.live) (page_same warms later h.moved h.keeps) ∙ unused.1) c;
       }
 
   -- the slots hold what is saved still
@@ -297,5 +414,22 @@ module _ {x y : Shape} {v w : View} {k : Provider} (same : x ≡ y) (i : IsPaged
 pub disk_from : {alone : Bool} {v w u : View} {k is : Provider} {old new : Story} → Rattle.page_provider.specs.Sequels.EveryDiskSequel old old new → k.broken ≡ false → Disked alone k v k w old old → Disked alone k w is u old new → Disked alone k v is u old new
 disk_from {alone = alone} {v = v} {w = w} {u = u} {k = k} {is = is} sequel well a b = sequel alone v w u k k is well a b
 
-pub if_err : {A E : Type 0} (r : Rattle.std.proofs.Common.Result A E) (e : E) (P : E → Type 0) → r ≡ Err e → P e → IfErr r P
+pub if_err : {A E : Type 0} (r : Result A E) (e : E) (P : E → Type 0) → r ≡ Err e → P e → IfErr r P
 if_err r e P is p = subst (λ q. IfErr q P) (sym is) p
+
+-- ## As the pager answers
+
+pub moved_if : {x : Shape} {w u : View} {k is : Provider} (path : List ℕ) (page : ℕ) (r : Result ℕ Refusal) → IfOk r (λ frame. HasPlaced most_a_page x path w k page frame u is) → IfErr r (λ why. HasRefused most_a_page x path w k why u is) → Moved most_a_page x w k u is
+moved_if path page (Ok frame) h e = h.moved
+moved_if path page (Err why) h e = e.moved
+
+pub paged_if : {x z : Shape} {w u : View} {k is : Provider} → z ≡ x → x.alone ≡ true → Moved most_a_page x w k u is → IsPaged (paged z u is)
+paged_if {u = u} {is = is} later alone m = record { alone = ap (λ (q : Shape). q.alone) later ∙ alone; held = m.goes.held; keeps = subst (λ (q : Shape). Keeps q u is) (sym later) m.goes.keeps }
+
+pub ok_map : {A E : Type 0} (P Q : A → Type 0) (r : Result A E) → ((a : A) → P a → Q a) → IfOk r P → IfOk r Q
+ok_map P Q (Ok a) f h = f a h
+ok_map P Q (Err e) f h = tt
+
+pub err_map : {A E : Type 0} (P Q R : E → Type 0) (r : Result A E) → ((e : E) → P e → Q e → R e) → IfErr r P → IfErr r Q → IfErr r R
+err_map P Q R (Ok a) f h j = tt
+err_map P Q R (Err e) f h j = f e h j

@@ -1,5 +1,5 @@
 -- Rows with their pager, where nobody else steps.
-use Rattle.std.specs.Prelude.{◌≡◌, ℕ, true, []}
+use Rattle.std.specs.Prelude.{◌≡◌, ◌<◌, ℕ, true, false, []}
 use Rattle.core_calls.specs.Warms.{IsWarmFrom}
 use Rattle.lean_disk.specs.Story.{Story, Tells}
 use Rattle.page_provider.specs.Mirrored.{IsMirrored}
@@ -35,3 +35,7 @@ IsFedIfFaithful p s = p.view.given.faithful ≡ true → IsFed p s
 -- each page on the key's way is hot, from this level up
 abbrev pub IsWarm : Paged → (key level : ℕ) → Type 0
 IsWarm p key level = IsWarmFrom (opening p.view.given) (state p.view).core key level
+
+-- a page of the disk that is no node of the tree
+abbrev pub IsFree : Paged → (page : ℕ) → Type 0
+IsFree p page = (page < (opening p.view.given).format.pages) × (((state p.view).core.page page).node.live ≡ false)

@@ -1,6 +1,6 @@
--- A page of a key's way is brought into a frame.
-use Rattle.std.specs.Prelude.{◌≡◌, ◌<◌, ◌≤◌, ◌+◌, ◌⊎◌, ℕ, Bool, true, false, []}
-use Rattle.core_state.specs.States.{flushed_by_all, in_frame, is_cold, is_cooling, is_hot}
+-- A page of a key's way, or a free one, is brought into a frame.
+use Rattle.std.specs.Prelude.{◌≡◌, ◌<◌, ◌≤◌, ◌+◌, ◌⊎◌, ℕ, true, false, [], Option, Some, None}
+use Rattle.core_state.specs.States.{Place, flushed_by_all, in_frame, is_cold, is_cooling, is_hot}
 use Rattle.page_model.specs.Nodes.{covers}
 use Rattle.page_pool.specs.Full.{IsHeldBack}
 use Rattle.page_provider.specs.declared.refusal.Refusal.{Refusal}
@@ -15,7 +15,9 @@ use Rattle.page_provider.specs.Moves.{Moved}
 use Rattle.row_words.specs.Moments.{events_of}
 use Rattle.row_words.specs.Openings.{opening}
 use Rattle.rows_trait.specs.Views.{state}
-use Rattle.paged_rows.specs.Paged.{IsWarm, Paged}
+use Rattle.paged_rows.specs.Paged.{IsFree, IsWarm, Paged}
+use Rattle.paged_rows.specs.declared.wanted.Wanted.{Wanted}
+use Rattle.paged_rows.specs.declared.wanted.Wanted.TheVariants as want
 
 -- so many events at most, beside those by which pages cool, has the coming of one page
 abbrev pub most_a_page : ℕ
@@ -27,19 +29,39 @@ pub record HasMoved (most : ℕ) (p q : Paged) : Type 0 where
   pub moved : Moved most p.shape p.view p.pager q.view q.pager
   pub broken : q.pager.broken ≡ p.pager.broken
 
--- A page of the key's way that was not hot is hot now.
-pub record HasCome (key : ℕ) (p q : Paged) : Type 0 where
+-- ## A page that comes
+
+-- A page of the key's way that was not hot is hot now, in this frame.
+pub record HasCome (key frame : ℕ) (p q : Paged) : Type 0 where
   pub moved : HasMoved most_a_page p q
   pub page : ℕ
   pub below : page < (opening p.view.given).format.pages
   pub covers : covers ((state p.view).core.page page).node key ≡ true
   pub cold : is_hot ((state p.view).core.place page) ≡ false
-  pub hot : is_hot ((state q.view).core.place page) ≡ true
+  pub hot : (state q.view).core.place page ≡ Place.Hot frame
 
 -- All of it is hot, and nothing was done; or one more page of it has come.
-abbrev pub Warms : (key : ℕ) → Bool → (p q : Paged) → Type 0
-Warms key true p q = HasMoved 0 p q × IsWarm q key 0
-Warms key false p q = HasCome key p q
+abbrev pub Warms : (key : ℕ) → Option ℕ → (p q : Paged) → Type 0
+Warms key None p q = HasMoved 0 p q × IsWarm q key 0
+Warms key (Some frame) p q = HasCome key frame p q
+
+-- The page, which was free, stands hot in this frame, as it was; and the pages of the key's way are hot still.
+pub record HasJoined (key page frame : ℕ) (p q : Paged) : Type 0 where
+  pub moved : HasMoved most_a_page p q
+  pub hot : (state q.view).core.place page ≡ Place.Hot frame
+  pub same : (state q.view).core.page page ≡ (state p.view).core.page page
+  pub warm : IsWarm q key 0
+
+-- what is asked: a free page is brought where the key's way is hot
+abbrev pub CanBring : (key : ℕ) → Wanted → Paged → Type 0
+CanBring key want.Way p = Unit {0}
+CanBring key (want.Free page) p = IsFree p page × IsWarm p key 0
+
+-- what has come, and into which frame
+abbrev pub Brings : (key : ℕ) → Wanted → Option ℕ → (p q : Paged) → Type 0
+Brings key want.Way come p q = Warms key come p q
+Brings key (want.Free page) None p q = ⊥
+Brings key (want.Free page) (Some frame) p q = HasJoined key page frame p q
 
 -- ## The device
 
@@ -55,12 +77,17 @@ pub record IsKept (key frame : ℕ) (q : Paged) : Type 0 where
   pub here : in_frame ((state q.view).core.place page) frame ≡ true
   pub why : (covers ((state q.view).core.page page).node key ≡ true) ⊎ ((flushed_by_all (opening q.view.given) (state q.view).core < ((state q.view).core.page page).gsn) ⊎ IsHeldBack (state q.view).core page)
 
--- A page of the key's way is in no frame, and each frame is kept from it: so many by pages of the way, of each level one at most; so many by pages
--- above what is flushed everywhere, and so many by pages that are held back; and there is such a page where the count is not 0.
-pub record IsCrowded (key on above held : ℕ) (q : Paged) : Type 0 where
+-- the page is of the key's way, or it is the free one that was wanted
+abbrev pub IsNeeded : (key : ℕ) → Wanted → (page : ℕ) → Paged → Type 0
+IsNeeded key want.Way page q = covers ((state q.view).core.page page).node key ≡ true
+IsNeeded key (want.Free free) page q = (page ≡ free) × (((state q.view).core.page page).node.live ≡ false)
+
+-- Such a page is in no frame, and each frame is kept from it: so many by pages of the way, of each level one at most; so many by pages above what is
+-- flushed everywhere, and so many by pages that are held back; and there is such a page where the count is not 0.
+pub record IsCrowded (key : ℕ) (wanted : Wanted) (on above held : ℕ) (q : Paged) : Type 0 where
   pub page : ℕ
   pub below : page < (opening q.view.given).format.pages
-  pub covers : covers ((state q.view).core.page page).node key ≡ true
+  pub needed : IsNeeded key wanted page q
   pub cold : is_cold ((state q.view).core.place page) ≡ true
   pub kept : (frame : ℕ) → frame < (opening q.view.given).frames → IsKept key frame q
   pub sum : on + above + held ≡ q.pager.frames
@@ -69,17 +96,17 @@ pub record IsCrowded (key on above held : ℕ) (q : Paged) : Type 0 where
   pub some_held : 0 < held → (p : ℕ) × (is_cooling ((state q.view).core.place p) ≡ true) × IsHeldBack (state q.view).core p
 
 -- so it is where no frame could be given; pages are not asked for
-abbrev pub CrowdedCause : (key : ℕ) → Refusal → Paged → Type 0
-CrowdedCause key (refusal.PoolFull on latched above held) q = IsCrowded key on above held q
-CrowdedCause key refusal.NoPages q = ⊥
-CrowdedCause key _ q = Unit {0}
+abbrev pub CrowdedCause : (key : ℕ) → Wanted → Refusal → Paged → Type 0
+CrowdedCause key wanted (refusal.PoolFull on latched above held) q = IsCrowded key wanted on above held q
+CrowdedCause key wanted refusal.NoPages q = ⊥
+CrowdedCause key wanted _ q = Unit {0}
 
 -- It was refused; other pages may have cooled and left, and what was hot of the way is so still.
-pub record IsRefusedTo (key : ℕ) (p : Paged) (why : Refusal) (q : Paged) : Type 0 where
+pub record IsRefusedTo (key : ℕ) (wanted : Wanted) (p : Paged) (why : Refusal) (q : Paged) : Type 0 where
   pub shape : q.shape ≡ p.shape
   pub refused : HasRefused most_a_page p.shape [] p.view p.pager why q.view q.pager
   pub warm : (level : ℕ) → IsWarm p key level → IsWarm q key level
-  pub crowded : CrowdedCause key why q
+  pub crowded : CrowdedCause key wanted why q
 
 -- ## A page that is not to be had
 

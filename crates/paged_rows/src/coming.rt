@@ -7,6 +7,7 @@ ghost use Rattle.page_provider.specs.Disks.{Disked};
 ghost use Rattle.page_provider.specs.declared.refusal.Refusal.TheVariants as refusal;
 ghost use Rattle.paged_rows.specs.Paged.{IsFedIfFaithful, IsPaged, paged};
 ghost use Rattle.paged_rows.specs.Warms.{IsRefusedTo, LostTo, ReadsUnlessSaved, Warms};
+ghost use Rattle.paged_rows.specs.declared.wanted.Wanted.TheVariants as want;
 
 use btree_descent::reach::{Way, reach};
 use lean_disk::Part;
@@ -14,7 +15,7 @@ use lean_proto::path::Path;
 use page_provider::{Pager, Refusal};
 use rows_trait::rows::Rows;
 
-/// Brings the first page of a key's way that is not hot into a frame. True: there is none, and nothing was done.
+/// Brings the first page of a key's way that is not hot into a frame, and answers which. None: there is none, and nothing was done.
 ///
 /// PoolFull: no frame can be given to it, since each has a page of the key's way or one that can't leave. DiskFault, Damaged: the device failed, or
 /// the page is not to be had from it, and from then on the pager is broken. RowSpent: the version of a row, or the global epoch, has come to the last
@@ -26,7 +27,7 @@ pub fn bring<R: Rows, P: Part>(
     dev: &mut P,
     worker: u32,
     key: u64,
-) -> Result<bool, Refusal>
+) -> Result<Option<u32>, Refusal>
     requires fits { R.fits rows.old seat.old }
     requires paged { IsPaged (paged (R.shape rows.old) (R.view seat.old) pager.old) }
     requires area { (P.seat dev.old).area ≡ 1 }
@@ -35,8 +36,8 @@ pub fn bring<R: Rows, P: Part>(
     requires fed { IsFedIfFaithful (paged (R.shape rows.old) (R.view seat.old) pager.old) (P.story dev.old) }
     ensures fits { R.fits rows.new seat.new × (R.shape rows.new ≡ R.shape rows.old) }
     ensures paged { IsPaged (paged (R.shape rows.new) (R.view seat.new) pager.new) }
-    ensures ok { IfOk result (λ done. Warms key done (paged (R.shape rows.old) (R.view seat.old) pager.old) (paged (R.shape rows.new) (R.view seat.new) pager.new)) }
-    ensures err { IfErr result (λ why. IsRefusedTo key (paged (R.shape rows.old) (R.view seat.old) pager.old) why (paged (R.shape rows.new) (R.view seat.new) pager.new)) }
+    ensures ok { IfOk result (λ come. Warms key come (paged (R.shape rows.old) (R.view seat.old) pager.old) (paged (R.shape rows.new) (R.view seat.new) pager.new)) }
+    ensures err { IfErr result (λ why. IsRefusedTo key want.Way (paged (R.shape rows.old) (R.view seat.old) pager.old) why (paged (R.shape rows.new) (R.view seat.new) pager.new)) }
     ensures lost { IfErr result (LostTo (paged (R.shape rows.old) (R.view seat.old) pager.old) (P.story dev.old)) }
     ensures fed { pager.new.broken ≡ false → IsFedIfFaithful (paged (R.shape rows.new) (R.view seat.new) pager.new) (P.story dev.new) }
     ensures frame { Framed 1 (P.story dev.old) (P.story dev.new) }
@@ -60,10 +61,10 @@ pub fn bring<R: Rows, P: Part>(
     let frames = pager.frames();
     let mut path = Path::new();
     let page = match reach(rows, seat, worker, frames, key, &mut path) {
-        Way::Leaf { .. } => return Ok(true),
+        Way::Leaf { .. } => return Ok(None),
         Way::Cold(page) => page as u32,
         Way::Moved(_) | Way::Latched(_) => unreachable!(),
     };
-    pager.frame_for(rows, seat, dev, page, &path)?;
-    Ok(false)
+    let frame = pager.frame_for(rows, seat, dev, page, &path)?;
+    Ok(Some(frame))
 }

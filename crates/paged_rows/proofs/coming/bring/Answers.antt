@@ -5,6 +5,7 @@ use Rattle.page_provider.specs.Disks.{Disked}
 use Rattle.page_provider.specs.Providers.{Keeps}
 use Rattle.rows_trait.specs.Views.{Shape}
 use Rattle.paged_rows.specs.Paged.{IsFed, IsPaged, IsWarm, Paged, paged}
+use Rattle.paged_rows.specs.declared.wanted.Wanted.TheVariants as want
 use Rattle.paged_rows.specs.Warms.{HasCome, HasMoved, IsRefusedTo, LostTo}
 use Rattle.paged_rows.proofs.Warming.{descent_is, disk_from, fed_now, fed_on, has_come, if_err, leads_is, leaf_met, lost_to, paged_now, refused_to, wanted_is}
 use Rattle.paged_rows.proofs.coming.bring.Goals as goal
@@ -52,47 +53,47 @@ frame_for-requires-clause-gives g c faithful cold =
     let f = fed_now c.reach.ensures.fits.1 c.requires.paged c.every_sequel.ensures c.in-Cold.ensures.went.ran c.reach.ensures.fits.2 (g.P.Part.story c.args.dev.now) c.requires.fed faithful in
     c.every_mirrored_gives.ensures w c.args.pager.now c.in-Cold.page f.mirrored f.tells c.in-Cold.ensures.went.cold.below (sym c.pages-pages.ensures.slots ∙ (c.pages-pages.ensures.free ∙ n.keeps.pages))
 
-pub returns-in_err-frame_for-clause-paged : goal.returns-in_err-frame_for-clause-paged
-returns-in_err-frame_for-clause-paged g c =
-    let h = c.in_err-frame_for.ensures.err in record {
+pub returns-in_err-frame-clause-paged : goal.returns-in_err-frame-clause-paged
+returns-in_err-frame-clause-paged g c =
+    let h = c.in_err-frame.ensures.err in record {
       alone = ap (λ (z : Shape). z.alone) (c.frame_for.ensures.fits.1 ∙ c.reach.ensures.fits.1) ∙ c.requires.paged.alone;
       held = h.moved.goes.held;
       keeps = subst (λ (z : Shape). Keeps z (g.R.Rows.view c.frame_for.new.seat) c.frame_for.new.self) (sym c.frame_for.ensures.fits.1) h.moved.goes.keeps;
     }
 
-pub returns-in_err-frame_for-clause-err : goal.returns-in_err-frame_for-clause-err
-returns-in_err-frame_for-clause-err g c =
+pub returns-in_err-frame-clause-err : goal.returns-in_err-frame-clause-err
+returns-in_err-frame-clause-err g c =
     let p = err_from_is_err_and c.from_residual.result c.from_residual.ensures.1 in
     let p2 = p.2 in
-    let why = c.in_err-frame_for.field-0.0 in
+    let why = c.in_err-frame.field-0.0 in
     let e : why ≡ p.0 = cc in
     let was = paged (g.R.Rows.shape c.args.rows.now) (g.R.Rows.view c.args.seat.now) c.args.pager.now in
     let q = paged (g.R.Rows.shape c.frame_for.new.rows) (g.R.Rows.view c.frame_for.new.seat) c.frame_for.new.self in
-    let P : Refusal → Type 0 = λ r. IsRefusedTo c.args.key was r q in
+    let P : Refusal → Type 0 = λ r. IsRefusedTo c.args.key want.Way was r q in
     if_err c.from_residual.result p.0 P p.1 (subst P e
-    (refused_to c.reach.ensures.fits.1 c.requires.paged c.every_sequel.ensures c.in-Cold.ensures.went.ran c.reach.ensures.fits.2 c.in-Cold.ensures.came c.every_descent.ensures c.frames-frames.ensures (g.P.Part.story c.args.dev.now) why c.every_warm.ensures c.frame_for.ensures.fits.1 c.in_err-frame_for.ensures.err c.in_err-frame_for.ensures.cause))
+    (refused_to c.reach.ensures.fits.1 c.requires.paged c.every_sequel.ensures c.in-Cold.ensures.went.ran c.reach.ensures.fits.2 c.in-Cold.ensures.came c.every_descent.ensures c.frames-frames.ensures (g.P.Part.story c.args.dev.now) why c.every_warm.ensures c.frame_for.ensures.fits.1 c.in_err-frame.ensures.err c.in_err-frame.ensures.cause))
 
-pub returns-in_err-frame_for-clause-lost : goal.returns-in_err-frame_for-clause-lost
-returns-in_err-frame_for-clause-lost g c =
+pub returns-in_err-frame-clause-lost : goal.returns-in_err-frame-clause-lost
+returns-in_err-frame-clause-lost g c =
     let p = err_from_is_err_and c.from_residual.result c.from_residual.ensures.1 in
     let p2 = p.2 in
-    let why = c.in_err-frame_for.field-0.0 in
+    let why = c.in_err-frame.field-0.0 in
     let e : why ≡ p.0 = cc in
     let s = g.P.Part.story c.args.dev.now in
     let P : Refusal → Type 0 = LostTo (paged (g.R.Rows.shape c.args.rows.now) (g.R.Rows.view c.args.seat.now) c.args.pager.now) s in
     if_err c.from_residual.result p.0 P p.1 (subst P e
-    (lost_to c.reach.ensures.fits.1 c.requires.paged c.every_sequel.ensures c.in-Cold.ensures.went.ran c.reach.ensures.fits.2 c.in-Cold.ensures.came c.every_descent.ensures c.frames-frames.ensures s why c.every_warm.ensures c.frame_for.ensures.fits.1 c.in_err-frame_for.ensures.err c.in_err-frame_for.ensures.cause c.in_err-frame_for.ensures.cold))
+    (lost_to c.reach.ensures.fits.1 c.requires.paged c.every_sequel.ensures c.in-Cold.ensures.went.ran c.reach.ensures.fits.2 c.in-Cold.ensures.came c.every_descent.ensures c.frames-frames.ensures s why c.every_warm.ensures c.frame_for.ensures.fits.1 c.in_err-frame.ensures.err c.in_err-frame.ensures.cause c.in_err-frame.ensures.cold))
 
-pub returns-in_err-frame_for-clause-fed : goal.returns-in_err-frame_for-clause-fed
-returns-in_err-frame_for-clause-fed g c well =
+pub returns-in_err-frame-clause-fed : goal.returns-in_err-frame-clause-fed
+returns-in_err-frame-clause-fed g c well =
     let s = g.P.Part.story c.args.dev.now in
     let p = paged (g.R.Rows.shape c.reach.new.rows) (g.R.Rows.view c.reach.new.seat) c.args.pager.now in
     let q = paged (g.R.Rows.shape c.frame_for.new.rows) (g.R.Rows.view c.frame_for.new.seat) c.frame_for.new.self in
     let f = fed_now c.reach.ensures.fits.1 c.requires.paged c.every_sequel.ensures c.in-Cold.ensures.went.ran c.reach.ensures.fits.2 s c.requires.fed in
-    fed_on p q s (g.P.Part.story c.frame_for.new.dev) c.in_err-frame_for.ensures.err.moved.goes.ran.given c.frame_for.ensures.mirrors c.frame_for.ensures.frame well f
+    fed_on p q s (g.P.Part.story c.frame_for.new.dev) c.in_err-frame.ensures.err.moved.goes.ran.given c.frame_for.ensures.mirrors c.frame_for.ensures.frame well f
 
-pub returns-in_err-frame_for-clause-disk : goal.returns-in_err-frame_for-clause-disk
-returns-in_err-frame_for-clause-disk g c =
+pub returns-in_err-frame-clause-disk : goal.returns-in_err-frame-clause-disk
+returns-in_err-frame-clause-disk g c =
     let v = g.R.Rows.view c.args.seat.now in
     let w = g.R.Rows.view c.reach.new.seat in
     let u = g.R.Rows.view c.frame_for.new.seat in
@@ -104,7 +105,7 @@ returns-in_err-frame_for-clause-disk g c =
 
 pub returns-clause-paged : goal.returns-clause-paged
 returns-clause-paged g c =
-    let h = c.in_ok-frame_for.ensures.ok in record {
+    let h = c.in_ok-frame.ensures.ok in record {
       alone = ap (λ (z : Shape). z.alone) (c.frame_for.ensures.fits.1 ∙ c.reach.ensures.fits.1) ∙ c.requires.paged.alone;
       held = h.moved.goes.held;
       keeps = subst (λ (z : Shape). Keeps z (g.R.Rows.view c.frame_for.new.seat) c.frame_for.new.self) (sym c.frame_for.ensures.fits.1) h.moved.goes.keeps;
@@ -112,7 +113,7 @@ returns-clause-paged g c =
 
 pub returns-clause-ok : goal.returns-clause-ok
 returns-clause-ok g c =
-    has_come c.reach.ensures.fits.1 c.requires.paged c.every_sequel.ensures c.in-Cold.ensures.went.ran c.reach.ensures.fits.2 c.in-Cold.ensures.came c.every_descent.ensures c.frames-frames.ensures c.frame_for.ensures.fits.1 c.in_ok-frame_for.ensures.ok
+    has_come c.reach.ensures.fits.1 c.requires.paged c.every_sequel.ensures c.in-Cold.ensures.went.ran c.reach.ensures.fits.2 c.in-Cold.ensures.came c.every_descent.ensures c.frames-frames.ensures c.frame_for.ensures.fits.1 c.in_ok-frame.ensures.ok
 
 pub returns-clause-fed : goal.returns-clause-fed
 returns-clause-fed g c well =
@@ -120,7 +121,7 @@ returns-clause-fed g c well =
     let p = paged (g.R.Rows.shape c.reach.new.rows) (g.R.Rows.view c.reach.new.seat) c.args.pager.now in
     let q = paged (g.R.Rows.shape c.frame_for.new.rows) (g.R.Rows.view c.frame_for.new.seat) c.frame_for.new.self in
     let f = fed_now c.reach.ensures.fits.1 c.requires.paged c.every_sequel.ensures c.in-Cold.ensures.went.ran c.reach.ensures.fits.2 s c.requires.fed in
-    fed_on p q s (g.P.Part.story c.frame_for.new.dev) c.in_ok-frame_for.ensures.ok.moved.goes.ran.given c.frame_for.ensures.mirrors c.frame_for.ensures.frame well f
+    fed_on p q s (g.P.Part.story c.frame_for.new.dev) c.in_ok-frame.ensures.ok.moved.goes.ran.given c.frame_for.ensures.mirrors c.frame_for.ensures.frame well f
 
 pub returns-clause-disk : goal.returns-clause-disk
 returns-clause-disk g c =
@@ -143,8 +144,8 @@ returns-in-Leaf-clause-reads g c most m =
     c.every_unsaved.ensures c.args.dev.now c.args.dev.now most (g.R.Rows.shape c.args.rows.now) (g.R.Rows.view c.args.seat.now) (g.R.Rows.view c.reach.new.seat) c.args.pager.now c.args.pager.now c.requires.paged.alone m
     (c.every_area_rest.ensures.reads (g.R.Rows.view c.args.seat.now) (g.R.Rows.view c.reach.new.seat) c.args.pager.now (g.R.Rows.shape c.args.rows.now).alone c.in-Leaf.ensures.went.ran)
 
-pub returns-in_err-frame_for-clause-reads : goal.returns-in_err-frame_for-clause-reads
-returns-in_err-frame_for-clause-reads g c most m =
+pub returns-in_err-frame-clause-reads : goal.returns-in_err-frame-clause-reads
+returns-in_err-frame-clause-reads g c most m =
     let v = g.R.Rows.view c.args.seat.now in
     let w = g.R.Rows.view c.reach.new.seat in
     let u = g.R.Rows.view c.frame_for.new.seat in

@@ -2,13 +2,13 @@ use Rattle.std.proofs.Common.{inl, inr, refl, ◌∙◌, ◌+◌, ◌≤◌, ari
 use Rattle.lean_disk.specs.Story.{IsLawful}
 use Rattle.session_desks.specs.Parts.{here, shape}
 use Rattle.paged_desks.specs.Machines.{pages, view_of}
-use Rattle.paged_desks.proofs.Breaking.{broken_then, broken_up}
+use Rattle.paged_desks.proofs.Breaking.{broken_sync, broken_then, broken_up}
 use Rattle.paged_desks.proofs.Doing.{done_none, done_sync, done_then, done_up}
 use Rattle.paged_desks.proofs.Full.{tight_is}
 use Rattle.paged_desks.proofs.Late.{half_of}
 use Rattle.paged_desks.proofs.Losses.{unread_err}
 use Rattle.paged_desks.proofs.Stops.{whole}
-use Rattle.paged_desks.proofs.Warmth.{comes_synced}
+use Rattle.paged_desks.proofs.Warmth.{can_after, comes_behind, warm_synced}
 use Rattle.paged_desks.proofs.machine.PagedMachine.sync_and_bring.Goals as goal
 
 pub returns-then-any_half-clause-done : goal.returns-then-any_half-clause-done
@@ -29,10 +29,14 @@ returns-in-Ok-clause-done g c on =
     let t = c.requires.crowded in
     let lawful : (d : g.row.D.Denot) → IsLawful (g.D.Disk.story d) = λ d. (g.met.D.Disk g.world.𝓛 g.world.𝓜 g.world.𝓡 ((λ s x. x), (λ x. x), (λ x. x), (λ x. x))).lawful d in
     done_then g.D.Disk.story c.args.key l.places l.kept l.prefixes l.seals l.versions lawful (let few : suc m.machine.work.session.workers + 15 ≤ 15 + suc m.machine.work.session.workers = omega arith in few)
-    (done_sync g.D.Disk.story c.args.key m c.sync.new.self l.reached l.needs l.places c.in-Ok.ensures.synced (tight_is c.args.key t.on t.above t.held (pages m) c.requires.ready.outside t.crowded)) (c.bring_again.ensures.done on)
+    (done_sync g.D.Disk.story c.args.key m c.sync.new.self l.reached l.needs l.places c.in-Ok.ensures.synced (tight_is c.args.key c.args.wanted t.on t.above t.held (pages m) c.requires.ready.outside t.crowded)) (c.bring_again.ensures.done on)
 
 pub returns-in-Ok-clause-comes : goal.returns-in-Ok-clause-comes
-returns-in-Ok-clause-comes g c = comes_synced c.args.key c.args.self.now c.sync.new.self c.bring_again.new.self c.in-Ok.ensures.synced c.bring_again.result c.bring_again.ensures.comes
+returns-in-Ok-clause-comes g c =
+    comes_behind c.args.key c.args.wanted c.args.self.now c.sync.new.self c.bring_again.new.self (warm_synced c.args.key c.in-Ok.ensures.synced) c.requires.can c.bring_again.result c.bring_again.ensures.comes
+
+pub bring_again-requires-clause-can : goal.bring_again-requires-clause-can
+bring_again-requires-clause-can g c κs within = can_after c.args.key c.args.wanted c.args.self.now c.sync.new.self (warm_synced c.args.key c.in-Ok.ensures.synced) c.requires.can
 
 pub returns-in-Ok-clause-broke : goal.returns-in-Ok-clause-broke
 returns-in-Ok-clause-broke g c off =
@@ -41,17 +45,20 @@ returns-in-Ok-clause-broke g c off =
     let l = c.laws.ensures in
     let lawful : (d : g.row.D.Denot) → IsLawful (g.D.Disk.story d) = λ d. (g.met.D.Disk g.world.𝓛 g.world.𝓜 g.world.𝓡 ((λ s x. x), (λ x. x), (λ x. x), (λ x. x))).lawful d in
     broken_then g.D.Disk.story c.args.key l.kept l.prefixes l.seals l.versions lawful (let few : suc m.machine.work.session.workers + 15 ≤ 15 + suc m.machine.work.session.workers = omega arith in few)
-    (done_sync g.D.Disk.story c.args.key m c.sync.new.self l.reached l.needs l.places c.in-Ok.ensures.synced (tight_is c.args.key t.on t.above t.held (pages m) c.requires.ready.outside t.crowded)) (c.bring_again.ensures.broke off)
+    (done_sync g.D.Disk.story c.args.key m c.sync.new.self l.reached l.needs l.places c.in-Ok.ensures.synced (tight_is c.args.key c.args.wanted t.on t.above t.held (pages m) c.requires.ready.outside t.crowded)) (c.bring_again.ensures.broke off)
 
 pub returns-in-Err-clause-broke : goal.returns-in-Err-clause-broke
 returns-in-Err-clause-broke g c _ =
-    broken_up (let few : suc c.args.self.now.machine.work.session.workers ≤ 15 + suc c.args.self.now.machine.work.session.workers = omega arith in few) (c.in-Err.ensures.broke refl)
+    broken_up (let few : suc c.args.self.now.machine.work.session.workers ≤ 15 + suc c.args.self.now.machine.work.session.workers = omega arith in few) (broken_sync c.args.self.now c.sync.new.self (c.in-Err.ensures.failed refl))
 
-pub returns-then-any_half-clause-spent : goal.returns-then-any_half-clause-spent
-returns-then-any_half-clause-spent g c _ = inr (half_of c.args.self.now c.requires.ready.sound.desks (sym c.any_half.ensures ∙ c.if-any_half.true))
+pub returns-then-any_half-clause-stuck : goal.returns-then-any_half-clause-stuck
+returns-then-any_half-clause-stuck g c _ =
+    let m = c.args.self.now in
+    let t = c.requires.crowded in
+    inr (record { tight = tight_is c.args.key c.args.wanted t.on t.above t.held (pages m) c.requires.ready.outside t.crowded; half = half_of m c.requires.ready.sound.desks (sym c.any_half.ensures ∙ c.if-any_half.true) })
 
-pub returns-in-Ok-clause-spent : goal.returns-in-Ok-clause-spent
-returns-in-Ok-clause-spent g c r = inl (c.bring_again.ensures.spent r)
+pub returns-in-Ok-clause-stuck : goal.returns-in-Ok-clause-stuck
+returns-in-Ok-clause-stuck g c r = inl (c.bring_again.ensures.spent r)
 
 pub returns-in-Ok-clause-unread : goal.returns-in-Ok-clause-unread
 returns-in-Ok-clause-unread g c =

@@ -1,16 +1,15 @@
-use Rattle.std.proofs.Common.{ap, ◌≡◌, ◌∙◌, ◌+◌, ◌*◌, ◌-◌, ◌≤◌, arith, refl, subst, Bool, Ok}
+use Rattle.std.proofs.Common.{ap, ◌≡◌, ◌∙◌, ◌+◌, ◌*◌, ◌-◌, ◌≤◌, arith, refl, subst, Ok}
 use Rattle.lean_disk.specs.Story.{IsLawful}
 use Rattle.paged_rows.specs.Paged.{IsWarm}
 use Rattle.paged_desks.specs.Machines.{pages}
-use Rattle.paged_desks.specs.Pages.{most_a_level}
-use Rattle.paged_desks.specs.Inside.{Comes}
+use Rattle.paged_desks.specs.Pages.{goes_on, most_a_level}
 use Rattle.paged_desks.proofs.Breaking.{broken_then, failed_of, nine_levels}
 use Rattle.paged_desks.proofs.Doing.{done_more, done_nine, done_none, done_up, gone_of}
 use Rattle.paged_desks.proofs.Late.{half_kept, spent_from}
 use Rattle.paged_desks.proofs.Losses.{damaged_of, unread_before}
-use Rattle.paged_desks.proofs.Stops.{err_same, refusing, unwarmed_by, warm_same}
+use Rattle.paged_desks.proofs.Stops.{refusing, unwarmed_by, warm_same}
 use Rattle.paged_desks.specs.declared.warming.Unwarmed.TheVariants as refused
-use Rattle.paged_desks.proofs.Warmth.{warm_first}
+use Rattle.paged_desks.proofs.Warmth.{warm_first, warmer_of}
 use Rattle.paged_desks.proofs.machine.PagedMachine.warm.Goals as goal
 
 pub bring_or_sync-requires-clause-ready : goal.bring_or_sync-requires-clause-ready
@@ -36,9 +35,8 @@ loop-come-preserved g c =
     let m = c.args.self.now in
     let p = c.loop-come.self in
     let q = c.bring_or_sync.new.self in
-    let o = c.in-Ok-false.ensures in
-    let comes = subst (λ (b : Bool). Comes c.args.key b p q) c.in-Ok-false.field-0-test o.comes in
-    let w = comes (8 - c.loop-come._come) i.warm in
+    let o = c.in-Ok-Some.ensures in
+    let w = warmer_of c.args.key p q c.in-Ok-Some.field-0-is o.comes (8 - c.loop-come._come) i.warm in
     let less = w.0 in
     let e : (8 - c.loop-come._come) - 1 ≡ 8 - (c.loop-come._come + 1) = omega arith in record {
       ready = o.ready refl;
@@ -48,14 +46,14 @@ loop-come-preserved g c =
       faults = o.cause_disk_fault.calm (λ x. cc) ∙ i.faults;
     }
 
-pub returns-in-Ok-true-clause-gone : goal.returns-in-Ok-true-clause-gone
-returns-in-Ok-true-clause-gone g c _ =
+pub returns-in-Ok-None-clause-gone : goal.returns-in-Ok-None-clause-gone
+returns-in-Ok-None-clause-gone g c _ =
     let i = c.loop-come.invariant in
     let m = c.args.self.now in
     let l = c.laws.ensures in
     let lawful : (d : g.row.D.Denot) → IsLawful (g.D.Disk.story d) = λ d. (g.met.D.Disk g.world.𝓛 g.world.𝓜 g.world.𝓡 ((λ s x. x), (λ x. x), (λ x. x), (λ x. x))).lawful d in
-    gone_of g.D.Disk.story m c.requires.ready l.frames c.args.key c.bring_or_sync.new.self
-    (done_nine c.loop-come._come i.few (done_more g.D.Disk.story c.args.key l.places l.kept l.prefixes l.seals l.versions lawful m c.loop-come.self c.bring_or_sync.new.self c.loop-come._come i.done (c.in-Ok-true.ensures.done refl)))
+    gone_of g.D.Disk.story m c.requires.ready l.frames c.args.key (9 * most_a_level m.machine.work.session.workers) c.bring_or_sync.new.self (omega arith)
+    (done_nine c.loop-come._come i.few (done_more g.D.Disk.story c.args.key l.places l.kept l.prefixes l.seals l.versions lawful m c.loop-come.self c.bring_or_sync.new.self c.loop-come._come i.done (c.in-Ok-None.ensures.done refl)))
 
 pub returns-in-Err-clause-gone : goal.returns-in-Err-clause-gone
 returns-in-Err-clause-gone g c on =
@@ -63,7 +61,7 @@ returns-in-Err-clause-gone g c on =
     let m = c.args.self.now in
     let l = c.laws.ensures in
     let lawful : (d : g.row.D.Denot) → IsLawful (g.D.Disk.story d) = λ d. (g.met.D.Disk g.world.𝓛 g.world.𝓜 g.world.𝓡 ((λ s x. x), (λ x. x), (λ x. x), (λ x. x))).lawful d in
-    gone_of g.D.Disk.story m c.requires.ready l.frames c.args.key c.bring_or_sync.new.self
+    gone_of g.D.Disk.story m c.requires.ready l.frames c.args.key (9 * most_a_level m.machine.work.session.workers) c.bring_or_sync.new.self (omega arith)
     (done_nine c.loop-come._come i.few (done_more g.D.Disk.story c.args.key l.places l.kept l.prefixes l.seals l.versions lawful m c.loop-come.self c.bring_or_sync.new.self c.loop-come._come i.done (c.in-Err.ensures.done on)))
 
 pub returns-in-Err-clause-failed : goal.returns-in-Err-clause-failed
@@ -78,11 +76,15 @@ returns-in-Err-clause-failed g c off =
     failed_of g.D.Disk.story m c.bring_or_sync.new.self c.requires.ready l.frames
     (broken_then g.D.Disk.story c.args.key l.kept l.prefixes l.seals l.versions lawful (nine_levels c.loop-come._come m.machine.work.session.workers p.machine.work.session.workers few same) i.done (c.in-Err.ensures.broke off))
 
+pub returns-in-Err-clause-tight : goal.returns-in-Err-clause-tight
+returns-in-Err-clause-tight g c r = c.in-Err.ensures.stuck (ap refusing (warm_same c.in-Err.why refused.RowSpent r))
+
 pub returns-in-Err-clause-spent : goal.returns-in-Err-clause-spent
 returns-in-Err-clause-spent g c r =
     let i = c.loop-come.invariant in
-    let why = err_same (refusing c.in-Err.why) (refusing refused.RowSpent) c.in-Err.why refused.RowSpent refl refl (ap refusing (warm_same c.in-Err.why refused.RowSpent r)) in
-    spent_from c.args.self.now c.loop-come.self c.bring_or_sync.new.self (half_kept i.done.paged.same.0 i.done.paged.sessions) (c.in-Err.ensures.spent (ap refusing why))
+    let why = warm_same c.in-Err.why refused.RowSpent r in
+    let d = c.in-Err.ensures.done (ap (λ u. goes_on (refusing u)) why) in
+    spent_from c.args.key c.args.self.now c.bring_or_sync.new.self (λ h. half_kept {n = c.loop-come.self} i.done.paged.same.0 i.done.paged.sessions (half_kept {n = c.bring_or_sync.new.self} d.paged.same.0 d.paged.sessions h)) (c.in-Err.ensures.stuck (ap refusing why))
 
 pub unreachable-requires : goal.unreachable-requires
 unreachable-requires g c =
@@ -97,5 +99,5 @@ returns-in-Err-clause-damaged g c page e =
     let d = c.loop-come.invariant.done in
     damaged_of g.D.Disk.story m (unwarmed_by c.in-Err.why) (unread_before g.D.Disk.story m c.loop-come.self d.paged.events d.paged.behind d.part c.in-Err.why c.in-Err.ensures.unread) page e
 
-pub returns-in-Ok-true-clause-damaged : goal.returns-in-Ok-true-clause-damaged
-returns-in-Ok-true-clause-damaged g c page e = damaged_of g.D.Disk.story c.args.self.now (Ok tt) tt page e
+pub returns-in-Ok-None-clause-damaged : goal.returns-in-Ok-None-clause-damaged
+returns-in-Ok-None-clause-damaged g c page e = damaged_of g.D.Disk.story c.args.self.now (Ok tt) tt page e
