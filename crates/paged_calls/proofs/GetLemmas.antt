@@ -55,15 +55,17 @@ use Rattle.paged_desks.specs.Pages.{goes_on}
 use Rattle.paged_desks.specs.declared.machine.PagedMachine.{PagedMachine}
 use Rattle.paged_desks.specs.declared.warming.Unwarmed.{Unwarmed}
 use Rattle.paged_desks.specs.declared.warming.Unwarmed.TheVariants as stopped
-use Rattle.paged_calls.specs.Calls.{AreHalf, CallDoes, DoesTied, OnLine, Tied}
-use Rattle.paged_calls.specs.Steps.{HasCome, HasNotTaken, HasReadWarm, HasTaken, IsBeside, ReadsWarm}
+use Rattle.paged_desks.specs.Calls.{AreHalf, CallDoes, DoesTied, OnLine, Tied}
+use Rattle.paged_calls.specs.Steps.{HasCome, HasNotTaken, HasReadWarm, HasTaken, ReadsWarm}
+use Rattle.paged_desks.specs.Calls.{IsBeside}
 use Rattle.paged_calls.specs.Tests.{is_going, refusal_of}
 use Rattle.paged_calls.proofs.Conflicts.{lock_refused}
-use Rattle.paged_calls.proofs.EndingLemmas.{begins, does_tied, half_own}
+use Rattle.paged_desks.proofs.EndingLemmas.{IsOr, begins, does_tied, half_own}
 use Rattle.paged_calls.proofs.GoingLemmas.{goes, not_going, tests_as}
 use Rattle.paged_calls.proofs.KeyLemmas as keys
-use Rattle.paged_calls.proofs.PieceLemmas.{Grounds, behind_as, joins_at, none_part, read_part}
-use Rattle.paged_calls.proofs.StandLemmas.{halves_are}
+use Rattle.paged_desks.proofs.EndingLemmas.{Grounds}
+use Rattle.paged_calls.proofs.PieceLemmas.{behind_as, joins_at, none_part, read_part}
+use Rattle.paged_desks.proofs.StandLemmas.{halves_are}
 use Rattle.paged_calls.proofs.TakingLemmas.{key_free, key_hindered, none_is, none_refuses, some_is, spent_end}
 
 -- ## In one run
@@ -110,7 +112,7 @@ module _ (l : Grounds) (answers : EveryAnswer) (coming : EveryComing) {D : Type 
   module _ (n : PagedMachine D) (part : Part x.workers [] v (view_of n) (memory m) (memory n) (story m.machine.work.disk) (story n.machine.work.disk)) (logged : HasLogs n.machine) (as_many : AreAsMany m.machine n.machine)
       (same : (w : ℕ) → 0 < w → w ≤ x.workers → (desk_of (here n.machine) n.machine.desks.items w).session.is_half_aborted ≡ (desk_of (here m.machine) m.machine.desks.items w).session.is_half_aborted) where
     refused_now : (why : Refusal) → TakesRow why own (g.row_of key) happening.Mode.Shared [] → IsCause limits g (front xs ++ []) at (is_half (marks_by own (outcomes xs))) own (call.Get key) why
-        → IsRefusedFor g at own (is_half_done own xs) log (call.Get key) why → ((q : Refusal) → refusal_in g at own (is_half_done own xs) log (call.Get key) ≡ Some q → (why ≡ q) ⊎ (why ≡ refusal.RowSpent))
+        → IsRefusedFor g at own (is_half_done own xs) log (call.Get key) why → ((q : Refusal) → refusal_in g at own (is_half_done own xs) log (call.Get key) ≡ Some q → IsOr why q)
         → DoesTied g x.group xs own (call.Get key) (answer.Refused why) (memory m) n (story m.machine.work.disk) (story n.machine.work.disk)
     refused_now = keys.refused_now l answers coming story lawful m ready key Shared (call.Get key) refl g xs workers tied halves line n part logged as_many same
 
@@ -127,7 +129,7 @@ module _ (l : Grounds) (answers : EveryAnswer) (coming : EveryComing) {D : Type 
 
     -- the row is not to be had
     pub not_taken : x.is_open ≡ true → x.is_half_aborted ≡ false → (why : Refusal) → NotTaken why v (view_of n) own (key % x.held.count) Shared → DoesTied g x.group xs own (call.Get key) (answer.Refused why) (memory m) n (story m.machine.work.disk) (story n.machine.work.disk)
-    not_taken is_open whole refusal.RowSpent s = refused_now refusal.RowSpent (inl refl) (spent_end g xs [] (view_of n) (behind_as g xs [] v (view_of n) s.given s.seen b0) s.many) (inr refl) (λ q r. inr refl)
+    not_taken is_open whole refusal.RowSpent s = refused_now refusal.RowSpent (inl refl) (spent_end g xs [] (view_of n) (behind_as g xs [] v (view_of n) s.given s.seen b0) s.many) (inr refl) (λ q r. inr (inl refl))
     not_taken is_open whole (refusal.Conflict h) s = refused_now (refusal.Conflict h) refl hinders (inl now) (λ q r. inl (some_is (refusal.Conflict h) q (sym now ∙ r)))
       where
         hinders : Hinders (at.row (g.row_of key)) own happening.Mode.Shared h
@@ -237,7 +239,7 @@ module _ (l : Grounds) (answers : EveryAnswer) (coming : EveryComing) {D : Type 
         how = record {
           few = few_all;
           refused = λ why q. absurd (cc);
-          refuses = λ why q. absurd (none_is why (sym none ∙ (ap (refusal_in g at own (is_half_done own xs) log) (sym asks) ∙ q)));
+          refuses = λ why sure q. absurd (none_is why (sym none ∙ (ap (refusal_in g at own (is_half_done own xs) log) (sym asks) ∙ q)));
           still = λ _ _. structure_all;
           room = subst (λ d. MakesItsRoom own g at d (first ++ last ∷ [])) (sym asks) structure_all;
         }

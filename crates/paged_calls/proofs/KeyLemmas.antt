@@ -54,14 +54,15 @@ use Rattle.call_parts.specs.Rooms.{AreRoom, IsRoomFor, looks}
 use Rattle.paged_desks.specs.Machines.{IsReady, memory, view_of}
 use Rattle.paged_desks.specs.Parts.{IsSpent, StandsNowhere, most_a_way}
 use Rattle.paged_desks.specs.declared.machine.PagedMachine.{PagedMachine}
-use Rattle.paged_calls.specs.Calls.{AreHalf, DoesTied, StandsNot, Tied}
+use Rattle.paged_desks.specs.Calls.{AreHalf, DoesTied, StandsNot, Tied}
 use Rattle.paged_calls.specs.Steps.{FailsWarm, HasCome, HasTaken}
-use Rattle.paged_calls.proofs.EndingLemmas.{IsAnswerTo, begins, fails_by, line_call, refused_tied}
+use Rattle.paged_desks.proofs.EndingLemmas.{IsAnswerTo, IsOr, begins, fails_by, line_call, refused_tied}
 use Rattle.paged_calls.proofs.EventLemmas.{length_events, locked_room, paging_steps, paging_structure, room_of, structure_of}
 use Rattle.paged_calls.proofs.GoingLemmas.{goes}
-use Rattle.paged_calls.proofs.HalfLates.{half_late}
-use Rattle.paged_calls.proofs.PieceLemmas.{Grounds, failed_from, joins_at, lock_part, taken_own}
-use Rattle.paged_calls.proofs.StandLemmas.{halves_are, memory_is}
+use Rattle.paged_desks.proofs.HalfLates.{half_late}
+use Rattle.paged_desks.proofs.EndingLemmas.{Grounds}
+use Rattle.paged_calls.proofs.PieceLemmas.{failed_from, joins_at, lock_part, taken_own}
+use Rattle.paged_desks.proofs.StandLemmas.{halves_are, memory_is}
 use Rattle.paged_calls.proofs.TakingLemmas.{key_row, late_end}
 
 -- ## Calls of a key
@@ -82,7 +83,7 @@ IsOfKey (call.Del k) key happening.Mode.Alone = k ≡ key
 IsOfKey _ key mode = ⊥
 
 module _ (g : Opening) (xs : List Done) (own : ℕ) where
-  tries_of : (c : Call) (key : ℕ) (mode : happening.Mode) → IsOfKey c key mode → (why : Refusal) (es : List happening.Event) → TakesRow why own (g.row_of key) mode es → Tries g own (outcomes xs) c why es
+  pub tries_of : (c : Call) (key : ℕ) (mode : happening.Mode) → IsOfKey c key mode → (why : Refusal) (es : List happening.Event) → TakesRow why own (g.row_of key) mode es → Tries g own (outcomes xs) c why es
   tries_of (call.Get k) key happening.Mode.Shared e why es t = subst (λ j. TakesRow why own (g.row_of j) happening.Mode.Shared es) (sym e) t
   tries_of (call.Put k value) key happening.Mode.Alone e why es t = subst (λ j. TakesRow why own (g.row_of j) happening.Mode.Alone es) (sym e) t
   tries_of (call.Del k) key happening.Mode.Alone e why es t = subst (λ j. TakesRow why own (g.row_of j) happening.Mode.Alone es) (sym e) t
@@ -136,20 +137,20 @@ module _ (g : Opening) (xs : List Done) (own : ℕ) where
   makes_none s key (e ∷ es) h = (next_room s key e (first_false (is_structure e) (any is_structure es) h), makes_none (step g s e) key es (second_false (is_structure e) (any is_structure es) h))
 
   -- the tree is as it was
-  room_none : (c : Call) (key : ℕ) (mode : happening.Mode) → IsOfKey c key mode → (s : State) (es : List happening.Event) → any is_structure es ≡ false → MakesItsRoom own g s c es
+  pub room_none : (c : Call) (key : ℕ) (mode : happening.Mode) → IsOfKey c key mode → (s : State) (es : List happening.Event) → any is_structure es ≡ false → MakesItsRoom own g s c es
   room_none (call.Get k) key mode e s es h = h
   room_none (call.Put k value) key mode e s es h = makes_none s k es h
   room_none (call.Del k) key mode e s es h = h
   room_none _ key mode e s es h = absurd e
 
-  looks_of : (c : Call) (key : ℕ) (mode : happening.Mode) → IsOfKey c key mode → looks c ≡ true
+  pub looks_of : (c : Call) (key : ℕ) (mode : happening.Mode) → IsOfKey c key mode → looks c ≡ true
   looks_of (call.Get k) key mode e = refl
   looks_of (call.Put k value) key mode e = refl
   looks_of (call.Del k) key mode e = refl
   looks_of _ key mode e = absurd e
 
   -- what it may have done where its disk fails
-  room_for : (c : Call) (key : ℕ) (mode : happening.Mode) → IsOfKey c key mode → (es : List happening.Event) → AreRoom own (g.row_of key) mode es → any is_structure es ≡ false → length es ≤ 2 ^ 18 → IsRoomFor g xs own c es
+  pub room_for : (c : Call) (key : ℕ) (mode : happening.Mode) → IsOfKey c key mode → (es : List happening.Event) → AreRoom own (g.row_of key) mode es → any is_structure es ≡ false → length es ≤ 2 ^ 18 → IsRoomFor g xs own c es
   room_for (call.Get k) key happening.Mode.Shared e es r h few = ((subst (λ j. AreRoom own (g.row_of j) happening.Mode.Shared es) (sym e) r, h), few)
   room_for (call.Put k value) key happening.Mode.Alone e es r h few = ((subst (λ j. AreRoom own (g.row_of j) happening.Mode.Alone es) (sym e) r, makes_none (state_after g (front xs)) k es h), few)
   room_for (call.Del k) key happening.Mode.Alone e es r h few = ((subst (λ j. AreRoom own (g.row_of j) happening.Mode.Alone es) (sym e) r, h), few)
@@ -210,7 +211,7 @@ module _ (l : Grounds) (answers : EveryAnswer) (coming : EveryComing) {D : Type 
 
   -- ## It is refused
 
-  shown : (why : Refusal) (es : List happening.Event) → length es ≤ 2 ^ 18 → IsRefusedFor g (state_after g (front xs ++ es)) own (is_half_done own xs) log c why → ((q : Refusal) → refusal_in g at own (is_half_done own xs) log c ≡ Some q → (why ≡ q) ⊎ (why ≡ refusal.RowSpent))
+  pub shown : (why : Refusal) (es : List happening.Event) → length es ≤ 2 ^ 18 → IsRefusedFor g (state_after g (front xs ++ es)) own (is_half_done own xs) log c why → ((q : Refusal) → refusal_in g at own (is_half_done own xs) log c ≡ Some q → IsOr why q)
       → any is_structure es ≡ false → IsAnswerTo g xs own c why es log
   shown why es few is_for refuses structure = record {
     few = few;
@@ -220,7 +221,7 @@ module _ (l : Grounds) (answers : EveryAnswer) (coming : EveryComing) {D : Type 
     room = subst (λ d. MakesItsRoom own g at d es) (sym asks) (room_none g xs own c key how_held of_key at es structure);
   }
 
-  is_refusal : (why : Refusal) (es : List happening.Event) → AllMet g at es → TakesRows own (keep is_step es) → TakesRow why own (g.row_of key) how_held (keep is_step es) → any is_structure es ≡ false
+  pub is_refusal : (why : Refusal) (es : List happening.Event) → AllMet g at es → TakesRows own (keep is_step es) → TakesRow why own (g.row_of key) how_held (keep is_step es) → any is_structure es ≡ false
       → IsCause limits g (front xs ++ es) (behind_first g xs es) (is_half (marks_by own (outcomes xs))) own c why → RefusedLogs limits g xs own c why es → IsRefusal limits g xs own c why es
   is_refusal why es met rows tries structure cause due = record {
     comes = (coming xs (refused_by own c why es).outcome).new line tt;
@@ -237,7 +238,7 @@ module _ (l : Grounds) (answers : EveryAnswer) (coming : EveryComing) {D : Type 
   module _ (n : PagedMachine D) (part : Part x.workers [] v (view_of n) (memory m) (memory n) (story m.machine.work.disk) (story n.machine.work.disk)) (logged : HasLogs n.machine) (as_many : AreAsMany m.machine n.machine)
       (same : (w : ℕ) → 0 < w → w ≤ x.workers → (desk_of (here n.machine) n.machine.desks.items w).session.is_half_aborted ≡ (desk_of (here m.machine) m.machine.desks.items w).session.is_half_aborted) where
     pub refused_now : (why : Refusal) → TakesRow why own (g.row_of key) how_held [] → IsCause limits g (front xs ++ []) at (is_half (marks_by own (outcomes xs))) own c why
-        → IsRefusedFor g at own (is_half_done own xs) log c why → ((q : Refusal) → refusal_in g at own (is_half_done own xs) log c ≡ Some q → (why ≡ q) ⊎ (why ≡ refusal.RowSpent))
+        → IsRefusedFor g at own (is_half_done own xs) log c why → ((q : Refusal) → refusal_in g at own (is_half_done own xs) log c ≡ Some q → IsOr why q)
         → DoesTied g x.group xs own c (answer.Refused why) (memory m) n (story m.machine.work.disk) (story n.machine.work.disk)
     refused_now why tries cause is_for refuses =
         refused_tied l m n (story m.machine.work.disk) (story n.machine.work.disk) (lawful m.machine.work.disk) g xs workers tied halves [] part logged as_many answers own c why refl low high
@@ -321,7 +322,7 @@ module _ (l : Grounds) (answers : EveryAnswer) (coming : EveryComing) {D : Type 
           refused_tied l m n (story m.machine.work.disk) (story n.machine.work.disk) (lawful m.machine.work.disk) g xs workers tied halves (told.Lock own row (event_mode mode) ∷ come.events) so_far logged as_many answers own c refusal.RowSpent refl low high
           (is_refusal refusal.RowSpent (lock ∷ moves) (so_far.logged g xs [] b0).met (subst (TakesRows own) (sym kept) (refl, tt))
           (subst (λ ys. (ys ≡ []) ⊎ (ys ≡ happening.Event.Lock own (g.row_of key) how_held ∷ [])) (sym kept) (inr (ap (λ i. happening.Event.Lock own i how_held ∷ []) (sym row_is)))) no_structure (late (tied.ties own).told s) (due_spent g xs own c key how_held of_key asks (lock ∷ moves) tight))
-          (shown refusal.RowSpent (lock ∷ moves) (let a = few in omega arith) (inr refl) (λ q r. inr refl) no_structure)
+          (shown refusal.RowSpent (lock ∷ moves) (let a = few in omega arith) (inr refl) (λ q r. inr (inl refl)) no_structure)
           half_all
         where
           kept : keep is_step (lock ∷ moves) ≡ lock ∷ []

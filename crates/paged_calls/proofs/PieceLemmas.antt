@@ -1,18 +1,16 @@
 -- What the pieces of a call did, as parts of it.
 use Rattle.std.proofs.Common.{◌≡◌, ◌∙◌, ◌%◌, ◌++◌, ◌&&◌, ℕ, Bool, true, List, [], ◌∷◌, Option, ap, refl, sym, subst, append-nil}
 use Rattle.core_calls.specs.Fronts.{Done}
-use Rattle.core_disk.specs.Versions.{EveryVersion}
 use Rattle.core_state.specs.Events as happening
 use Rattle.core_state.specs.Needs.{may}
 use Rattle.core_state.specs.Openings.{Opening}
-use Rattle.disk_image.specs.Laws.{EverySealed}
 use Rattle.disk_runs.specs.Quiet.{is_quiet}
 use Rattle.engine_calls.proofs.MoveLemmas.{every_move}
 use Rattle.key_locks.specs.declared.mode.Mode.{Mode}
 use Rattle.key_locks.specs.declared.mode.Mode.TheVariants as modes
 use Rattle.key_locks.specs.Rows.{event_mode}
 use Rattle.lean_disk.specs.Story.{IsLawful, Story}
-use Rattle.row_opening.specs.Openings.{EveryNeed, EveryReached, Opens}
+use Rattle.row_opening.specs.Openings.{Opens}
 use Rattle.row_words.specs.declared.event.Event.{Event}
 use Rattle.row_words.specs.declared.event.Event.TheVariants as told
 use Rattle.row_words.specs.declared.given.Given.{Given}
@@ -22,7 +20,6 @@ use Rattle.rows_trait.specs.declared.view.View.{View}
 use Rattle.rows_trait.specs.Views.{state}
 use Rattle.session_state.specs.Ties.{Behind}
 use Rattle.session_state.specs.declared.session.Session.{Session}
-use Rattle.worker_log.specs.Laws.{EveryKept, EveryPrefix}
 use Rattle.call_parts.proofs.JoinLemmas.{every_join}
 use Rattle.call_parts.proofs.StepLemmas.{every_step}
 use Rattle.call_parts.specs.Laws.{EveryJoin, EveryStep}
@@ -31,8 +28,10 @@ use Rattle.call_parts.specs.Parts.{Failed, Part}
 use Rattle.paged_desks.specs.Machines.{memory, view_of}
 use Rattle.paged_desks.specs.declared.machine.PagedMachine.{PagedMachine}
 use Rattle.row_changes.specs.Reads.{HasRead}
-use Rattle.paged_calls.specs.Steps.{HasTaken, IsBeside}
-use Rattle.paged_calls.proofs.StandLemmas.{memory_is}
+use Rattle.paged_calls.specs.Steps.{HasTaken}
+use Rattle.paged_desks.specs.Calls.{IsBeside}
+use Rattle.paged_desks.proofs.EndingLemmas.{Grounds}
+use Rattle.paged_desks.proofs.StandLemmas.{memory_is}
 
 -- ## From a view that has seen the same
 
@@ -54,15 +53,6 @@ pub failed_from : (many : ℕ) (saves syncs : Bool) (es : List happening.Event) 
 failed_from many saves syncs es v u was old new given seen f = record { around = f.around; fails = λ g xs first b. f.fails g xs first (behind_as g xs first v u given seen b) }
 
 -- ## Pieces
-
--- the laws on which they stand
-pub record Grounds : Type 0 where
-  pub reached : EveryReached
-  pub needs : EveryNeed
-  pub versions : EveryVersion
-  pub kept : EveryKept
-  pub prefixes : EveryPrefix
-  pub seals : EverySealed
 
 module _ (l : Grounds) {D : Type 0} (story : D → Story) (lawful : (d : D) → IsLawful (story d)) where
   pub steps_at : (d : D) → EveryStep (story d) (story d)

@@ -17,8 +17,9 @@ use Rattle.session_state.specs.Staging.{IsButClock}
 use Rattle.session_state.specs.declared.session.Session.{Session}
 use Rattle.paged_desks.specs.Machines.{IsReady, view_of}
 use Rattle.paged_desks.specs.declared.machine.PagedMachine.{PagedMachine}
-use Rattle.paged_calls.specs.Steps.{HasNotTaken, HasTaken, Holds, IsBeside}
-use Rattle.paged_calls.proofs.StandLemmas.{looked_one, looked_same, ready_on}
+use Rattle.paged_calls.specs.Steps.{HasNotTaken, HasTaken, Holds}
+use Rattle.paged_desks.specs.Calls.{IsBeside}
+use Rattle.paged_desks.proofs.StandLemmas.{looked_one, looked_same, ready_on}
 use Rattle.paged_calls.proofs.TakingLemmas.{row_held}
 
 module _ {D : Type 0} (story : D → Story) (law : EveryOther) (m n : PagedMachine D) (ready : IsReady story m) (b : IsBeside m n) (fits : SeatFits n.machine) (holds : HoldsSession (shape n.machine) (view_of n) n.machine.work.session n.machine.work.log) where

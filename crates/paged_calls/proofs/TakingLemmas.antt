@@ -32,7 +32,7 @@ use Rattle.session_state.specs.declared.session.Session.{Session}
 use Rattle.worker_log.specs.Logs.{Log}
 use Rattle.call_parts.proofs.RunLemmas.{core_is, front_is}
 use Rattle.paged_desks.specs.Parts.{IsLate}
-use Rattle.paged_calls.specs.Calls.{EndsWork, ends_work, works_behind}
+use Rattle.paged_desks.specs.Calls.{EndsWork, ends_work, works_behind}
 use Rattle.paged_calls.specs.Tests.{call_test, is_going}
 use Rattle.paged_calls.proofs.Conflicts.{lock_free}
 use Rattle.paged_calls.proofs.EventLemmas.{length_events}

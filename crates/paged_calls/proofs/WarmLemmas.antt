@@ -24,9 +24,11 @@ use Rattle.paged_desks.specs.Parts.{HasFailed, HasGone, IsSpent, StandsNowhere}
 use Rattle.paged_desks.specs.declared.machine.PagedMachine.{PagedMachine}
 use Rattle.paged_desks.specs.declared.warming.Unwarmed.{Unwarmed}
 use Rattle.paged_desks.specs.declared.warming.Unwarmed.TheVariants as stopped
-use Rattle.paged_calls.specs.Steps.{HasCome, HasReadWarm, Holds, IsBeside, IsStill, ReadsWarm}
-use Rattle.paged_calls.proofs.PieceLemmas.{Grounds, behind_as, none_part, part_from}
-use Rattle.paged_calls.proofs.StandLemmas.{halves_are, memory_is}
+use Rattle.paged_calls.specs.Steps.{HasCome, HasReadWarm, Holds, IsStill, ReadsWarm}
+use Rattle.paged_desks.specs.Calls.{IsBeside}
+use Rattle.paged_desks.proofs.EndingLemmas.{Grounds}
+use Rattle.paged_calls.proofs.PieceLemmas.{behind_as, none_part, part_from}
+use Rattle.paged_desks.proofs.StandLemmas.{halves_are, memory_is}
 
 -- ## Faults
 
@@ -79,12 +81,12 @@ kept_own story key most m n ready p =
     (p.sessions m.machine.work.session.own (turn_low (shape m.machine) (view_of m) (here m.machine) m.machine.desks.items ready.sound.desks) (turn_high (shape m.machine) (view_of m) (here m.machine) m.machine.desks.items ready.sound.desks)))
 
 module _ (l : Grounds) {D : Type 0} (story : D → Story) (lawful : (d : D) → IsLawful (story d)) (key : ℕ) where
-  beside_self : (m : PagedMachine D) → IsBeside m m
+  pub beside_self : (m : PagedMachine D) → IsBeside m m
   beside_self m = record { shape = refl; disk = refl; log = refl; desks = refl; latches = refl; master = refl; pager = refl }
 
   -- ## No page was missing
 
-  come_none : (m : PagedMachine D) → HasCome story key m m
+  pub come_none : (m : PagedMachine D) → HasCome story key m m
   come_none m = record { events = []; paging = tt; few = omega arith; part = none_part l story lawful m m (beside_self m) refl m.machine.work.session.workers refl refl; tight = λ g xs first b. tt; same = (refl, refl); turn = refl; halves = λ w lo hi. refl }
 
   pub read_at_once : (m n : PagedMachine D) (value : Option ℕ) → HasRead m.machine.work.session.own (view_of m) (view_of n) key value → IsBeside m n → IsButClock m.machine.work.session n.machine.work.session → HasReadWarm story key value m n

@@ -1,89 +1,26 @@
--- In which run a machine whose pages need not be in memory stands, and what a call of the session whose turn it is did in each such run.
-use Rattle.std.specs.Prelude.{◌≡◌, ◌≤◌, ◌<◌, ℕ, Bool, true, false, List, [], ◌∷◌, Option, Result, Ok, Err}
+-- Results of calls as answers, and which refusals of a call that changes its key come first.
+use Rattle.std.specs.Prelude.{ℕ, Option, Result, Ok, Err}
 use Rattle.map_model.specs.declared.call.Answer.{Answer}
 use Rattle.map_model.specs.declared.call.Answer.TheVariants as answer
-use Rattle.map_model.specs.declared.call.Call.{Call}
 use Rattle.map_model.specs.declared.call.Refusal.{Refusal}
 use Rattle.map_model.specs.declared.call.Refusal.TheVariants as refusal
-use Rattle.core_state.specs.Openings.{Opening}
-use Rattle.core_state.specs.Steps.{state_after}
-use Rattle.core_calls.specs.Fronts.{Done, front, outcomes}
-use Rattle.disk_runs.specs.Stands.{Known}
-use Rattle.lean_disk.specs.Story.{Crash, Story}
-use Rattle.engine_calls.specs.Clauses.{Between, IsNewLine}
-use Rattle.engine_trait.specs.Calls.{is_half_done}
-use Rattle.engine_trait.specs.Limits.{limits}
-use Rattle.rows_trait.specs.declared.view.View.{View}
-use Rattle.call_parts.specs.Deeds.{Does, Fails}
-use Rattle.call_parts.specs.Memory.{IsOf, Memory}
-use Rattle.session_state.specs.Ties.{Ties}
-use Rattle.session_desks.specs.Desks.{desk_of}
-use Rattle.session_desks.specs.Machines.{IsLogged}
-use Rattle.session_desks.specs.Parts.{here}
-use Rattle.session_desks.specs.declared.machine.Machine.{Machine}
-use Rattle.paged_desks.specs.Machines.{memory, view_of}
-use Rattle.paged_desks.specs.declared.machine.PagedMachine.{PagedMachine}
-
--- ## In a run
-
--- The view has seen just the events of these outcomes, and no loads of the opening are left for the next call; the logs have their records.
-pub record Tied (g : Opening) (group : ℕ) (xs : List Done) (v : View) (is : Memory) : Type 0 where
-  pub ties : (w : ℕ) → Ties g group xs w (is_half_done w xs) v
-  pub begun : (w : ℕ) → (ties w).loads ≡ []
-  pub logged : (w : ℕ) → 0 < w → w ≤ g.workers → IsLogged (state_after g (front xs)) w (is.log w)
-
--- the sessions say which aborts are half done
-abbrev pub AreHalf : {D : Type 0} → (sessions : ℕ) → List Done → Machine D → Type 0
-AreHalf sessions xs m = (w : ℕ) → 0 < w → w ≤ sessions → is_half_done w xs ≡ (desk_of (here m) m.desks.items w).session.is_half_aborted
-
--- ## A call
-
--- It was answered so, by one outcome more, to which the view is tied.
-pub record DoesTied {D : Type 0} (g : Opening) (group : ℕ) (xs : List Done) (own : ℕ) (c : Call) (a : Answer) (was : Memory) (n : PagedMachine D) (old new : Story) : Type 0 where
-  pub does : Does g group xs own c a was (memory n) old new
-  pub tied : Tied g group (does.done ∷ xs) (view_of n) (memory n)
-  pub is_half_aborted : AreHalf g.workers (does.done ∷ xs) n.machine
-
--- the disk stands for no run of these outcomes
-abbrev pub StandsNot : (g : Opening) (group : ℕ) → List Done → Memory → Story → Type 0
-StandsNot g group xs was old = (s0 : Crash) (k : Known) → Between limits g group xs s0 k old → IsOf g was k → ⊥
-
--- where the disk failed this; where a page of it is damaged this too, and it stood for no run; and else that
-abbrev pub Comes : Answer → (does fails never : Type 0) → Type 0
-Comes (answer.Refused refusal.DiskFault) does fails never = fails
-Comes (answer.Refused (refusal.Damaged area place)) does fails never = fails × never
-Comes _ does fails never = does
-
--- In each run of so many sessions to which the view is tied, and in which it may come, the call of session `own` did so.
-abbrev pub CallDoes : {D : Type 0} → (story : D → Story) → (May : Opening → List Done → Type 0) → (own : ℕ) → Call → Answer → (m n : PagedMachine D) → Type 0
-CallDoes story May own c a m n = (g : Opening) (xs : List Done) → g.workers ≡ m.machine.work.session.workers → Tied g m.machine.work.session.group xs (view_of m) (memory m) → AreHalf g.workers xs m.machine → May g xs
-    → Comes a (DoesTied g m.machine.work.session.group xs own c a (memory m) n (story m.machine.work.disk) (story n.machine.work.disk))
-    (Fails g m.machine.work.session.group xs own c (memory m) (story m.machine.work.disk) (story n.machine.work.disk)) (StandsNot g m.machine.work.session.group xs (memory m) (story m.machine.work.disk))
-
--- on a new line
-abbrev pub OnLine : Opening → List Done → Type 0
-OnLine g xs = IsNewLine (outcomes xs)
-
--- ## Answers
 
 abbrev pub get_answer : Result (Option ℕ) Refusal → Answer
 get_answer (Ok value) = answer.Value value
 get_answer (Err why) = answer.Refused why
 
--- behind it the machine works no longer
-abbrev pub ends_work : Refusal → Bool
-ends_work refusal.Broken = true
-ends_work refusal.DiskFault = true
-ends_work (refusal.Damaged area place) = true
-ends_work why = false
+abbrev pub del_answer : Result (Option ℕ) Refusal → Answer
+del_answer (Ok was) = answer.Was was
+del_answer (Err why) = answer.Refused why
 
-abbrev pub EndsWork : Refusal → Type 0
-EndsWork why = ends_work why ≡ true
+abbrev pub put_answer : Result (Option ℕ) Refusal → Answer
+put_answer (Ok was) = answer.Was was
+put_answer (Err why) = answer.Refused why
 
--- whether the machine works on
-abbrev pub works_behind : {A : Type 0} → Result A Refusal → Bool
-works_behind (Ok a) = true
-works_behind (Err refusal.Broken) = false
-works_behind (Err refusal.DiskFault) = false
-works_behind (Err (refusal.Damaged area place)) = false
-works_behind (Err why) = true
+-- a refusal of a call that changes its key which comes before all that is done; one by its clock may come behind the coming of pages
+abbrev pub IsEarly : Refusal → Type 0
+IsEarly refusal.Broken = Unit {0}
+IsEarly refusal.NoTransaction = Unit {0}
+IsEarly refusal.TooLong = Unit {0}
+IsEarly (refusal.LogFull used limit) = Unit {0}
+IsEarly _ = ⊥

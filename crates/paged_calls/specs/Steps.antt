@@ -19,6 +19,7 @@ use Rattle.session_desks.specs.Desks.{desk_of}
 use Rattle.session_desks.specs.Parts.{AreAsMany, here, shape}
 use Rattle.row_changes.specs.Reads.{HasRead}
 use Rattle.row_changes.specs.Takes.{NotTaken, Takes}
+use Rattle.paged_desks.specs.Calls.{IsBeside}
 use Rattle.paged_desks.specs.Machines.{memory, view_of}
 use Rattle.paged_desks.specs.Pages.{ArePaging}
 use Rattle.paged_desks.specs.Parts.{HasFailed, IsSpent, StandsNowhere, most_a_way}
@@ -27,16 +28,6 @@ use Rattle.paged_desks.specs.declared.warming.Unwarmed.{Unwarmed}
 use Rattle.paged_desks.specs.declared.warming.Unwarmed.TheVariants as stopped
 
 -- ## Rows and the session in the store
-
--- but for rows and seat, and the session in the store, all is as it was
-pub record IsBeside {D : Type 0} (m n : PagedMachine D) : Type 0 where
-  pub shape : shape n.machine ≡ shape m.machine
-  pub disk : n.machine.work.disk ≡ m.machine.work.disk
-  pub log : n.machine.work.log ≡ m.machine.work.log
-  pub desks : n.machine.desks ≡ m.machine.desks
-  pub latches : n.machine.latches ≡ m.machine.latches
-  pub master : n.machine.master ≡ m.machine.master
-  pub pager : n.pager ≡ m.pager
 
 -- the session whose turn it is took the key's row
 pub record HasTaken {D : Type 0} (key : ℕ) (mode : Mode) (m n : PagedMachine D) : Type 0 where

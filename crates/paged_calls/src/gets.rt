@@ -6,7 +6,8 @@ ghost use Rattle.lean_disk.specs.Faults.{HasCause};
 ghost use Rattle.engine_trait.specs.Calls.{MayCome};
 ghost use Rattle.session_desks.specs.Parts.{AreAsMany, SeatFits, Works};
 ghost use Rattle.paged_desks.specs.Machines.{IsReady};
-ghost use Rattle.paged_calls.specs.Calls.{CallDoes, EndsWork, OnLine, get_answer, works_behind};
+ghost use Rattle.paged_desks.specs.Calls.{CallDoes, EndsWork, OnLine, works_behind};
+ghost use Rattle.paged_calls.specs.Calls.{get_answer};
 
 use crate::laws::laws;
 use crate::reading::read_warm;

@@ -1,13 +1,17 @@
 // What the calls rest on.
+ghost use Rattle.core_calls.specs.Room.{EveryRoom};
 ghost use Rattle.core_disk.specs.Versions.{EveryVersion};
+ghost use Rattle.core_paging.specs.Paging.{EveryResidence};
 ghost use Rattle.disk_image.specs.Laws.{EverySealed};
 ghost use Rattle.engine_calls.specs.Answers.{EveryAnswer};
 ghost use Rattle.engine_calls.specs.Clauses.{EveryComing};
+ghost use Rattle.page_pool.specs.Counts.{EveryFrame};
+ghost use Rattle.page_pool.specs.Pools.{EveryStanding};
 ghost use Rattle.row_opening.specs.Openings.{EveryNeed, EveryReached};
 ghost use Rattle.session_state.specs.Others.{EveryOther};
 ghost use Rattle.worker_log.specs.Laws.{EveryKept, EveryPrefix};
 
-// The laws of versions, logs, seals and openings, of answers, and of other sessions.
+// The laws of versions, logs, seals and openings, of answers, of other sessions, of what the pager knows over their steps, of places and frames, and of room for a key.
 pub(crate) fn laws()
     ensures versions { EveryVersion }
     ensures kept { EveryKept }
@@ -18,6 +22,10 @@ pub(crate) fn laws()
     ensures answers { EveryAnswer }
     ensures coming { EveryComing }
     ensures others { EveryOther }
+    ensures standing { EveryStanding }
+    ensures frames { EveryFrame }
+    ensures residence { EveryResidence }
+    ensures room { EveryRoom }
 {
     core_disk::every_version();
     worker_log::every_kept();
@@ -28,4 +36,8 @@ pub(crate) fn laws()
     engine_calls::every_answer();
     engine_calls::every_coming();
     session_state::every_other();
+    page_pool::every_standing();
+    page_pool::every_frame();
+    core_paging::every_residence();
+    core_calls::every_room();
 }

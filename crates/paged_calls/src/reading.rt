@@ -7,7 +7,8 @@ ghost use Rattle.paged_desks.specs.declared.warming.Unwarmed.TheVariants as stop
 ghost use Rattle.paged_rows.specs.Paged.{IsWarm};
 ghost use Rattle.session_state.specs.Staging.{IsButClock};
 ghost use Rattle.row_changes.specs.Reads.{Reads};
-ghost use Rattle.paged_calls.specs.Steps.{Holds, IsBeside, ReadsWarm};
+ghost use Rattle.paged_calls.specs.Steps.{Holds, ReadsWarm};
+ghost use Rattle.paged_desks.specs.Calls.{IsBeside};
 
 use crate::laws::laws;
 use paged_desks::{PagedMachine, Unwarmed};

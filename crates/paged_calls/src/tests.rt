@@ -1,10 +1,14 @@
 // What a session asks of itself before a call, and how a call is answered where the pages of a way did not come.
-ghost use Rattle.std.specs.Prelude.{◌≡◌};
-ghost use Rattle.paged_calls.specs.Tests.{call_test, is_going, refusal_of};
+ghost use Rattle.std.specs.Prelude.{None, ◌≡◌};
+ghost use Rattle.engine_trait.specs.Refusals.{log_refusal};
+ghost use Rattle.paged_calls.specs.Tests.{call_test, change_test, is_going, refusal_of};
 
 use map_model::Refusal;
+use page_model::limits::TRANSACTION_CHANGES;
 use paged_desks::Unwarmed;
+use row_changes::CLOCK_END;
 use session_state::Session;
+use worker_log::WorkerLog;
 
 // Whether a transaction is open, and its abort is not half done.
 fn is_going(session: &Session) -> bool
@@ -24,6 +28,34 @@ pub(crate) fn call_refusal(session: &Session) -> Option<Refusal>
         return Some(Refusal::NoTransaction);
     }
     None
+}
+
+// Why a call that takes numbers is refused by its log or its clock.
+fn log_refusal(clock: u64, log: &WorkerLog) -> Option<Refusal>
+    ensures { result ≡ log_refusal clock log.now None }
+{
+    let used = log.used();
+    let limit = log.limit();
+    if limit <= used {
+        return Some(Refusal::LogFull { used, limit });
+    }
+    if CLOCK_END <= clock {
+        return Some(Refusal::ClockSpent);
+    }
+    None
+}
+
+// Why a call that changes its key is refused before it is begun.
+pub(crate) fn change_refusal(session: &Session, log: &WorkerLog) -> Option<Refusal>
+    ensures { result ≡ change_test session.now log.now }
+{
+    if let Some(why) = call_refusal(session) {
+        return Some(why);
+    }
+    if TRANSACTION_CHANGES <= session.undo.len() {
+        return Some(Refusal::TooLong);
+    }
+    log_refusal(session.clock.clock, log)
 }
 
 // Why the pages of a way were not brought into frames, as a call is answered.

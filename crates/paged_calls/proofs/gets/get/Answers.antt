@@ -2,9 +2,9 @@ use Rattle.std.proofs.Common.{◌∙◌, inl, inr, Option, ℕ, refl, sym, subst
 use Rattle.map_model.specs.declared.call.Answer.TheVariants as answer
 use Rattle.map_model.specs.declared.call.Call.TheVariants as call
 use Rattle.map_model.specs.declared.call.Refusal.{Refusal}
-use Rattle.paged_calls.specs.Calls.{CallDoes, OnLine}
+use Rattle.paged_desks.specs.Calls.{CallDoes, OnLine}
 use Rattle.paged_calls.proofs.GetLemmas.{get_closed, get_read, get_untaken, get_unwarmed}
-use Rattle.paged_calls.proofs.PieceLemmas.{Grounds}
+use Rattle.paged_desks.proofs.EndingLemmas.{Grounds}
 use Rattle.paged_calls.proofs.TakingLemmas.{call_closed, call_open, closed_broken, closed_come, closed_works}
 use Rattle.paged_calls.proofs.WarmLemmas.{fits_warm}
 use Rattle.paged_calls.proofs.gets.get.Goals as goal

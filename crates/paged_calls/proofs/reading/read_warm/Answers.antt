@@ -1,7 +1,7 @@
 use Rattle.std.proofs.Common.{◌∙◌, Option, ℕ, ap, refl, sym}
 use Rattle.paged_desks.specs.declared.warming.Unwarmed.TheVariants as stopped
 use Rattle.session_state.specs.declared.session.Session.{Session}
-use Rattle.paged_calls.proofs.PieceLemmas.{Grounds}
+use Rattle.paged_desks.proofs.EndingLemmas.{Grounds}
 use Rattle.paged_calls.proofs.WarmLemmas.{cause_as, cause_at, cause_none, err_reads, err_to, holds_on, kept_own, ok_err, read_at_once, read_behind, still_of}
 use Rattle.paged_calls.proofs.reading.read_warm.Goals as goal
 
@@ -49,3 +49,6 @@ pub returns-clause-cause_disk_fault : goal.returns-clause-cause_disk_fault
 returns-clause-cause_disk_fault g c =
     let faults = g.D.Disk.faults in
     cause_none _ _ _ (ap faults c.in-Ok-read.ensures.beside.disk ∙ (c.in_default-warm.ensures.cause_disk_fault.calm (ok_err _ _ stopped.DiskFault) ∙ ap faults c.read.ensures.beside.disk)) (ok_err (Option ℕ) c.in-Ok-read.value stopped.DiskFault)
+
+pub unreachable-requires : goal.unreachable-requires
+unreachable-requires g c = c.in-Err-read.ensures.cause_cold c.in_default-warm.ensures.warm refl

@@ -1,0 +1,28 @@
+-- A machine stands while the session whose turn it is changes a key, and its log has the record.
+use Rattle.std.proofs.Common.{◌≡◌, ℕ, true, Option, [], ◌∷◌, ap}
+use Rattle.core_state.specs.Steps.{at_pages, write_entry}
+use Rattle.image_model.specs.Entries.{Kind}
+use Rattle.lean_disk.specs.Story.{Story}
+use Rattle.log_record.specs.declared.record.Record.{Record}
+use Rattle.page_pool.specs.Pools.{EveryStanding}
+use Rattle.row_changes.specs.Puts.{IsChanged}
+use Rattle.row_words.specs.declared.event.Event.TheVariants as told
+use Rattle.row_words.specs.Openings.{opening}
+use Rattle.rows_trait.specs.Views.{state}
+use Rattle.session_desks.specs.Parts.{SeatFits, shape}
+use Rattle.session_state.specs.Holds.{Holds, IsSameSession}
+use Rattle.session_state.specs.Others.{EveryOther}
+use Rattle.paged_desks.specs.Machines.{IsReady, view_of}
+use Rattle.paged_desks.specs.declared.machine.PagedMachine.{PagedMachine}
+use Rattle.paged_desks.specs.Calls.{IsAside}
+use Rattle.paged_calls.proofs.RecordStands.{change_enters, ready_entered}
+
+pub ready_changed : {D : Type 0} (story : D → Story) (m n : PagedMachine D) → IsAside m n → IsSameSession m.machine.work.session n.machine.work.session → IsReady story m → EveryOther → EveryStanding → (key word : ℕ) (before : Option ℕ)
+    → IsChanged m.machine.work.session.own (view_of m) (view_of n) key word before m.machine.work.log n.machine.work.log (story m.machine.work.disk) (story n.machine.work.disk) → SeatFits n.machine → n.machine.work.session.works ≡ true
+    → Holds (shape n.machine) (view_of n) n.machine.work.session n.machine.work.log → IsReady story n
+ready_changed story m n a same ready law standing key word before c fits works holds =
+    let own = m.machine.work.session.own in
+    let s = (state (view_of m)).core in
+    let g = opening (view_of m).given in
+    ready_entered story m n a same ready law standing (told.Change own c.page key word) (write_entry g Kind.Change s own (at_pages s own (s.worker own) (c.page ∷ [])) c.page key word) c.given c.seen c.met (change_enters own c.page key word g s c.met)
+    c.entry (ap (λ (r : Record). r.gsn) c.entry_is) c.after c.keeps fits works holds

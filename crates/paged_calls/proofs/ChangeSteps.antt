@@ -1,0 +1,47 @@
+-- A machine behind a try to delete, by its answer.
+use Rattle.std.proofs.Common.{◌≡◌, ◌∙◌, ◌%◌, ◌++◌, ℕ, Bool, true, false, List, [], ◌∷◌, Option, Some, None, Result, Ok, Err, ap, refl, sym, subst, true≢false}
+use Rattle.lean_disk.specs.Story.{Story}
+use Rattle.map_model.specs.declared.call.Refusal.{Refusal}
+use Rattle.map_model.specs.declared.call.Refusal.TheVariants as refusal
+use Rattle.btree_descent.specs.declared.descent.TheConstants.{TOMBSTONE}
+use Rattle.page_pool.specs.Pools.{EveryStanding}
+use Rattle.row_changes.specs.Dels.{Dels}
+use Rattle.row_changes.specs.Puts.{works_behind}
+use Rattle.row_changes.specs.declared.ways.Unmade.{Unmade}
+use Rattle.row_changes.specs.declared.ways.Unmade.TheVariants as unmade
+use Rattle.row_words.specs.declared.event.Event.TheVariants as told
+use Rattle.session_desks.specs.Parts.{SeatFits, here, shape}
+use Rattle.session_state.proofs.OtherLemmas.{is_own, no_steps, one_step}
+use Rattle.session_state.specs.Holds.{Holds, IsSameSession}
+use Rattle.session_state.specs.Others.{EveryOther}
+use Rattle.session_state.specs.declared.work.Work.{Work}
+use Rattle.worker_log.specs.Logs.{Log}
+use Rattle.paged_desks.specs.Machines.{IsReady, view_of}
+use Rattle.paged_desks.specs.declared.machine.PagedMachine.{PagedMachine}
+use Rattle.paged_desks.specs.Calls.{IsAside}
+use Rattle.paged_desks.specs.Calls.{IsBeside}
+use Rattle.paged_calls.proofs.ChangeStands.{ready_changed}
+use Rattle.paged_desks.proofs.StandLemmas.{looked_one, looked_same, ready_on}
+
+-- where log and disk are as they were too
+pub beside_of : {D : Type 0} (m n : PagedMachine D) → IsAside m n → n.machine.work.log ≡ m.machine.work.log → n.machine.work.disk ≡ m.machine.work.disk → IsBeside m n
+beside_of m n a log disk = record { shape = a.shape; disk = disk; log = log; desks = a.desks; latches = a.latches; master = a.master; pager = a.pager }
+
+module _ {D : Type 0} (story : D → Story) (law : EveryOther) (standing : EveryStanding) (m n : PagedMachine D) (ready : IsReady story m) (a : IsAside m n) (fits : SeatFits n.machine) (same : IsSameSession m.machine.work.session n.machine.work.session)
+    (holds : n.machine.work.session.works ≡ true → Holds (shape n.machine) (view_of n) n.machine.work.session n.machine.work.log) (works : n.machine.work.session.works ≡ true) where
+  abbrev own : ℕ
+  own = m.machine.work.session.own
+
+  -- nothing was seen
+  still : n.machine.work ≡ m.machine.work → (view_of n).given ≡ (view_of m).given → (view_of n).seen ≡ (view_of m).seen → IsReady story n
+  still e given seen = ready_on story m n (beside_of m n a (ap (λ (k : Work D). k.log) e) (ap (λ (k : Work D). k.disk) e)) ready law given (looked_same (view_of m) (view_of n) given seen) fits works same (no_steps own (view_of m) (view_of n) given seen) (holds works)
+
+  pub del_ready : (key : ℕ) (r : Result (Option ℕ) Unmade) → works_behind r ≡ true → Dels r own (view_of m) (view_of n) key m.machine.work.log n.machine.work.log (story m.machine.work.disk) (story n.machine.work.disk) (n.machine.work ≡ m.machine.work) (n.machine.work.disk ≡ m.machine.work.disk) → IsReady story n
+  del_ready key (Ok (Some before)) w d = ready_changed story m n a same ready law standing key TOMBSTONE (Some before) d fits works (holds works)
+  del_ready key (Ok None) w d = ready_on story m n (beside_of m n a d.1 d.2) ready law d.0.given (looked_one (view_of m) (view_of n) (told.Read own d.0.page key None) tt d.0.given d.0.seen) fits works same
+      (one_step own (view_of m) (view_of n) (told.Read own d.0.page key None) d.0.given d.0.seen (is_own own) d.0.met) (holds works)
+  del_ready key (Err (unmade.Refused refusal.RowSpent)) w d = still d.1 d.0.given d.0.seen
+  del_ready key (Err (unmade.Refused refusal.DiskFault)) w d = absurd (true≢false (sym w))
+  del_ready key (Err (unmade.Refused _)) w d = absurd d
+  del_ready key (Err (unmade.Cold cold)) w d = still d.1 d.0.given d.0.seen
+  del_ready key (Err unmade.Lost) w d = absurd d

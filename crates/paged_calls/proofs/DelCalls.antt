@@ -1,0 +1,56 @@
+-- A del by its answer: what a script is told, and what is left behind it.
+use Rattle.std.proofs.Common.{◌≡◌, ◌∙◌, ◌⊎◌, inl, inr, ℕ, Bool, true, false, Option, Some, None, Result, Ok, Err, IfErr, IsErrAnd, ap, refl, sym, subst, true≢false}
+use Rattle.map_model.specs.declared.call.Refusal.{Refusal}
+use Rattle.map_model.specs.declared.call.Refusal.TheVariants as refusal
+use Rattle.core_state.specs.Openings.{Opening}
+use Rattle.engine_trait.specs.Calls.{MayCome}
+use Rattle.engine_trait.specs.Refusals.{clock_refusal}
+use Rattle.key_locks.specs.declared.mode.Mode.{Mode}
+use Rattle.lean_disk.specs.Story.{Story}
+use Rattle.row_changes.proofs.StepLemmas.{clock_at_end}
+use Rattle.row_changes.specs.Takes.{NotTaken}
+use Rattle.rows_trait.specs.declared.view.View.{View}
+use Rattle.session_desks.specs.Parts.{AreAsMany, SeatFits}
+use Rattle.session_state.specs.declared.session.Session.{Session}
+use Rattle.paged_desks.specs.declared.machine.PagedMachine.{PagedMachine}
+use Rattle.paged_desks.specs.declared.warming.Unwarmed.{Unwarmed}
+use Rattle.paged_desks.specs.declared.warming.Unwarmed.TheVariants as stopped
+use Rattle.paged_desks.specs.Calls.{EndsWork, works_behind}
+use Rattle.paged_calls.specs.Calls.{IsEarly}
+use Rattle.paged_calls.specs.Changes.{DelsWarm}
+
+-- ## What comes before all else
+
+-- where its row is not to be had, it is not told early
+pub untaken_late : (why : Refusal) (v w : View) (own row : ℕ) (mode : Mode) → NotTaken why v w own row mode → IsEarly why → ⊥
+untaken_late refusal.RowSpent v w own row mode n e = e
+untaken_late (refusal.Conflict h) v w own row mode n e = e
+untaken_late _ v w own row mode n e = absurd n
+
+pub clock_late : (clock : ℕ) (why : Refusal) → clock_refusal clock None ≡ Some why → IsEarly why → ⊥
+clock_late clock why e = subst (λ k. IsEarly k → ⊥) (sym (clock_at_end clock why e).is) (λ early. early)
+
+pub dels_late : {D : Type 0} (story : D → Story) (key : ℕ) (r : Result (Option ℕ) Refusal) (m n : PagedMachine D) → DelsWarm story key r m n → IsErrAnd r IsEarly → ⊥
+dels_late story key (Ok was) m n d e = e
+dels_late story key (Err refusal.RowSpent) m n d e = e
+dels_late story key (Err refusal.ClockSpent) m n d e = e
+dels_late story key (Err refusal.DiskFault) m n d e = e
+dels_late story key (Err (refusal.Damaged area place)) m n d e = e
+dels_late story key (Err _) m n d e = absurd d
+
+-- ## What a script is told
+
+pub clock_comes : (workers clock : ℕ) (why : Refusal) → clock_refusal clock None ≡ Some why → MayCome workers why ⊎ EndsWork why
+clock_comes workers clock why e = subst (λ k. MayCome workers k ⊎ EndsWork k) (sym (clock_at_end clock why e).is) (inl tt)
+
+pub dels_come : {D : Type 0} (story : D → Story) (key workers : ℕ) (r : Result (Option ℕ) Refusal) (m n : PagedMachine D) → DelsWarm story key r m n → IfErr r (λ why. MayCome workers why ⊎ EndsWork why)
+dels_come story key workers (Ok was) m n d = tt
+dels_come story key workers (Err refusal.RowSpent) m n d = inl tt
+dels_come story key workers (Err refusal.ClockSpent) m n d = inl tt
+dels_come story key workers (Err refusal.DiskFault) m n d = inr refl
+dels_come story key workers (Err (refusal.Damaged area place)) m n d = inr refl
+dels_come story key workers (Err _) m n d = absurd d
+
+-- the machine works on behind a clock that has come to its end
+pub clock_works : (A : Type 0) (clock : ℕ) (why : Refusal) → clock_refusal clock None ≡ Some why → works_behind {A = A} (Err why) ≡ true
+clock_works A clock why e = subst (λ k. works_behind {A = A} (Err k) ≡ true) (sym (clock_at_end clock why e).is) refl

@@ -1,0 +1,22 @@
+use Rattle.std.proofs.Common.{◌∙◌, refl, sym}
+use Rattle.session_desks.proofs.SeatLemmas.{holds_of}
+use Rattle.session_desks.specs.Parts.{here, shape}
+use Rattle.paged_desks.specs.declared.machine.PagedMachine.{PagedMachine}
+use Rattle.paged_calls.proofs.ChangeSteps.{del_ready}
+use Rattle.paged_calls.proofs.RoomLemmas.{may_change}
+use Rattle.paged_calls.proofs.deleting.del_in_leaf.Goals as goal
+
+pub del_held-requires-clause-holds : goal.del_held-requires-clause-holds
+del_held-requires-clause-holds g c κs within =
+    let m = c.args.machine.now.machine in
+    holds_of (shape m) m.seat.view (here m) m.desks.items c.requires.ready.sound.desks
+
+pub del_held-requires-clause-may : goal.del_held-requires-clause-may
+del_held-requires-clause-may g c κs within = may_change g.D.Disk.story c.args.key c.args.machine.now c.requires.ready.works c.requires.small c.requires.key c.requires.may
+
+pub returns-clause-ready : goal.returns-clause-ready
+returns-clause-ready g c works =
+    let m = c.args.machine.now in
+    let e = c.del_held.ensures in
+    let n : PagedMachine g.row.D.Denot = record m { machine = record m.machine { rows = c.del_held.new.rows; seat = c.del_held.new.seat; work = c.del_held.new.work } } in
+    del_ready g.D.Disk.story c.laws.ensures.others c.laws.ensures.standing m n c.requires.ready (record { shape = e.fits.1; desks = refl; latches = refl; master = refl; pager = refl }) e.fits.0 e.session e.holds (e.works ∙ works) c.args.key c.del_held.result works e.dels
