@@ -20,3 +20,8 @@ pub mod LikeLemmas
 pub mod WayLemmas
 pub mod MadeLemmas
 pub mod FullLemmas
+pub mod GrowthStands
+pub mod GrowthRuns
+pub mod PutWarms
+pub mod PutLemmas
+pub mod PutCalls

@@ -3,4 +3,5 @@ pub mod Calls
 pub mod Steps
 pub mod Changes
 pub mod Growths
+pub mod Rounds
 pub mod Tests

@@ -1,0 +1,594 @@
+-- A put behind the taking of its row, in one run to which its machine is tied: pages came and room was made, and then it ended so.
+use Rattle.std.proofs.Common.{◌≡◌, ◌∙◌, ◌⊎◌, inl, inr, ◌≤◌, ◌<◌, ◌+◌, ◌^◌, ◌%◌, ◌==◌, ◌&&◌, ◌||◌, ◌++◌, not, ltb, ℕ, suc, Bool, true, false, cond, leb, List, [], ◌∷◌, length, Option, Some, None, ap, refl, sym, subst, arith, append-nil, append_assoc, true≢false}
+use Rattle.std.proofs.lemmas.Bool.{and_from, and_parts, eq-eqb, eqb-true, le-leb, lt-leb, ltb-true}
+use Rattle.std.proofs.lemmas.List.{length-append}
+use Rattle.map_model.proofs.ListLemmas.{upd_same}
+use Rattle.map_model.specs.Lists.{all, any, keep}
+use Rattle.map_model.specs.declared.call.Answer.TheVariants as answer
+use Rattle.map_model.specs.declared.call.Call.{Call}
+use Rattle.map_model.specs.declared.call.Call.TheVariants as call
+use Rattle.map_model.specs.declared.call.Refusal.{Refusal}
+use Rattle.map_model.specs.declared.call.Refusal.TheVariants as refusal
+use Rattle.btree_descent.specs.Puts.{change_of}
+use Rattle.core_calls.specs.Deeds.{Changed, marks_by}
+use Rattle.core_calls.specs.Fronts.{Done, front, outcomes}
+use Rattle.core_calls.specs.LogEvents.{IsPressedYet, IsTight, RefusedLogs, SyncsWhere}
+use Rattle.core_calls.specs.Marks.{is_half}
+use Rattle.core_calls.specs.Refusals.{IsCause, IsFull}
+use Rattle.core_calls.specs.Room.{free_list, is_all_full, room_takes}
+use Rattle.core_calls.specs.Runs.{EachTells, Tells}
+use Rattle.core_calls.specs.Scans.{StopsOnWay}
+use Rattle.core_calls.specs.Steps.{TakesRow, Tries, is_behind_row, is_step, is_structure}
+use Rattle.core_paging.specs.Paging.{EveryResidence}
+use Rattle.core_state.proofs.Runs.{run_more}
+use Rattle.core_state.specs.Events as happening
+use Rattle.core_state.specs.Local.{is_sync}
+use Rattle.core_state.specs.Needs.{are_hot, is_free, is_held_by, may, may_put, needs, value_in}
+use Rattle.core_state.specs.Openings.{Opening}
+use Rattle.core_state.specs.States.{State, Worker, nodes_of}
+use Rattle.core_state.specs.States.{start as core_start}
+use Rattle.core_state.specs.Steps as core
+use Rattle.core_state.specs.Steps.{AllMet, at_pages, at_row, happens, state_after}
+use Rattle.disk_image.specs.Records.{entry_of}
+use Rattle.disk_runs.specs.Stands.{Stands}
+use Rattle.engine_calls.proofs.EntryLemmas.{every_entry}
+use Rattle.engine_calls.proofs.MarkLemmas.{any_append, keep_none}
+use Rattle.engine_calls.specs.Answers.{EveryAnswer}
+use Rattle.engine_calls.specs.Clauses.{EveryComing, IsNewLine}
+use Rattle.engine_calls.specs.Entries.{change_record}
+use Rattle.engine_calls.specs.Parts.{behind_first}
+use Rattle.engine_calls.specs.Puts.{IsWrite, changed_by, taking}
+use Rattle.engine_calls.specs.Refused.{IsRefusal, TakesRows, refused_by}
+use Rattle.engine_trait.specs.Calls.{call_behind, is_half_done}
+use Rattle.engine_trait.specs.Limits.{limits}
+use Rattle.engine_trait.specs.Refusals.{IsRefusedFor, change_refusal, in_transaction, is_full_for, lock_refusal, met_refusal, refusal_in, room_refusal}
+use Rattle.engine_trait.specs.Rooms.{MakesItsRoom, MakesRoom, needs_sync}
+use Rattle.image_model.specs.Entries.{Contents, word_in}
+use Rattle.key_locks.specs.declared.mode.Mode.TheVariants.{Alone}
+use Rattle.key_locks.specs.Rows.{event_mode}
+use Rattle.lean_disk.specs.Story.{IsLawful, Story}
+use Rattle.log_record.specs.declared.record.Body.TheVariants as body
+use Rattle.log_record.specs.declared.record.Record.{Record}
+use Rattle.page_model.specs.Nodes.{Format, Node, holds}
+use Rattle.page_model.specs.Pairs.{find}
+use Rattle.page_model.specs.Redo.{has_key, is_some}
+use Rattle.row_words.specs.declared.event.Event.{Event}
+use Rattle.row_words.specs.declared.event.Event.TheVariants as told
+use Rattle.row_words.specs.Moments.{event_of, events_of}
+use Rattle.row_words.specs.Openings.{opening}
+use Rattle.rows_trait.specs.declared.view.View.{View}
+use Rattle.rows_trait.specs.Views.{Shape, state}
+use Rattle.session_desks.proofs.DeskLemmas.{desk_own}
+use Rattle.session_desks.proofs.SeatLemmas.{holds_of}
+use Rattle.session_desks.specs.Desks.{desk_of}
+use Rattle.session_desks.specs.Parts.{AreAsMany, HasLogs, here, shape}
+use Rattle.session_desks.specs.declared.desk.Desk.{Desk}
+use Rattle.session_state.proofs.Moments.{events_more}
+use Rattle.session_state.specs.Holds.{Holds, IsOf, IsSameSession}
+use Rattle.session_state.specs.Staging.{KeepsLog}
+use Rattle.session_state.specs.Ties.{Behind}
+use Rattle.session_state.specs.declared.session.Session.{Session}
+use Rattle.worker_log.specs.Logs.{Log, limit, used}
+use Rattle.call_parts.proofs.MemoryLemmas.{every_memory}
+use Rattle.call_parts.proofs.OwnLemmas.{every_own}
+use Rattle.call_parts.proofs.RunLemmas.{behind_more, core_is}
+use Rattle.call_parts.proofs.SightLemmas.{every_enter}
+use Rattle.call_parts.specs.Areas.{is_save}
+use Rattle.call_parts.specs.Deeds.{Answers, Fails, IsSure, is_fetch}
+use Rattle.call_parts.specs.Memory.{IsSame, Memory, with_own}
+use Rattle.call_parts.specs.Parts.{Failed, Part}
+use Rattle.call_parts.specs.Rooms.{AreRoom, IsRoomFor, looks, may_save, takes_row, gives_room, is_paging as pages_come}
+use Rattle.call_parts.specs.Steps.{Stages}
+use Rattle.row_changes.specs.Paths.{IsUnfit}
+use Rattle.row_changes.specs.Puts.{IsChanged}
+use Rattle.paged_desks.specs.Calls.{AreHalf, DoesTied, IsAside, StandsNot, Tied}
+use Rattle.paged_desks.specs.Machines.{IsReady, memory, view_of}
+use Rattle.paged_desks.specs.Parts.{HasFailed, IsSpent, StandsNowhere, most_a_way}
+use Rattle.paged_desks.specs.declared.machine.PagedMachine.{PagedMachine}
+use Rattle.paged_desks.proofs.AsideLemmas.{halves_aside, memory_aside}
+use Rattle.paged_desks.proofs.EndingLemmas.{Grounds, IsAnswerTo, IsOr, does_tied, end_laws, fails_by, half_own, refused_tied}
+use Rattle.paged_calls.specs.Growths.{AreLike, AreMaking, HasMade, HasWay, IsGoing, IsRoom}
+use Rattle.paged_calls.specs.Steps.{HasTaken}
+use Rattle.paged_calls.specs.Tests.{change_test, is_going}
+use Rattle.paged_calls.proofs.ChangeRuns as runs
+use Rattle.paged_calls.proofs.ChangeTests.{IsFree, free_of, gate, gate_of, refusal_is, room_in, tests_in}
+use Rattle.paged_calls.proofs.Conflicts.{lock_free}
+use Rattle.paged_calls.proofs.EventLemmas.{length_events, locked_room, room_of, structure_of}
+use Rattle.paged_calls.proofs.FullLemmas.{IsTaken, all_more, all_three, fetch_first, making_room, making_steps, not_full, room_kind, short_is, tall_is, taken_alone, taken_passes, taken_stays}
+use Rattle.paged_calls.proofs.GoingLemmas.{goes}
+use Rattle.paged_desks.proofs.HalfLates.{half_late}
+use Rattle.paged_calls.proofs.KeyLemmas as keys
+use Rattle.paged_calls.proofs.LikeLemmas.{like_same, like_then, run_like, run_same}
+use Rattle.paged_calls.proofs.MadeLemmas.{core_paging, makes_join, makes_none, resides}
+use Rattle.paged_calls.proofs.PieceLemmas.{joins_at}
+use Rattle.paged_calls.proofs.TakingLemmas.{key_free, key_row, late_end, none_is, some_is}
+use Rattle.paged_calls.proofs.WayLemmas.{full_as, full_on, has_below, refusal_as, room_like, way_back}
+
+-- the record of a change in a page of this format
+abbrev record_in : Format → (ℕ → Contents) → (txn clock page key word : ℕ) → Record
+record_in f pages txn clock page key word = record { txn = txn; gsn = suc clock; body = body.Change (record { page = page; prev = (pages page).gsn }) key (word_in f (pages page).node key) word }
+
+module _ (l : Grounds) (residence : EveryResidence) (answers : EveryAnswer) (coming : EveryComing) {D : Type 0} (story : D → Story) (lawful : (d : D) → IsLawful (story d)) (m : PagedMachine D) (ready : IsReady story m) (key value : ℕ) (g : Opening) (xs : List Done) (workers : g.workers ≡ m.machine.work.session.workers)
+    (tied : Tied g m.machine.work.session.group xs (view_of m) (memory m)) (halves : AreHalf g.workers xs m.machine) (line : IsNewLine (outcomes xs)) where
+  abbrev x : Session
+  x = m.machine.work.session
+
+  abbrev own : ℕ
+  own = x.own
+
+  abbrev v : View
+  v = view_of m
+
+  abbrev z : Shape
+  z = shape m.machine
+
+  abbrev c : Call
+  c = call.Put key value
+
+  abbrev at : State
+  at = state_after g (front xs)
+
+  abbrev log : Log
+  log = (memory m).log own
+
+  abbrev is_half_aborted : Bool
+  is_half_aborted = is_half_done own xs
+
+  abbrev most : Refusal
+  most = refusal.LogFull (used log) (limit log)
+
+  holds_m : Holds z v x m.machine.work.log
+  holds_m = keys.holds l answers coming story lawful m ready key Alone c refl g xs workers tied halves line
+
+  low : 0 < own
+  low = keys.low l answers coming story lawful m ready key Alone c refl g xs workers tied halves line
+
+  high : own ≤ x.workers
+  high = keys.high l answers coming story lawful m ready key Alone c refl g xs workers tied halves line
+
+  b0 : Behind g xs [] v
+  b0 = keys.b0 l answers coming story lawful m ready key Alone c refl g xs workers tied halves line
+
+  half_is : is_half_aborted ≡ x.is_half_aborted
+  half_is = keys.half_is l answers coming story lawful m ready key Alone c refl g xs workers tied halves line
+
+  asks : call_behind (outcomes xs) c ≡ c
+  asks = keys.asks l answers coming story lawful m ready key Alone c refl g xs workers tied halves line
+
+  of_0 : IsOf x (at.worker own)
+  of_0 = subst (λ (s : State). IsOf x (s.worker own)) (keys.core_at l answers coming story lawful m ready key Alone c refl g xs workers tied halves line) holds_m.session
+
+  -- what its tests come to behind the taking of its row
+  abbrev last_in : State → Option Refusal
+  last_in s = lock_refusal g s own key happening.Mode.Alone (met_refusal g s own key (room_in g s c))
+
+  module _ (none : change_test x log ≡ None) (u : PagedMachine D) (t : HasTaken key Alone m u) (taken : IsReady story u) (small : u.machine.work.session.clock.clock < 2 ^ 62) where
+    abbrev row : ℕ
+    row = key % x.held.count
+
+    abbrev lock_at : ℕ → happening.Event
+    lock_at i = happening.Event.Lock own i happening.Mode.Alone
+
+    abbrev lock : happening.Event
+    lock = lock_at row
+
+    free : IsFree x log
+    free = free_of x log ready.works none
+
+    row_is : g.row_of key ≡ row
+    row_is = keys.row_is l answers coming story lawful m ready key Alone c refl g xs workers tied halves line u t
+
+    own_is : u.machine.work.session.own ≡ own
+    own_is = keys.own_is l answers coming story lawful m ready key Alone c refl g xs workers tied halves line u t
+
+    workers_is : u.machine.work.session.workers ≡ x.workers
+    workers_is = ap (λ (y : Session). y.workers) t.takes.session
+
+    group_is : u.machine.work.session.group ≡ x.group
+    group_is = ap (λ (y : Session). y.group) t.takes.session
+
+    locked : Part x.workers (told.Lock own row (event_mode Alone) ∷ []) v (view_of u) (memory m) (memory u) (story m.machine.work.disk) (story u.machine.work.disk)
+    locked = keys.locked l answers coming story lawful m ready key Alone c refl g xs workers tied halves line u t
+
+    b1 : Behind g xs (lock ∷ []) (view_of u)
+    b1 = keys.b1 l answers coming story lawful m ready key Alone c refl g xs workers tied halves line u t
+
+    taken_half : (w : ℕ) → (desk_of (here u.machine) u.machine.desks.items w).session.is_half_aborted ≡ (desk_of (here m.machine) m.machine.desks.items w).session.is_half_aborted
+    taken_half = keys.taken_half l answers coming story lawful m ready key Alone c refl g xs workers tied halves line u t
+
+    -- the tests leave room alone to ask for
+    room_asked : refusal_in g at own is_half_aborted log c ≡ room_in g at c
+    room_asked = runs.last_is l answers coming story lawful m ready key c refl g xs workers tied halves line none u t taken
+        ∙ ap (λ b. cond b (Some refusal.ClockSpent) (room_in g at c)) (lt-leb (2 ^ 62) u.machine.work.session.clock.clock small)
+
+    -- the state behind the lock
+    abbrev held : State
+    held = behind_first g xs (lock ∷ [])
+
+    lock_page : (b : Bool) (p : ℕ) → (cond b (happens g at lock) at).page p ≡ at.page p
+    lock_page true p = refl
+    lock_page false p = refl
+
+    page_at : (p : ℕ) → held.page p ≡ at.page p
+    page_at p = lock_page (may g at lock) p
+
+    met_lock : may g at lock ≡ true
+    met_lock = (locked.logged g xs [] b0).met.0
+
+    -- it is held there
+    taken_at : IsTaken own row held
+    taken_at = subst (IsTaken own row) (λ i. cond (sym met_lock i) (happens g at lock) at) (taken_alone g at own row)
+
+    -- where there was a way to room, no test refuses it
+    way_passes : HasWay g held key → (q : Refusal) → refusal_in g at own is_half_aborted log c ≡ Some q → ⊥
+    way_passes way q e = none_is q (sym (go (is_full_for g at key) refl) ∙ (sym room_asked ∙ e))
+      where
+        go : (b : Bool) → is_full_for g at key ≡ b → cond b (room_refusal g at key) None ≡ None
+        go true full = way_back g at held key (like_same at held page_at) way at (like_same at at (λ p. refl)) full
+        go false full = refl
+
+    -- ## Pages came, and room was made
+
+    module _ (amount : ℕ) (n : PagedMachine D) (d : HasMade story key amount u n) (few : length d.events ≤ 2 ^ 17 + 2 ^ 15) where
+      abbrev moves : List happening.Event
+      moves = events_of d.events
+
+      abbrev first : List happening.Event
+      first = taking g own key happening.Mode.Alone [] moves
+
+      making : AreMaking own d.events
+      making = subst (λ w. AreMaking w d.events) own_is d.making
+
+      came : Part x.workers d.events (view_of u) (view_of n) (memory u) (memory n) (story u.machine.work.disk) (story n.machine.work.disk)
+      came = subst (λ k. Part k d.events (view_of u) (view_of n) (memory u) (memory n) (story u.machine.work.disk) (story n.machine.work.disk)) workers_is d.part
+
+      met : AllMet g held moves
+      met = (came.logged g xs (lock ∷ []) b1).met
+
+      b2 : Behind g xs (lock ∷ moves) (view_of n)
+      b2 = behind_more g xs (lock ∷ []) (view_of u) b1 d.events (view_of n) came.given came.seen met
+
+      so_far : Part x.workers (told.Lock own row (event_mode Alone) ∷ d.events) v (view_of n) (memory m) (memory n) (story m.machine.work.disk) (story n.machine.work.disk)
+      so_far = (joins_at l story lawful m.machine.work.disk u.machine.work.disk n.machine.work.disk x.workers (told.Lock own row (event_mode Alone) ∷ []) v (view_of u) (view_of n) (memory m) (memory u) (memory n)).join d.events locked came
+
+      tight : SyncsWhere (λ s. IsTight g s key) g at false (lock ∷ moves)
+      tight = d.tight g xs (lock ∷ []) b1
+
+      room : IsRoom own key g held moves
+      room = subst (λ w. IsRoom w key g held moves) own_is (d.room g xs (lock ∷ []) b1)
+
+      no_step : any is_step moves ≡ false
+      no_step = making_steps own d.events making
+
+      kept : keep is_step (lock ∷ moves) ≡ lock ∷ []
+      kept = ap (λ ys. lock ∷ ys) (keep_none is_step moves no_step)
+
+      makes : MakesRoom own g at key (lock ∷ moves)
+      makes = (tt, room.makes)
+
+      few_all : length (lock ∷ moves) ≤ 2 ^ 18
+      few_all = let a = few in let b = length_events d.events in omega arith
+
+      as_many : AreAsMany m.machine n.machine
+      as_many = (d.same.0 ∙ workers_is, d.same.1 ∙ group_is)
+
+      own_here : n.machine.work.session.own ≡ own
+      own_here = d.turn ∙ own_is
+
+      workers_here : n.machine.work.session.workers ≡ x.workers
+      workers_here = d.same.0 ∙ workers_is
+
+      half_all : (w : ℕ) → 0 < w → w ≤ x.workers → (desk_of (here n.machine) n.machine.desks.items w).session.is_half_aborted ≡ (desk_of (here m.machine) m.machine.desks.items w).session.is_half_aborted
+      half_all w lo hi = d.halves w lo (let e = workers_is in omega arith) ∙ taken_half w
+
+      -- the tree is as it was, where a test refuses the put
+      still : (q : Refusal) → refusal_in g at own is_half_aborted log c ≡ Some q → any is_structure (lock ∷ moves) ≡ false
+      still q e = elim room.way [ inl same ↦ same | inr way ↦ absurd (way_passes way q e) ]
+
+      abbrev there : State
+      there = behind_first g xs (lock ∷ moves)
+
+      core_there : (state (view_of n)).core ≡ there
+      core_there = core_is l.reached l.needs g xs (lock ∷ moves) (view_of n) b2
+
+      end_is : there ≡ state_after g (front xs ++ (lock ∷ moves))
+      end_is = sym (run_more g (core_start g) (front xs) (lock ∷ moves))
+
+      format_is : (opening (view_of n).given).format ≡ g.format
+      format_is = sym b2.opens.format
+
+      taken_there : IsTaken own row there
+      taken_there = taken_stays g own row held d.events making taken_at
+
+      log_here : (memory n).log own ≡ n.machine.work.log
+      log_here = ap (λ (y : Desk). y.log) (desk_own (here n.machine) n.machine.desks.items own (sym own_here))
+
+      workers_in : (opening (view_of n).given).workers ≡ x.workers
+      workers_in = sym b2.opens.workers ∙ workers
+
+      -- ## It is refused
+
+      module _ (now : IsReady story n) where
+        abbrev y : Session
+        y = n.machine.work.session
+
+        of_y : IsOf y (there.worker own)
+        of_y = subst (λ (q : State × ℕ). IsOf y (q.0.worker q.1)) (λ i. (core_there i, own_here i)) (holds_of (shape n.machine) (view_of n) (here n.machine) n.machine.desks.items now.sound.desks).session
+
+        -- for this reason
+        refused : (why : Refusal) → is_behind_row why ≡ true → TakesRow why own (g.row_of key) happening.Mode.Alone (lock_at (g.row_of key) ∷ []) → IsCause limits g (front xs ++ (lock ∷ moves)) there (is_half (marks_by own (outcomes xs))) own c why
+            → IsRefusedFor g there own is_half_aborted log c why → ((q : Refusal) → refusal_in g at own is_half_aborted log c ≡ Some q → IsOr why q) → RefusedLogs limits g xs own c why (lock ∷ moves)
+            → DoesTied g x.group xs own c (answer.Refused why) (memory m) n (story m.machine.work.disk) (story n.machine.work.disk)
+        refused why late tries cause is_for due logs =
+            refused_tied l m n (story m.machine.work.disk) (story n.machine.work.disk) (lawful m.machine.work.disk) g xs workers tied halves (told.Lock own row (event_mode Alone) ∷ d.events) so_far now.logged as_many answers own c why refl low high
+            (record {
+              comes = (coming xs (refused_by own c why (lock ∷ moves)).outcome).new line tt;
+              met = (so_far.logged g xs [] b0).met;
+              rows = subst (TakesRows own) (sym kept) (refl, tt);
+              tries = subst (λ e. Tries g own (outcomes xs) e why (keep is_step (lock ∷ moves))) (sym asks) (subst (TakesRow why own (g.row_of key) happening.Mode.Alone) (sym kept) (subst (λ i. TakesRow why own (g.row_of key) happening.Mode.Alone (lock_at i ∷ [])) row_is tries));
+              scans = subst (λ e. StopsOnWay g own (outcomes xs) at e why (lock ∷ moves)) (sym asks) tt;
+              structure = λ e. absurd (true≢false (sym late ∙ e));
+              cause = cause;
+              due = logs;
+            })
+            (record {
+              few = few_all;
+              is_for = subst (λ e. IsRefusedFor g (state_after g (front xs ++ (lock ∷ moves))) own is_half_aborted log e why) (sym asks) (subst (λ s. IsRefusedFor g s own is_half_aborted log c why) end_is is_for);
+              refuses = λ q e. due q (ap (refusal_in g at own is_half_aborted log) (sym asks) ∙ e);
+              still = λ q e. still q (ap (refusal_in g at own is_half_aborted log) (sym asks) ∙ e);
+              room = subst (λ e. MakesItsRoom own g at e (lock ∷ moves)) (sym asks) makes;
+            })
+            half_all
+
+        -- with syncs where a page finds no frame
+        pressed : (why : Refusal) → SyncsWhere (IsPressedYet g c why) g at false (lock ∷ moves) → SyncsWhere (IsPressedYet g (call_behind (outcomes xs) c) why) g at false (lock ∷ moves)
+        pressed why = subst (λ e. SyncsWhere (IsPressedYet g e why) g at false (lock ∷ moves)) (sym asks)
+
+        -- a latch is spent
+        late : EachTells limits g x.group xs → IsSpent u n → 2 ^ 61 ≤ length (front xs ++ (lock ∷ moves))
+        late each (inl old) = late_end l.reached l.needs g xs (lock ∷ moves) (view_of n) b2 old
+        late each (inr h) =
+            let a = half_late g x.group xs each h.session (halves h.session h.low (let e = workers in let k = h.high in let o = workers_is in omega arith) ∙ (sym (taken_half h.session) ∙ h.half)) in
+            let b = length-append (front xs) (lock ∷ moves) in
+            omega arith
+
+        pub put_spent : IsSpent u n → DoesTied g x.group xs own c (answer.Refused refusal.RowSpent) (memory m) n (story m.machine.work.disk) (story n.machine.work.disk)
+        put_spent s = refused refusal.RowSpent refl (inr refl) (late (tied.ties own).told s) (inr refl) (λ q e. inr (inl refl)) (pressed refusal.RowSpent tight)
+
+        -- what else is tested there
+        module _ (f : IsGoing n) where
+          tests_there : refusal_in g there own is_half_aborted log c ≡ cond (leb (2 ^ 62) y.clock.clock) (Some refusal.ClockSpent) (last_in there)
+          tests_there = refusal_is c key refl g there own is_half_aborted log
+              ∙ (ap (λ k. in_transaction there k is_half_aborted (change_refusal there k log (last_in there))) (sym own_here)
+              ∙ (tests_in there y log (subst (λ k. IsOf y (there.worker k)) (sym own_here) of_y) is_half_aborted (half_is ∙ (free.whole ∙ sym f.whole)) (last_in there)
+              ∙ (λ i. gate (goes y f.is_open f.whole i) (lt-leb 64 (length y.undo) f.few i) (lt-leb (limit log) (used log) free.room i) (leb (2 ^ 62) y.clock.clock) most (last_in there))))
+
+          -- the clock has come to its end
+          pub put_stopped : 2 ^ 62 ≤ y.clock.clock → DoesTied g x.group xs own c (answer.Refused refusal.ClockSpent) (memory m) n (story m.machine.work.disk) (story n.machine.work.disk)
+          put_stopped spent = refused refusal.ClockSpent refl (inr refl) (let a = of_y.clock in let b = spent in omega arith) (inl (tests_there ∙ ap (λ b. cond b (Some refusal.ClockSpent) (last_in there)) (le-leb (2 ^ 62) y.clock.clock spent)))
+              (λ q e. inr (inr refl)) (pressed refusal.ClockSpent tight)
+
+          -- the leaf is full, and there can be no room
+          module _ (leaf : ℕ) (k : IsUnfit (view_of n) key leaf) (there_small : y.clock.clock < 2 ^ 62) where
+            without : has_key key ((state (view_of n)).core.page leaf).node ≡ false
+            without = ap is_some k.none
+
+            is_full : IsFull g there key
+            is_full = subst (λ s. IsFull g s key) core_there (record { page = leaf; within = subst (λ f. leaf < f.pages) format_is k.below; leaf = k.holds; without = without; full = k.full ∙ ap (λ f. f.room) format_is })
+
+            full_is : is_full_for g there key ≡ true
+            full_is = has_below g.format.pages is_full.page (λ p. holds (there.page p).node key && ((length (there.page p).node.pairs == g.format.room) && not (has_key key (there.page p).node))) is_full.within
+                (all_three (holds (there.page is_full.page).node key) (length (there.page is_full.page).node.pairs == g.format.room) (has_key key (there.page is_full.page).node) is_full.leaf (eq-eqb (length (there.page is_full.page).node.pairs) g.format.room is_full.full) is_full.without)
+
+            room_is : (why : Refusal) → room_refusal (opening (view_of n).given) (state (view_of n)).core key ≡ Some why → room_refusal g there key ≡ Some why
+            room_is why e = ap (λ s. room_refusal g s key) (sym core_there) ∙ (sym (refusal_as (opening (view_of n).given) g format_is (state (view_of n)).core key) ∙ e)
+
+            taken_key : IsTaken own (g.row_of key) there
+            taken_key = subst (λ i. IsTaken own i there) (sym row_is) taken_there
+
+            crowded_for : (why : Refusal) → room_refusal (opening (view_of n).given) (state (view_of n)).core key ≡ Some why → refusal_in g there own is_half_aborted log c ≡ Some why
+            crowded_for why e = tests_there ∙ (ap (λ b. cond b (Some refusal.ClockSpent) (last_in there)) (lt-leb (2 ^ 62) y.clock.clock there_small)
+                ∙ (taken_passes g there own key (room_in g there c) taken_key (let a = of_y.clock in let b = there_small in omega arith)
+                ∙ (ap (λ b. cond b (room_refusal g there key) None) full_is ∙ room_is why e)))
+
+            -- a test that refused it at first found the same
+            same_due : (why : Refusal) → room_refusal (opening (view_of n).given) (state (view_of n)).core key ≡ Some why → (q : Refusal) → refusal_in g at own is_half_aborted log c ≡ Some q → IsOr why q
+            same_due why e q r = inl (go (is_full_for g at key) refl (sym room_asked ∙ r))
+              where
+                like : any is_structure moves ≡ false → AreLike at there
+                like same = like_then at held there (like_same at held page_at) (run_like g d.events held (resides residence g xs (lock ∷ [])) (core_paging own d.events making same))
+
+                go : (b : Bool) → is_full_for g at key ≡ b → cond b (room_refusal g at key) None ≡ Some q → why ≡ q
+                go true full p = some_is why q (sym (room_is why e) ∙ (room_like g at there key (like (still q r)) full full_is ∙ p))
+                go false full p = absurd (none_is q p)
+
+            pub put_tall : room_refusal (opening (view_of n).given) (state (view_of n)).core key ≡ Some refusal.TooTall → DoesTied g x.group xs own c (answer.Refused refusal.TooTall) (memory m) n (story m.machine.work.disk) (story n.machine.work.disk)
+            put_tall e =
+                let r = tall_is g there key (room_is refusal.TooTall e) in
+                refused refusal.TooTall refl refl (record { leaf = is_full; all = r.0; level = r.1 }) (inl (crowded_for refusal.TooTall e)) (same_due refusal.TooTall e) (pressed refusal.TooTall tight)
+
+            pub put_short : room_refusal (opening (view_of n).given) (state (view_of n)).core key ≡ Some refusal.NoPages → DoesTied g x.group xs own c (answer.Refused refusal.NoPages) (memory m) n (story m.machine.work.disk) (story n.machine.work.disk)
+            put_short e =
+                refused refusal.NoPages refl refl (record { leaf = is_full; few = short_is g there key (room_is refusal.NoPages e) }) (inl (crowded_for refusal.NoPages e)) (same_due refusal.NoPages e) (pressed refusal.NoPages tight)
+
+      -- ## Its disk fails
+
+      -- these events made room for it, as far as they came
+      room_for : (es : List happening.Event) → all (λ e. takes_row own (g.row_of key) happening.Mode.Alone e || (gives_room own e || pages_come e)) es ≡ true → MakesRoom own g at key es → length es ≤ 2 ^ 18 → IsRoomFor g xs own c es
+      room_for es all_room made least = ((all_room, made), least)
+
+      made_room : AreRoom own (g.row_of key) happening.Mode.Alone (lock ∷ moves)
+      made_room = subst (λ i. AreRoom own i happening.Mode.Alone (lock ∷ moves)) (sym row_is) (locked_room own row happening.Mode.Alone moves (making_room own row d.events making))
+
+      -- the log's
+      module _ (k : PagedMachine D) (keeps : KeepsLog own n.machine.work.log (story n.machine.work.disk) (story k.machine.work.disk)) where
+        abbrev saves : Bool
+        saves = any is_save (lock ∷ moves) || false
+
+        abbrev syncs : Bool
+        syncs = any is_sync (lock ∷ moves) || false
+
+        failed : Failed x.workers saves syncs ((lock ∷ moves) ++ []) v (memory m) (story m.machine.work.disk) (story k.machine.work.disk)
+        failed = (joins_at l story lawful m.machine.work.disk n.machine.work.disk k.machine.work.disk x.workers (told.Lock own row (event_mode Alone) ∷ d.events) v (view_of n) v (memory m) (memory n) (memory n)).failed false false [] so_far
+            ((every_own l.reached l.needs (story n.machine.work.disk) (story k.machine.work.disk) x.workers own (view_of n) (view_of n) (memory n) n.machine.work.log low high workers_in).fails
+            (subst (λ (q : Log). KeepsLog own q (story n.machine.work.disk) (story k.machine.work.disk)) (sym log_here) keeps))
+
+        may_save_too : may_save xs c ≡ true
+        may_save_too = ap looks asks
+
+        pub put_fails_staging : Fails g x.group xs own c (memory m) (story m.machine.work.disk) (story k.machine.work.disk)
+        put_fails_staging = (end_laws g x.group xs v (memory m) tied x.workers own c (story m.machine.work.disk) (story k.machine.work.disk) workers).fails saves syncs (lock ∷ moves)
+            (subst (λ ys. Failed x.workers saves syncs ys v (memory m) (story m.machine.work.disk) (story k.machine.work.disk)) (append-nil (lock ∷ moves)) failed) (λ _. may_save_too) (λ _. ap (λ b. b || needs_sync g xs own c) may_save_too)
+            (subst (λ (e : Call). IsRoomFor g xs own e (lock ∷ moves)) (sym asks) (room_for (lock ∷ moves) made_room makes few_all))
+
+      -- or that of the pages
+      module _ (k : PagedMachine D) (f : HasFailed story n k) (total : length d.events + length f.events ≤ 2 ^ 17 + 2 ^ 15) where
+        abbrev all_moves : List happening.Event
+        all_moves = (lock ∷ moves) ++ f.events
+
+        failing : Failed x.workers true true f.events (view_of n) (memory n) (story n.machine.work.disk) (story k.machine.work.disk)
+        failing = subst (λ w. Failed w true true f.events (view_of n) (memory n) (story n.machine.work.disk) (story k.machine.work.disk)) workers_here f.failed
+
+        or_true : (a : Bool) → (a || true) ≡ true
+        or_true true = refl
+        or_true false = refl
+
+        failed_all : Failed x.workers true true all_moves v (memory m) (story m.machine.work.disk) (story k.machine.work.disk)
+        failed_all = subst (λ (q : Bool × Bool). Failed x.workers q.0 q.1 all_moves v (memory m) (story m.machine.work.disk) (story k.machine.work.disk)) (λ i. (or_true (any is_save (lock ∷ moves)) i, or_true (any is_sync (lock ∷ moves)) i))
+            ((joins_at l story lawful m.machine.work.disk n.machine.work.disk k.machine.work.disk x.workers (told.Lock own row (event_mode Alone) ∷ d.events) v (view_of n) v (memory m) (memory n) (memory n)).failed true true f.events so_far failing)
+
+        rest_none : any is_structure f.events ≡ false
+        rest_none = structure_of f.events f.paging
+
+        pub put_fault : Fails g x.group xs own c (memory m) (story m.machine.work.disk) (story k.machine.work.disk)
+        put_fault = fails_by g x.group xs x.workers workers own c v (memory m) tied line refl (story m.machine.work.disk) (story k.machine.work.disk) all_moves failed_all
+            (room_for all_moves
+            (all_more (λ e. takes_row own (g.row_of key) happening.Mode.Alone e || (gives_room own e || pages_come e)) (lock ∷ moves) f.events made_room (room_of own (g.row_of key) happening.Mode.Alone f.events f.paging))
+            (makes_join own g key at (lock ∷ moves) f.events makes (makes_none own g key (core.run g at (lock ∷ moves)) f.events rest_none))
+            (let a = total in let b = length-append (lock ∷ moves) f.events in let e = length_events d.events in omega arith))
+
+      -- the disk stands for no run, where a page of it is damaged
+      pub put_never : StandsNowhere story n → StandsNot g x.group xs (memory m) (story m.machine.work.disk)
+      put_never nowhere s0 k b o =
+          let r = so_far.goes g xs [] b0 s0 k (subst (λ ys. Stands g ys s0 k (story m.machine.work.disk)) (sym (append-nil (front xs))) b.stands) o in
+          nowhere g xs (lock ∷ moves) b2 s0 r.known r.moved.stands r.has
+
+      -- ## It is done
+
+      module _ (now : IsReady story n) (k : PagedMachine D) (aside : IsAside n k) (same : IsSameSession n.machine.work.session k.machine.work.session) (half_same : k.machine.work.session.is_half_aborted ≡ n.machine.work.session.is_half_aborted) (fits : value < 2 ^ 63) (before : Option ℕ)
+          (a : IsChanged own (view_of n) (view_of k) key value before n.machine.work.log k.machine.work.log (story n.machine.work.disk) (story k.machine.work.disk)) where
+        abbrev seen_change : Event
+        seen_change = told.Change own a.page key value
+
+        abbrev change : happening.Event
+        change = happening.Event.Change own a.page key value
+
+        staged : Part x.workers (seen_change ∷ []) (view_of n) (view_of k) (memory n) (memory k) (story n.machine.work.disk) (story k.machine.work.disk)
+        staged = (every_memory (story n.machine.work.disk) (story k.machine.work.disk) x.workers (view_of n) (view_of k) (memory n) (with_own own k.machine.work.log (memory n)) (memory n) (memory k) workers_in (record { log = λ w lo hi. refl; master = refl; slots = refl })
+            (subst (λ (q : ℕ × ℕ). IsSame q.0 (with_own q.1 k.machine.work.log (memory n)) (memory k)) (λ i. (workers_here i, own_here i)) (memory_aside story n k aside same now))).part (seen_change ∷ [])
+            ((every_own l.reached l.needs (story n.machine.work.disk) (story k.machine.work.disk) x.workers own (view_of n) (view_of k) (memory n) k.machine.work.log low high workers_in).stage seen_change
+            (subst (λ (q : Log). Stages own seen_change (view_of n) (view_of k) q k.machine.work.log (story n.machine.work.disk) (story k.machine.work.disk)) (sym log_here) (record {
+              sees = record { given = a.given; seen = a.seen; met = (a.met, tt) };
+              entry = a.entry;
+              enters = (every_enter every_entry own (view_of n)).change a.page key value a.entry a.entry_is;
+              after = a.after;
+              stands = a.stands;
+              keeps = a.keeps;
+            })))
+
+        change_whole : Part x.workers (told.Lock own row (event_mode Alone) ∷ (d.events ++ seen_change ∷ [])) v (view_of k) (memory m) (memory k) (story m.machine.work.disk) (story k.machine.work.disk)
+        change_whole = (joins_at l story lawful m.machine.work.disk n.machine.work.disk k.machine.work.disk x.workers (told.Lock own row (event_mode Alone) ∷ d.events) v (view_of n) (view_of k) (memory m) (memory n) (memory k)).join (seen_change ∷ []) so_far staged
+
+        change_events : events_of (told.Lock own row (event_mode Alone) ∷ (d.events ++ seen_change ∷ [])) ≡ first ++ change ∷ []
+        change_events = ap (λ ys. lock ∷ ys) (events_more d.events (seen_change ∷ [])) ∙ ap (λ i. lock_at i ∷ (moves ++ change ∷ [])) (sym row_is)
+
+        first_is : lock ∷ moves ≡ first
+        first_is = ap (λ i. lock_at i ∷ moves) (sym row_is)
+
+        abbrev at_first : State
+        at_first = behind_first g xs first
+
+        core_first : (state (view_of n)).core ≡ at_first
+        core_first = core_there ∙ ap (behind_first g xs) first_is
+
+        abbrev worker_there : Worker
+        worker_there = at_pages at_first own (at_first.worker own) (a.page ∷ [])
+
+        record_there : change_of (opening (view_of n).given) (state (view_of n)).core own a.page key value ≡ change_record g at_first worker_there a.page key value
+        record_there i = let s = core_first i in let b = at_pages s own (s.worker own) (a.page ∷ []) in record_in (format_is i) s.page b.txn b.clock a.page key value
+
+        is_write : IsWrite g xs [] moves own a.page key value before a.entry
+        is_write = record {
+          line = line;
+          low = low;
+          high = let p = high in let q = workers in omega arith;
+          before_steps = refl;
+          between_steps = no_step;
+          syncs = subst (λ ys. SyncsWhere (λ s. IsTight g s key) g at false ys) first_is tight;
+          met = subst (AllMet g at) change_events (change_whole.logged g xs [] b0).met;
+          was_is = a.told ∙ (λ i. value_in (format_is i) ((core_first i).page a.page).node key);
+          whole = half_is ∙ free.whole;
+          entry = ap (entry_of own) (a.entry_is ∙ record_there) ∙ (every_entry g at_first own worker_there).change a.page key value;
+        }
+
+        abbrev done : Done
+        done = changed_by (Changed key value before) first own a.page key value
+
+        fits_dead : value < g.format.dead
+        fits_dead = let e = ap (λ (f : Format). f.dead) (tied.ties own).opens.format in let f = fits in omega arith
+
+        tells : Tells limits g x.group xs done
+        tells = (answers limits g x.group xs).put [] moves own a.page key value before a.entry is_write fits_dead
+
+        change_few : length (first ++ change ∷ []) ≤ 2 ^ 18
+        change_few = let p = length-append first (change ∷ []) in let q = few in let b = length_events d.events in omega arith
+
+        change_makes : MakesRoom own g at key (first ++ change ∷ [])
+        change_makes = makes_join own g key at first (change ∷ []) (subst (MakesRoom own g at key) first_is makes) (tt, tt)
+
+        change_still : (q : Refusal) → refusal_in g at own is_half_aborted log c ≡ Some q → any is_structure (first ++ change ∷ []) ≡ false
+        change_still q e = any_append is_structure first (change ∷ []) (subst (λ ys. any is_structure ys ≡ false) first_is (still q e)) refl
+
+        change_half : (w : ℕ) → 0 < w → w ≤ x.workers → (desk_of (here k.machine) k.machine.desks.items w).session.is_half_aborted ≡ (desk_of (here m.machine) m.machine.desks.items w).session.is_half_aborted
+        change_half w lo hi = halves_aside story n k aside same now half_same w lo (let q = workers_here in omega arith) ∙ half_all w lo hi
+
+        -- its leaf was not full
+        leaf_there : is_full_for g there key ≡ false
+        leaf_there = ap (λ s. is_full_for g s key) (sym core_there) ∙ (sym (full_as (opening (view_of n).given) g format_is (state (view_of n)).core key)
+            ∙ not_full (opening (view_of n).given) (state (view_of n)).core key own a.page value (now.keeps.sound (view_of n).seen).tree a.met)
+
+        -- where no leaf was read again, nor was it at first
+        unrefused : (q : Refusal) → IsSure g (first ++ change ∷ []) q → refusal_in g at own is_half_aborted log c ≡ Some q → ⊥
+        unrefused q sure e = go (is_full_for g at key) refl (sym room_asked ∙ e)
+          where
+            narrow : (g.faithful ≡ true) ⊎ (any is_fetch (first ++ change ∷ []) ≡ false) → (g.faithful ≡ true) ⊎ (any is_fetch moves ≡ false)
+            narrow (inl y) = inl y
+            narrow (inr unread) = inr (fetch_first moves (change ∷ []) unread)
+
+            sure_moves : room_refusal g at key ≡ Some q → (g.faithful ≡ true) ⊎ (any is_fetch moves ≡ false)
+            sure_moves r = elim (room_kind g at key q r) [ inl e ↦ narrow (subst (IsSure g (first ++ change ∷ [])) e sure) | inr e ↦ narrow (subst (IsSure g (first ++ change ∷ [])) e sure) ]
+
+            go : (b : Bool) → is_full_for g at key ≡ b → cond b (room_refusal g at key) None ≡ Some q → ⊥
+            go false full p = none_is q p
+            go true full p =
+                true≢false (sym full ∙ (sym (full_on g at there pages_same key) ∙ leaf_there))
+              where
+                pages_same : (i : ℕ) → there.page i ≡ at.page i
+                pages_same i = run_same g d.events held (resides residence g xs (lock ∷ [])) (core_paging own d.events making (still q e)) (sure_moves p) i ∙ page_at i
+
+        pub put_done : HasLogs k.machine → DoesTied g x.group xs own c (answer.Was before) (memory m) k (story m.machine.work.disk) (story k.machine.work.disk)
+        put_done logged = does_tied l m k (story m.machine.work.disk) (story k.machine.work.disk) (lawful m.machine.work.disk) g xs workers tied halves (told.Lock own row (event_mode Alone) ∷ (d.events ++ seen_change ∷ [])) change_whole logged
+            (same.1 ∙ as_many.0, same.2 ∙ as_many.1) own c (answer.Was before) done (sym change_events) refl refl refl tells how
+            (half_own own done xs refl ∙ (half_is ∙ (ap (λ (y : Desk). y.session.is_half_aborted) (sym (desk_own (here m.machine) m.machine.desks.items own refl)) ∙ sym (change_half own low high)))) (λ w lo hi ne. change_half w lo hi)
+          where
+            no_refusal : (q : Refusal) → answer.Was before ≡ answer.Refused q → ⊥
+            no_refusal q e = absurd (cc)
+
+            how : Answers g xs done log
+            how = record {
+              few = change_few;
+              refused = λ q e. absurd (no_refusal q e);
+              refuses = λ q sure e. absurd (unrefused q sure (ap (refusal_in g at own is_half_aborted log) (sym asks) ∙ e));
+              still = λ q e. change_still q (ap (refusal_in g at own is_half_aborted log) (sym asks) ∙ e);
+              room = subst (λ e. MakesItsRoom own g at e (first ++ change ∷ [])) (sym asks) change_makes;
+            }

@@ -1,0 +1,130 @@
+-- A put, in each run to which its machine is tied.
+use Rattle.std.proofs.Common.{◌≡◌, ◌∙◌, ◌⊎◌, inl, inr, ◌≤◌, ◌<◌, ◌+◌, ◌*◌, ◌^◌, ◌%◌, ◌++◌, ℕ, suc, Bool, true, false, List, [], ◌∷◌, Option, Some, None, Result, Ok, Err, IfErr, IsErrAnd, length, ap, refl, sym, subst, arith, true≢false}
+use Rattle.map_model.specs.declared.call.Answer.{Answer}
+use Rattle.map_model.specs.declared.call.Answer.TheVariants as answer
+use Rattle.map_model.specs.declared.call.Call.TheVariants as call
+use Rattle.map_model.specs.declared.call.Refusal.{Refusal}
+use Rattle.map_model.specs.declared.call.Refusal.TheVariants as refusal
+use Rattle.core_calls.specs.Fronts.{Done, front, outcomes}
+use Rattle.core_calls.specs.LogEvents.{IsPressedYet, SyncsWhere}
+use Rattle.core_paging.specs.Paging.{EveryResidence}
+use Rattle.core_state.specs.Events as happening
+use Rattle.core_state.specs.Openings.{Opening}
+use Rattle.core_state.specs.Steps.{state_after}
+use Rattle.engine_calls.specs.Answers.{EveryAnswer}
+use Rattle.engine_calls.specs.Clauses.{EveryComing}
+use Rattle.engine_trait.specs.Calls.{MayCome, is_half_done}
+use Rattle.engine_trait.specs.Refusals.{clock_refusal}
+use Rattle.key_locks.specs.declared.mode.Mode.TheVariants.{Alone}
+use Rattle.lean_disk.specs.Story.{IsLawful, Story}
+use Rattle.page_pool.specs.Counts.{EveryFrame}
+use Rattle.row_changes.proofs.StepLemmas.{clock_at_end}
+use Rattle.row_changes.specs.Puts.{IsChanged}
+use Rattle.row_words.specs.Moments.{events_of}
+use Rattle.session_desks.proofs.DeskLemmas.{desk_own}
+use Rattle.session_desks.specs.Parts.{here}
+use Rattle.session_desks.specs.declared.desk.Desk.{Desk}
+use Rattle.session_state.specs.Staging.{KeepsLog}
+use Rattle.session_state.specs.declared.session.Session.{Session}
+use Rattle.worker_log.specs.Logs.{Log}
+use Rattle.call_parts.specs.Deeds.{Fails}
+use Rattle.paged_desks.proofs.Doing.{hot_few}
+use Rattle.paged_desks.proofs.EndingLemmas.{Grounds}
+use Rattle.paged_desks.proofs.StandLemmas.{halves_are}
+use Rattle.paged_desks.specs.Calls.{AreHalf, CallDoes, Comes, DoesTied, EndsWork, OnLine, Tied, works_behind}
+use Rattle.paged_desks.specs.Machines.{IsReady, memory, view_of}
+use Rattle.paged_desks.specs.declared.machine.PagedMachine.{PagedMachine}
+use Rattle.paged_calls.specs.Calls.{IsEarly, put_answer}
+use Rattle.paged_calls.specs.Changes.{MayStill}
+use Rattle.paged_calls.specs.Growths.{HasMade}
+use Rattle.paged_calls.specs.Rounds.{FailsComing, Rounds, most_a_put, round_of}
+use Rattle.paged_calls.specs.Steps.{HasCome, HasNotTaken, HasTaken}
+use Rattle.paged_calls.specs.Tests.{change_test}
+use Rattle.paged_calls.specs.declared.growing.Round.TheVariants as round
+use Rattle.paged_calls.proofs.ChangeRuns as runs
+use Rattle.paged_calls.proofs.ChangeTests.{by_test}
+use Rattle.paged_calls.proofs.GrowthRuns as grown
+use Rattle.paged_calls.proofs.ChangeWarms.{still_self}
+use Rattle.paged_calls.proofs.MadeLemmas.{made_none, made_up}
+use Rattle.paged_calls.proofs.PieceLemmas.{none_part}
+
+comes_tested : (x : Session) (log : Log) (why : Refusal) → x.works ≡ true → change_test x log ≡ Some why → (does fails never : Type 0) → does → Comes (answer.Refused why) does fails never
+comes_tested x log why works e does fails never d = elim (by_test x log why e (λ p. Comes (answer.Refused p) does fails never) d d d d) [ inl q ↦ q.1 | inr q ↦ absurd (true≢false (sym works ∙ q.0)) ]
+
+module _ (l : Grounds) (residence : EveryResidence) (answers : EveryAnswer) (coming : EveryComing) (frames : EveryFrame) {D : Type 0} (story : D → Story) (lawful : (d : D) → IsLawful (story d)) (m : PagedMachine D) (ready : IsReady story m) (key value : ℕ) where
+  abbrev x : Session
+  x = m.machine.work.session
+
+  abbrev Did : Answer → PagedMachine D → Type 0
+  Did a n = CallDoes story OnLine x.own (call.Put key value) a m n
+
+  in_memory : (o : Option Refusal) → change_test x m.machine.work.log ≡ o → change_test x ((memory m).log x.own) ≡ o
+  in_memory o e = ap (λ (d : Desk). change_test x d.log) (desk_own (here m.machine) m.machine.desks.items x.own refl) ∙ e
+
+  -- ## It is refused before anything was done
+
+  pub put_tested : (why : Refusal) → change_test x m.machine.work.log ≡ Some why → Did (answer.Refused why) m
+  put_tested why e g xs workers tied halves line = comes_tested x m.machine.work.log why ready.works e _ _ _
+      (runs.tested l answers coming story lawful m ready key (call.Put key value) refl g xs workers tied halves line m
+      (none_part l story lawful m m (record { shape = refl; disk = refl; log = refl; desks = refl; latches = refl; master = refl; pager = refl }) refl x.workers refl refl) ready.logged (refl, refl) (λ w lo hi. refl) why (in_memory (Some why) e))
+
+  module _ (none : change_test x m.machine.work.log ≡ None) where
+    module _ (n : PagedMachine D) (now : IsReady story n) where
+      untaken : (why : Refusal) → (s : HasNotTaken why key Alone m n) → (view_of n).given ≡ (view_of m).given → (view_of n).seen ≡ (view_of m).seen → (g : Opening) (xs : List Done) → g.workers ≡ x.workers → Tied g x.group xs (view_of m) (memory m) → AreHalf g.workers xs m.machine → OnLine g xs
+          → DoesTied g x.group xs x.own (call.Put key value) (answer.Refused why) (memory m) n (story m.machine.work.disk) (story n.machine.work.disk)
+      untaken why s given seen g xs workers tied halves line = runs.not_taken l answers coming story lawful m ready key (call.Put key value) refl g xs workers tied halves line n
+          (none_part l story lawful m n s.beside (ap (λ (y : Session). y.own) s.session) x.workers given seen) now.logged (ap (λ (y : Session). y.workers) s.session, ap (λ (y : Session). y.group) s.session)
+          (λ w lo hi. halves_are story m n s.beside (ap (λ (y : Session). y.own) s.session) (ap (λ (y : Session). y.is_half_aborted) s.session) w) (in_memory None none) why s.not_taken
+
+      pub put_untaken : (why : Refusal) → HasNotTaken why key Alone m n → Did (answer.Refused why) n
+      put_untaken refusal.RowSpent s = untaken refusal.RowSpent s s.not_taken.given s.not_taken.seen
+      put_untaken (refusal.Conflict h) s = untaken (refusal.Conflict h) s s.not_taken.given s.not_taken.seen
+      put_untaken _ s = absurd s.not_taken
+
+    -- ## Behind its row
+
+    module _ (u : PagedMachine D) (t : HasTaken key Alone m u) (taken : IsReady story u) where
+      own_is : u.machine.work.session.own ≡ x.own
+      own_is = ap (λ (y : Session). y.own) t.takes.session
+
+      -- what the row tells has brought its clock to its end
+      pub put_at_end : (why : Refusal) → HasCome story key u u → MayStill key u → clock_refusal u.machine.work.session.clock.clock None ≡ Some why → Did (answer.Refused why) u
+      put_at_end why come may e = let q = clock_at_end u.machine.work.session.clock.clock why e in subst (λ p. Did (answer.Refused p) u) (sym q.is)
+          (λ g xs workers tied halves line. runs.stopped l answers coming story lawful m ready key (call.Put key value) refl g xs workers tied halves line (in_memory None none) u t taken u come taken may q.spent
+          (subst (λ d. SyncsWhere (IsPressedYet g d refusal.ClockSpent) g (state_after g (front xs)) false (happening.Event.Lock x.own (key % x.held.count) happening.Mode.Alone ∷ events_of come.events)) (sym (runs.asks l answers coming story lawful m ready key (call.Put key value) refl g xs workers tied halves line))
+          (runs.tight l answers coming story lawful m ready key (call.Put key value) refl g xs workers tied halves line (in_memory None none) u t taken u come)))
+
+      module _ (small : u.machine.work.session.clock.clock < 2 ^ 62) (fits : value < 2 ^ 63) (n : PagedMachine D) where
+        few_made : (k : PagedMachine D) (d : HasMade story key most_a_put u k) → length d.events ≤ 2 ^ 17 + 2 ^ 15
+        few_made k d = let a = d.few in let b = hot_few story u taken frames in omega arith
+
+        none_made : HasMade story key most_a_put u u
+        none_made = made_up story key 0 most_a_put u u (omega arith) (made_none l residence story lawful key u u (still_self story u))
+
+        failing : FailsComing story key most_a_put u n → (g : Opening) (xs : List Done) → (workers : g.workers ≡ x.workers) → (tied : Tied g x.group xs (view_of m) (memory m)) → (halves : AreHalf g.workers xs m.machine) → OnLine g xs → Fails g x.group xs x.own (call.Put key value) (memory m) (story m.machine.work.disk) (story n.machine.work.disk)
+        failing f g xs workers tied halves line =
+            grown.put_fault l residence answers coming story lawful m ready key value g xs workers tied halves line (in_memory None none) u t taken small most_a_put f.between f.made (few_made f.between f.made) n f.failed
+            (let a = f.made.few in let b = hot_few story u taken frames in let c = f.failed.close in omega arith)
+
+        -- by answer
+        pub put_did : (r : Result (Option ℕ) Refusal) → (works_behind r ≡ true → IsReady story n) → Rounds story key value most_a_put (round_of r) u n → Did (put_answer r) n
+        put_did (Ok before) now d g xs workers tied halves line =
+            grown.put_done l residence answers coming story lawful m ready key value g xs workers tied halves line (in_memory None none) u t taken small most_a_put d.between d.made (few_made d.between d.made) d.ready n d.aside d.session d.is_half_aborted fits before
+            (subst (λ k. IsChanged k (view_of d.between) (view_of n) key value before d.between.machine.work.log n.machine.work.log (story d.between.machine.work.disk) (story n.machine.work.disk)) own_is d.changed) (now refl).logged
+        put_did (Err refusal.RowSpent) now d g xs workers tied halves line =
+            grown.put_spent l residence answers coming story lawful m ready key value g xs workers tied halves line (in_memory None none) u t taken small most_a_put n d.made (few_made n d.made) (now refl) d.spent
+        put_did (Err refusal.ClockSpent) now d g xs workers tied halves line =
+            grown.put_stopped l residence answers coming story lawful m ready key value g xs workers tied halves line (in_memory None none) u t taken small most_a_put n d.made (few_made n d.made) (now refl) d.going d.spent
+        put_did (Err refusal.TooTall) now d g xs workers tied halves line =
+            grown.put_tall l residence answers coming story lawful m ready key value g xs workers tied halves line (in_memory None none) u t taken small most_a_put n d.made (few_made n d.made) (now refl) d.going d.leaf d.unfit d.small d.cause
+        put_did (Err refusal.NoPages) now d g xs workers tied halves line =
+            grown.put_short l residence answers coming story lawful m ready key value g xs workers tied halves line (in_memory None none) u t taken small most_a_put n d.made (few_made n d.made) (now refl) d.going d.leaf d.unfit d.small d.cause
+        put_did (Err refusal.DiskFault) now (inl f) g xs workers tied halves line =
+            grown.put_fails_staging l residence answers coming story lawful m ready key value g xs workers tied halves line (in_memory None none) u t taken small most_a_put f.between f.made (few_made f.between f.made) n
+            (subst (λ k. KeepsLog k f.between.machine.work.log (story f.between.machine.work.disk) (story n.machine.work.disk)) own_is f.keeps)
+        put_did (Err refusal.DiskFault) now (inr f) g xs workers tied halves line = failing f g xs workers tied halves line
+        put_did (Err (refusal.Damaged area place)) now d g xs workers tied halves line = (
+          failing d.0 g xs workers tied halves line,
+          grown.put_never l residence answers coming story lawful m ready key value g xs workers tied halves line (in_memory None none) u t taken small most_a_put u none_made (few_made u none_made) d.1,
+        )
+        put_did (Err _) now d g xs workers tied halves line = absurd d

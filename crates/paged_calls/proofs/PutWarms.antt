@@ -1,0 +1,453 @@
+-- What a put did behind the taking of its row, round by round.
+use Rattle.std.proofs.Common.{◌≡◌, ◌∙◌, ◌⊎◌, inl, inr, ◌≤◌, ◌<◌, ◌+◌, ◌*◌, ◌^◌, ◌%◌, ◌-◌, ◌++◌, ◌==◌, ◌&&◌, cond, ℕ, suc, Bool, true, false, List, [], ◌∷◌, Option, Some, None, Result, Ok, Err, IfOk, length, ap, refl, sym, subst, arith, true≢false}
+use Rattle.std.proofs.lemmas.Bool.{and_from, and_parts, eq-eqb}
+use Rattle.map_model.specs.Lists.{Has}
+use Rattle.map_model.specs.declared.call.Refusal.{Refusal}
+use Rattle.map_model.specs.declared.call.Refusal.TheVariants as refusal
+use Rattle.core_calls.specs.Fronts.{Done, front}
+use Rattle.core_calls.specs.Warms.{IsWarmFrom}
+use Rattle.core_calls.specs.Room.{EveryRoom, free_list, is_full_at, room_takes}
+use Rattle.core_paging.specs.Paging.{EveryResidence, Residence}
+use Rattle.core_state.specs.Events as happening
+use Rattle.core_state.specs.Needs.{is_held_by}
+use Rattle.core_state.specs.Openings.{Opening}
+use Rattle.core_state.specs.States.{State}
+use Rattle.core_state.specs.Steps as core
+use Rattle.disk_runs.specs.Stands.{Stands}
+use Rattle.lean_disk.specs.Story.{Crash, IsLawful, Story}
+use Rattle.page_model.specs.Nodes.{covers, is_leaf}
+use Rattle.page_pool.specs.Pools.{EveryStanding}
+use Rattle.row_changes.proofs.TakesLemmas.{takes_most}
+use Rattle.row_changes.specs.Paths.{IsUnfit}
+use Rattle.row_changes.specs.Puts.{IsChanged, MayChange, works_behind}
+use Rattle.row_changes.specs.Ways.{IsLost}
+use Rattle.row_changes.specs.declared.ways.Unmade.{Unmade}
+use Rattle.row_changes.specs.declared.ways.Unmade.TheVariants as unmade
+use Rattle.row_growth.specs.Outcomes.{Steps}
+use Rattle.row_growth.specs.Rooms.{frame_among}
+use Rattle.row_growth.specs.declared.room.Placed.{Placed}
+use Rattle.row_growth.specs.declared.steps.Stepped.{Stepped}
+use Rattle.row_growth.specs.declared.steps.Stepped.TheVariants as stepped
+use Rattle.paged_rows.specs.Paged.{IsWarm}
+use Rattle.row_words.proofs.SealedLemmas.{run_append}
+use Rattle.row_words.specs.declared.event.Event.{Event}
+use Rattle.row_words.specs.declared.given.Given.{Given}
+use Rattle.row_words.specs.Moments.{Moment, events_of}
+use Rattle.row_words.specs.Sealed.{begun}
+use Rattle.row_words.specs.Openings.{opening}
+use Rattle.rows_trait.specs.declared.view.View.{View}
+use Rattle.rows_trait.specs.Views.{after_all, state}
+use Rattle.session_desks.proofs.SeatLemmas.{holds_of}
+use Rattle.session_desks.specs.Parts.{AreAsMany, SeatFits, here, shape}
+use Rattle.session_state.proofs.Moments.{seen_state}
+use Rattle.session_state.proofs.OtherLemmas.{no_steps}
+use Rattle.session_state.proofs.UndoLemmas.{room_to_stage}
+use Rattle.session_state.specs.Free.{first_of}
+use Rattle.session_state.specs.Holds.{Holds, IsSameSession}
+use Rattle.session_state.specs.Others.{EveryOther}
+use Rattle.session_state.specs.Staging.{KeepsLog}
+use Rattle.session_state.specs.Undo.{HasRoomToStage}
+use Rattle.engine_trait.specs.Refusals.{room_refusal}
+use Rattle.session_state.specs.declared.session.Session.{Session}
+use Rattle.session_state.specs.declared.work.Work.{Work}
+use Rattle.worker_log.specs.Logs.{Log, limit, used}
+use Rattle.call_parts.proofs.RunLemmas.{behind_more, run_core}
+use Rattle.call_parts.specs.Memory.{IsOf}
+use Rattle.paged_desks.proofs.EndingLemmas.{Grounds}
+use Rattle.paged_desks.proofs.StandLemmas.{looked_same, ready_on}
+use Rattle.paged_desks.specs.Calls.{IsAside}
+use Rattle.paged_desks.specs.Calls.{works_behind as is_working}
+use Rattle.paged_desks.specs.Machines.{IsReady, memory, pages, view_of}
+use Rattle.paged_desks.specs.Pages.{HasPaged, IsKept, goes_on, most_a_level}
+use Rattle.paged_desks.specs.Parts.{HasFailed, HasGone, IsSpent, StandsNowhere}
+use Rattle.paged_desks.specs.declared.machine.PagedMachine.{PagedMachine}
+use Rattle.paged_desks.specs.declared.warming.Unwarmed.{Unwarmed}
+use Rattle.paged_desks.specs.declared.warming.Unwarmed.TheVariants as stopped
+use Rattle.paged_calls.specs.Changes.{MayStill}
+use Rattle.paged_calls.specs.Growths.{AreLike, HasMade, IsGoing, MayPut}
+use Rattle.paged_calls.specs.Rounds.{GoesOnWarm, HasPut, IsWanted, Rounds, most_a_round, round_of}
+use Rattle.paged_calls.specs.Steps.{IsStill}
+use Rattle.paged_calls.specs.Tests.{refusal_of}
+use Rattle.paged_calls.specs.declared.growing.Round.{Round}
+use Rattle.paged_calls.specs.declared.growing.Round.TheVariants as round
+use Rattle.paged_calls.proofs.ChangeStands.{ready_changed}
+use Rattle.paged_calls.proofs.ChangeSteps.{beside_of}
+use Rattle.paged_calls.proofs.ChangeWarms.{still_cold, still_self}
+use Rattle.paged_calls.proofs.EventLemmas.{paging_structure}
+use Rattle.paged_calls.proofs.GrowthStands.{made_grown, made_missed, ready_grown, ready_missed}
+use Rattle.paged_calls.proofs.LikeLemmas.{run_like}
+use Rattle.paged_calls.proofs.MadeLemmas.{core_paging, made_gone, made_none, made_then, made_up, making_paging}
+use Rattle.paged_calls.proofs.RoomLemmas.{IsNoFuller, gone_no_fuller, rows_kept}
+use Rattle.paged_calls.proofs.WarmLemmas.{kept_own}
+use Rattle.paged_calls.proofs.WayLemmas.{has_below, takes_least}
+
+-- ## Whether it may be put
+
+-- as the steps ask it
+pub may_step : {D : Type 0} (key : ℕ) (m : PagedMachine D) → m.machine.work.session.works ≡ true → m.machine.work.session.clock.clock < 2 ^ 62 → key < 2 ^ 64 - 1 → MayPut key m → MayChange (view_of m) m.machine.work.session m.machine.work.log key
+may_step key m works small low f = record { works = works; is_open = f.is_open; whole = f.whole; few = f.few; small = small; room = f.room; row = f.row; key_low = low }
+
+-- and as they leave it
+pub may_again : {D : Type 0} (key : ℕ) (m : PagedMachine D) → MayChange (view_of m) m.machine.work.session m.machine.work.log key → MayPut key m
+may_again key m f = record { is_open = f.is_open; whole = f.whole; few = f.few; room = f.room; row = f.row }
+
+-- before all rounds
+pub may_first : {D : Type 0} (key : ℕ) (m : PagedMachine D) → MayStill key m → MayPut key m
+may_first key m f = record {
+  is_open = f.is_open;
+  whole = f.whole;
+  few = f.few;
+  room = room_to_stage m.machine.work.log (suc (room_takes (opening (view_of m).given) (state (view_of m)).core key)) f.room (let a = takes_most (opening (view_of m).given) (state (view_of m)).core key in omega arith);
+  row = f.row;
+}
+
+pub going_of : {D : Type 0} (key : ℕ) (m : PagedMachine D) → MayPut key m → IsGoing m
+going_of key m f = record { is_open = f.is_open; whole = f.whole; few = f.few }
+
+-- where the machine is as it was
+going_same : {D : Type 0} (m n : PagedMachine D) → n.machine.work ≡ m.machine.work → IsGoing m → IsGoing n
+going_same m n e f = record {
+  is_open = ap (λ (k : Work _). k.session.is_open) e ∙ f.is_open;
+  whole = ap (λ (k : Work _). k.session.is_half_aborted) e ∙ f.whole;
+  few = subst (λ (k : Work _). length k.session.undo < 64) (sym e) f.few;
+}
+
+-- ## The pages of rows
+
+module _ {D : Type 0} (story : D → Story) (key most : ℕ) (m n : PagedMachine D) (ready : IsReady story m) (p : HasPaged key most m n) where
+  abbrev g : Opening
+  g = opening (view_of m).given
+
+  abbrev s : State
+  s = (state (view_of m)).core
+
+  core_is : (state (view_of n)).core ≡ core.run g s (events_of p.events)
+  core_is = ap (λ (x : Moment). x.core) (seen_state (view_of m) (view_of n) p.events p.given p.seen) ∙ run_core (view_of m).given (state (view_of m)) p.events
+
+  resides_on : (more : List Event) → Residence g (core.run g s (events_of more))
+  resides_on more = subst (λ (t : State). Residence g t) (ap (λ (x : Moment). x.core) (run_append (view_of m).given (begun (view_of m).given) (view_of m).seen more) ∙ run_core (view_of m).given (state (view_of m)) more)
+      (ready.keeps.sound ((view_of m).seen ++ more)).residence
+
+  like : AreLike s (state (view_of n)).core
+  like = subst (λ (t : State). AreLike s t) (sym core_is) (run_like g p.events s resides_on (core_paging m.machine.work.session.own p.events (making_paging m.machine.work.session.own p.events p.paging) (paging_structure p.events p.paging)))
+
+  -- where the leaf was full, room takes no more pages
+  pub takes_kept : is_full_at g s key 0 ≡ true → room_takes (opening (view_of n).given) (state (view_of n)).core key ≤ room_takes g s key
+  takes_kept leaf = subst (λ (q : Given). room_takes (opening q) (state (view_of n)).core key ≤ room_takes g s key) (sym p.given) (takes_least g s (state (view_of n)).core like key leaf)
+
+  k : IsKept m.machine.work.session n.machine.work.session
+  k = kept_own story key most m n ready p
+
+  pub going_gone : IsGoing m → IsGoing n
+  going_gone f = record {
+    is_open = ap (λ (x : Session). x.is_open) k.session ∙ f.is_open;
+    whole = ap (λ (x : Session). x.is_half_aborted) k.session ∙ f.whole;
+    few = let a = ap (λ (x : Session). length x.undo) k.session in let b = f.few in omega arith;
+  }
+
+  pub may_gone : is_full_at g s key 0 ≡ true → MayPut key m → MayPut key n
+  may_gone leaf f = record {
+    is_open = (going_gone (going_of key m f)).is_open;
+    whole = (going_gone (going_of key m f)).whole;
+    few = (going_gone (going_of key m f)).few;
+    room = let a = f.room in let b = takes_kept leaf in let c = gone_no_fuller story key most m n ready p in let d = c.fill in let e = c.blocks in omega arith;
+    row = (λ i. is_held_by ((rows i) (key % (ap (λ (x : Session). x.held.count) k.session) i)).holder ((ap (λ (x : Session). x.own) k.session) i)) ∙ f.row;
+  }
+    where
+      rows : (state (view_of n)).core.row ≡ (state (view_of m)).core.row
+      rows = rows_kept (view_of m) (view_of n) p.events p.paging p.given p.seen
+
+-- a leaf without room for the key is full
+pub unfit_full : {D : Type 0} (key leaf : ℕ) (m : PagedMachine D) → IsUnfit (view_of m) key leaf → is_full_at (opening (view_of m).given) (state (view_of m)).core key 0 ≡ true
+unfit_full key leaf m k =
+    let g = opening (view_of m).given in
+    let s = (state (view_of m)).core in
+    let n = (s.page leaf).node in
+    let a = and_parts (is_leaf n) (covers n key) k.holds in
+    let b = and_parts n.live (n.level == 0) a.0 in
+    has_below g.format.pages leaf (λ p. covers (s.page p).node key && (((s.page p).node.level == 0) && (length (s.page p).node.pairs == g.format.room))) k.below
+    (and_from (covers n key) ((n.level == 0) && (length n.pairs == g.format.room)) a.1 (and_from (n.level == 0) (length n.pairs == g.format.room) b.1 (eq-eqb (length n.pairs) g.format.room k.full)))
+
+-- so many events at most has one step
+abbrev pub most_a_step : ℕ
+most_a_step = 8
+
+-- ## One step
+
+module _ (l : Grounds) (residence : EveryResidence) {D : Type 0} (story : D → Story) (lawful : (d : D) → IsLawful (story d)) (key value : ℕ) (m n : PagedMachine D) (ready : IsReady story m) (a : IsAside m n) (same : IsSameSession m.machine.work.session n.machine.work.session) where
+  abbrev own : ℕ
+  own = m.machine.work.session.own
+
+  abbrev Did : Option Placed → Result Stepped Unmade → Type 0
+  Did placed r = Steps r placed (view_of m) (view_of n) key value m.machine.work.session n.machine.work.session m.machine.work.log n.machine.work.log (story m.machine.work.disk) (story n.machine.work.disk) (n.machine.work ≡ m.machine.work)
+
+  module _ (law : EveryOther) (standing : EveryStanding) (fits : SeatFits n.machine) (holds : n.machine.work.session.works ≡ true → Holds (shape n.machine) (view_of n) n.machine.work.session n.machine.work.log) (works : n.machine.work.session.works ≡ true) where
+    unmoved : n.machine.work ≡ m.machine.work → (view_of n).given ≡ (view_of m).given → (view_of n).seen ≡ (view_of m).seen → IsReady story n
+    unmoved e given seen = ready_on story m n (beside_of m n a (ap (λ (k : Work D). k.log) e) (ap (λ (k : Work D). k.disk) e)) ready law given (looked_same (view_of m) (view_of n) given seen) fits works same (no_steps own (view_of m) (view_of n) given seen) (holds works)
+
+    pub step_ready : (placed : Option Placed) (r : Result Stepped Unmade) → works_behind r ≡ true → Did placed r → IsReady story n
+    step_ready placed (Ok (stepped.Done before)) w d = ready_changed story m n a same ready law standing key value before d fits works (holds works)
+    step_ready placed (Ok stepped.Grown) w d = ready_grown l story m n a same ready key d.0 law standing fits works (holds works)
+    step_ready placed (Ok (stepped.Needs page)) w d = unmoved d.1 d.0.needed.given d.0.needed.seen
+    step_ready placed (Err (unmade.Cold cold)) w d = unmoved d.1 d.0.given d.0.seen
+    step_ready placed (Err (unmade.Refused refusal.TooTall)) w d = unmoved d.1 d.0.given d.0.seen
+    step_ready placed (Err (unmade.Refused refusal.NoPages)) w d = unmoved d.1 d.0.given d.0.seen
+    step_ready placed (Err (unmade.Refused refusal.ClockSpent)) w d = ready_grown l story m n a same ready key d.grown law standing fits works (holds works)
+    step_ready placed (Err (unmade.Refused refusal.RowSpent)) w d = ready_missed l story lawful m n a key d.0 d.1 law ready fits (holds works)
+    step_ready placed (Err (unmade.Refused refusal.DiskFault)) w d = absurd (true≢false (sym w))
+    step_ready placed (Err (unmade.Refused _)) w d = absurd d
+    step_ready placed (Err unmade.Lost) w d = absurd d
+
+  -- ## As a round
+
+  still_at : (view_of n).given ≡ (view_of m).given → (view_of n).seen ≡ (view_of m).seen → n.machine.work ≡ m.machine.work → IsStill story m n
+  still_at given seen e = still_cold story m n a given seen e
+
+  -- nothing was done yet
+  pub made_self : HasMade story key most_a_step m m
+  made_self = made_up story key 0 most_a_step m m (omega arith) (made_none l residence story lawful key m m (still_self story m))
+
+  made_at : (view_of n).given ≡ (view_of m).given → (view_of n).seen ≡ (view_of m).seen → n.machine.work ≡ m.machine.work → HasMade story key most_a_step m n
+  made_at given seen e = made_up story key 0 most_a_step m n (omega arith) (made_none l residence story lawful key m n (still_at given seen e))
+
+  pub done_round : (before : Option ℕ) → n.machine.work.session.is_half_aborted ≡ m.machine.work.session.is_half_aborted → (placed : Option Placed) → Did placed (Ok (stepped.Done before)) → HasPut story key value before most_a_step m n
+  done_round before half placed d = record { between = m; made = made_self; changed = d; ready = ready; aside = a; session = same; is_half_aborted = half }
+
+  pub grown_round : n.machine.work.session.is_half_aborted ≡ m.machine.work.session.is_half_aborted → IsWarm (pages m) key 0 → (placed : Option Placed) → Did placed (Ok stepped.Grown) → GoesOnWarm story key most_a_step m n
+  grown_round half warm placed d = record {
+    made = made_up story key 1 most_a_step m n (omega arith) (made_grown l story m n a same ready key d.0 half);
+    may = may_again key n d.1;
+    small = d.1.small;
+    warm = d.0.warm warm;
+    takes = d.0.takes;
+  }
+
+  pub refused_round : (why : Refusal) (placed : Option Placed) → (works_behind {A = Stepped} (Err (unmade.Refused why)) ≡ true → n.machine.work.session.is_half_aborted ≡ m.machine.work.session.is_half_aborted) → IsGoing m → m.machine.work.session.clock.clock < 2 ^ 62 → Did placed (Err (unmade.Refused why)) → Rounds story key value most_a_step (Err why) m n
+  refused_round refusal.TooTall placed half going small d = record { made = made_at d.0.given d.0.seen d.1; going = going_same m n d.1 going; leaf = d.0.leaf; unfit = d.0.unfit; small = subst (λ (k : Work D). k.session.clock.clock < 2 ^ 62) (sym d.1) small; cause = d.0.cause }
+  refused_round refusal.NoPages placed half going small d = record { made = made_at d.0.given d.0.seen d.1; going = going_same m n d.1 going; leaf = d.0.leaf; unfit = d.0.unfit; small = subst (λ (k : Work D). k.session.clock.clock < 2 ^ 62) (sym d.1) small; cause = d.0.cause }
+  refused_round refusal.ClockSpent placed half going small d = record {
+    made = made_up story key 1 most_a_step m n (omega arith) (made_grown l story m n a same ready key d.grown (half refl));
+    going = record {
+      is_open = ap (λ (x : Session). x.is_open) d.grown.session ∙ going.is_open;
+      whole = ap (λ (x : Session). x.is_half_aborted) d.grown.session ∙ going.whole;
+      few = subst (λ (x : Session). length x.undo < 64) (sym d.grown.session) going.few;
+    };
+    spent = d.spent;
+  }
+  refused_round refusal.RowSpent placed half going small d = record { made = made_up story key 8 most_a_step m n (omega arith) (made_missed l story lawful m n a key d.0 d.1); spent = inl (inl d.0.many) }
+  refused_round refusal.DiskFault placed half going small d = inl (record { between = m; made = made_self; keeps = d })
+  refused_round _ placed half going small d = absurd d
+
+-- ## One round behind another
+
+-- it goes on
+abbrev pub IsGrownRound : Result Round Refusal → Type 0
+IsGrownRound (Ok round.Grown) = Unit {0}
+IsGrownRound _ = ⊥
+
+module _ (l : Grounds) (residence : EveryResidence) {D : Type 0} (story : D → Story) (lawful : (d : D) → IsLawful (story d)) (key value : ℕ) (a b : ℕ) (m u n : PagedMachine D) (d : HasMade story key a m u) where
+  abbrev both : (k : PagedMachine D) → HasMade story key b u k → HasMade story key (a + b) m k
+  both k e = made_then l residence story lawful key a b m u k d e
+
+  spent_back : IsSpent u n → IsSpent m n
+  spent_back (inl old) = inl old
+  spent_back (inr h) = inr (record { session = h.session; low = h.low; high = (let e = d.same.0 in let k = h.high in omega arith); half = sym (d.halves h.session h.low (let e = d.same.0 in let k = h.high in omega arith)) ∙ h.half })
+
+  nowhere_back : StandsNowhere story u → StandsNowhere story m
+  nowhere_back nowhere g xs first b s0 k st o =
+      let met = (d.part.logged g xs first b).met in
+      let r = d.part.goes g xs first b s0 k st o in
+      nowhere g xs (first ++ events_of d.events) (behind_more g xs first (view_of m) b d.events (view_of u) d.part.given d.part.seen met) s0 r.known
+      r.moved.stands r.has
+
+  pub rounds_then : (r : Result Round Refusal) → (IsGrownRound r → room_takes (opening (view_of u).given) (state (view_of u)).core key ≤ room_takes (opening (view_of m).given) (state (view_of m)).core key) → Rounds story key value b r u n → Rounds story key value (a + b) r m n
+  rounds_then (Ok (round.Done before)) le e = record {
+    between = e.between;
+    made = both e.between e.made;
+    changed = subst (λ w. IsChanged w (view_of e.between) (view_of n) key value before e.between.machine.work.log n.machine.work.log (story e.between.machine.work.disk) (story n.machine.work.disk)) d.turn e.changed;
+    ready = e.ready;
+    aside = e.aside;
+    session = e.session;
+    is_half_aborted = e.is_half_aborted;
+  }
+  rounds_then (Ok round.Grown) le e = record { made = both n e.made; may = e.may; small = e.small; warm = e.warm; takes = let x = le tt in let y = e.takes in omega arith }
+  rounds_then (Err refusal.RowSpent) le e = record { made = both n e.made; spent = spent_back e.spent }
+  rounds_then (Err refusal.ClockSpent) le e = record { made = both n e.made; going = e.going; spent = e.spent }
+  rounds_then (Err refusal.TooTall) le e = record { made = both n e.made; going = e.going; leaf = e.leaf; unfit = e.unfit; small = e.small; cause = e.cause }
+  rounds_then (Err refusal.NoPages) le e = record { made = both n e.made; going = e.going; leaf = e.leaf; unfit = e.unfit; small = e.small; cause = e.cause }
+  rounds_then (Err refusal.DiskFault) le (inl f) = inl (record { between = f.between; made = both f.between f.made; keeps = subst (λ w. KeepsLog w f.between.machine.work.log (story f.between.machine.work.disk) (story n.machine.work.disk)) d.turn f.keeps })
+  rounds_then (Err refusal.DiskFault) le (inr f) = inr (record { between = f.between; made = both f.between f.made; failed = f.failed })
+  rounds_then (Err (refusal.Damaged area place)) le e = (record { between = e.0.between; made = both e.0.between e.0.made; failed = e.0.failed }, nowhere_back e.1)
+  rounds_then (Err _) le e = absurd e
+
+-- in no more events than so many
+pub rounds_up : {D : Type 0} (story : D → Story) (key value a b : ℕ) (m n : PagedMachine D) → a ≤ b → (r : Result Round Refusal) → Rounds story key value a r m n → Rounds story key value b r m n
+rounds_up story key value a b m n le (Ok (round.Done before)) e = record { between = e.between; made = made_up story key a b m e.between le e.made; changed = e.changed; ready = e.ready; aside = e.aside; session = e.session; is_half_aborted = e.is_half_aborted }
+rounds_up story key value a b m n le (Ok round.Grown) e = record { made = made_up story key a b m n le e.made; may = e.may; small = e.small; warm = e.warm; takes = e.takes }
+rounds_up story key value a b m n le (Err refusal.RowSpent) e = record { made = made_up story key a b m n le e.made; spent = e.spent }
+rounds_up story key value a b m n le (Err refusal.ClockSpent) e = record { made = made_up story key a b m n le e.made; going = e.going; spent = e.spent }
+rounds_up story key value a b m n le (Err refusal.TooTall) e = record { made = made_up story key a b m n le e.made; going = e.going; leaf = e.leaf; unfit = e.unfit; small = e.small; cause = e.cause }
+rounds_up story key value a b m n le (Err refusal.NoPages) e = record { made = made_up story key a b m n le e.made; going = e.going; leaf = e.leaf; unfit = e.unfit; small = e.small; cause = e.cause }
+rounds_up story key value a b m n le (Err refusal.DiskFault) (inl f) = inl (record { between = f.between; made = made_up story key a b m f.between le f.made; keeps = f.keeps })
+rounds_up story key value a b m n le (Err refusal.DiskFault) (inr f) = inr (record { between = f.between; made = made_up story key a b m f.between le f.made; failed = f.failed })
+rounds_up story key value a b m n le (Err (refusal.Damaged area place)) e = (record { between = e.0.between; made = made_up story key a b m e.0.between le e.0.made; failed = e.0.failed }, e.1)
+rounds_up story key value a b m n le (Err _) e = absurd e
+
+-- ## Where a page did not come
+
+module _ (l : Grounds) (residence : EveryResidence) {D : Type 0} (story : D → Story) (lawful : (d : D) → IsLawful (story d)) (key value : ℕ) (m n : PagedMachine D) where
+  made_here : HasMade story key 0 m m
+  made_here = made_none l residence story lawful key m m (still_self story m)
+
+  pub unwarmed_rounds : (most bound : ℕ) → most ≤ bound → (why : Unwarmed) → (goes_on {A = Unit {0}} (Err why) ≡ true → HasGone story key most m n) → (goes_on {A = Unit {0}} (Err why) ≡ false → HasFailed story m n) → (why ≡ stopped.RowSpent → IsSpent m n)
+      → ((page : ℕ) → (why ≡ stopped.Damaged page) ⊎ (why ≡ stopped.Altered page) → StandsNowhere story m) → Rounds story key value bound (Err (refusal_of why)) m n
+  unwarmed_rounds most bound up stopped.RowSpent gone failed spent damaged = record { made = made_up story key most bound m n up (made_gone l residence story lawful key most m n (gone refl)); spent = spent refl }
+  unwarmed_rounds most bound up stopped.DiskFault gone failed spent damaged = inr (record { between = m; made = made_up story key 0 bound m m (omega arith) made_here; failed = failed refl })
+  unwarmed_rounds most bound up (stopped.Damaged page) gone failed spent damaged = (record { between = m; made = made_up story key 0 bound m m (omega arith) made_here; failed = failed refl }, damaged page (inl refl))
+  unwarmed_rounds most bound up (stopped.Altered page) gone failed spent damaged = (record { between = m; made = made_up story key 0 bound m m (omega arith) made_here; failed = failed refl }, damaged page (inr refl))
+
+-- a refusal of one kind of answer, by which another is refused
+why_of : {A : Type 0} → Unwarmed → Result A Unwarmed → Unwarmed
+why_of other (Ok a) = other
+why_of other (Err why) = why
+
+pub spent_as : (A : Type 0) (P : Type 0) (why : Unwarmed) → (◌≡◌ {A = Result A Unwarmed} (Err why) (Err stopped.RowSpent) → P) → why ≡ stopped.RowSpent → P
+spent_as A P why f e = f (ap Err e)
+
+pub damaged_as : (A : Type 0) (P : Type 0) (why : Unwarmed) → ((page : ℕ) → (◌≡◌ {A = Result A Unwarmed} (Err why) (Err (stopped.Damaged page))) ⊎ (◌≡◌ {A = Result A Unwarmed} (Err why) (Err (stopped.Altered page))) → P) → (page : ℕ) → (why ≡ stopped.Damaged page) ⊎ (why ≡ stopped.Altered page) → P
+damaged_as A P why f page (inl e) = f page (inl (ap Err e))
+damaged_as A P why f page (inr e) = f page (inr (ap Err e))
+
+-- ## The next page
+
+-- it is free
+pub wanted_free : {D : Type 0} (story : D → Story) (key page : ℕ) (m : PagedMachine D) → EveryRoom → IsReady story m → IsWanted key page m → (page < (opening (view_of m).given).format.pages) × (((state (view_of m)).core.page page).node.live ≡ false)
+wanted_free story key page m room ready w = ((room g s key).free page).0 (go m.machine.work.session.free h.free w.least)
+  where
+    g : Opening
+    g = opening (view_of m).given
+
+    s : State
+    s = (state (view_of m)).core
+
+    h : Holds (shape m.machine) (view_of m) m.machine.work.session m.machine.work.log
+    h = holds_of (shape m.machine) (view_of m) (here m.machine) m.machine.desks.items ready.sound.desks
+
+    go : (ps : List ℕ) → ps ≡ free_list g s → first_of ps ≡ Some page → Has page (free_list g s)
+    go [] e q = absurd (cc)
+    go (p ∷ ps) e q = subst (λ xs. Has page xs) e (inl (cc))
+
+-- and no other one is asked for behind its coming
+pub not_other : (page frame other : ℕ) (free : List ℕ) → first_of free ≡ Some page → first_of free ≡ Some other → frame_among (Some (record { page = page; frame = frame })) other ≡ None → ⊥
+not_other page frame other free a b none = absurd (some_none frame (sym (ap (λ c. cond c (Some frame) None) (eq-eqb page other same)) ∙ none))
+  where
+    some_same : (p q : ℕ) → Some p ≡ Some q → p ≡ q
+    some_same p q e = cc
+
+    same : page ≡ other
+    same = some_same page other (sym a ∙ b)
+
+    some_none : (p : ℕ) → Some p ≡ None → ⊥
+    some_none p e = absurd (cc)
+
+-- ## Whether the machine works on
+
+abbrev pub HasStepped : {D : Type 0} → (story : D → Story) → (key value : ℕ) → Option Placed → (m n : PagedMachine D) → Result Stepped Unmade → Type 0
+HasStepped story key value placed m n r = Steps r placed (view_of m) (view_of n) key value m.machine.work.session n.machine.work.session m.machine.work.log n.machine.work.log (story m.machine.work.disk) (story n.machine.work.disk) (n.machine.work ≡ m.machine.work)
+
+pub step_works : {D : Type 0} (story : D → Story) (key value : ℕ) (placed : Option Placed) (m n : PagedMachine D) (A : Type 0) (why : Refusal) → HasStepped story key value placed m n (Err (unmade.Refused why)) → works_behind {A = Stepped} (Err (unmade.Refused why)) ≡ is_working {A = A} (Err why)
+step_works story key value placed m n A refusal.TooTall d = refl
+step_works story key value placed m n A refusal.NoPages d = refl
+step_works story key value placed m n A refusal.ClockSpent d = refl
+step_works story key value placed m n A refusal.RowSpent d = refl
+step_works story key value placed m n A refusal.DiskFault d = refl
+step_works story key value placed m n A _ d = absurd d
+
+pub none_lost : {D : Type 0} (story : D → Story) (key value : ℕ) (placed : Option Placed) (m n : PagedMachine D) (made : Unmade) → HasStepped story key value placed m n (Err made) → IsLost made → ⊥
+none_lost story key value placed m n unmade.Lost d lost = d
+none_lost story key value placed m n (unmade.Cold cold) d lost = lost
+none_lost story key value placed m n (unmade.Refused why) d lost = lost
+
+-- ## Behind the coming of a page
+
+module _ (l : Grounds) (residence : EveryResidence) {D : Type 0} (story : D → Story) (lawful : (d : D) → IsLawful (story d)) (key value : ℕ) (m k : PagedMachine D) (ready : IsReady story m) (most : ℕ) (few : most + most_a_step ≤ most_a_round) (gone : HasGone story key most m k) where
+  came : HasMade story key most m k
+  came = made_gone l residence story lawful key most m k gone
+
+  -- a step, where the leaf was full
+  pub into_round : (leaf : ℕ) → IsUnfit (view_of m) key leaf → (n : PagedMachine D) (r : Result Round Refusal) → Rounds story key value most_a_step r k n → Rounds story key value most_a_round r m n
+  into_round leaf unfit n r e = rounds_up story key value (most + most_a_step) most_a_round m n few r
+      (rounds_then l residence story lawful key value most most_a_step m k n came r (λ _. takes_kept story key most m k ready gone.paged (unfit_full key leaf m unfit)) e)
+
+  -- a clock that has come to its end
+  pub stopped_round : (bound : ℕ) → most ≤ bound → IsGoing m → 2 ^ 62 ≤ k.machine.work.session.clock.clock → Rounds story key value bound (Err refusal.ClockSpent) m k
+  stopped_round bound up going spent = record { made = made_up story key most bound m k up came; going = going_gone story key most m k ready gone.paged going; spent = spent }
+
+-- so few events has the coming of one page
+pub level_few : {D : Type 0} (story : D → Story) (m : PagedMachine D) → IsReady story m → most_a_level m.machine.work.session.workers + most_a_step ≤ most_a_round
+level_few story m ready = let w = (holds_of (shape m.machine) (view_of m) (here m.machine) m.machine.desks.items ready.sound.desks).rows.most in omega arith
+
+-- and that of a way
+pub way_few : {D : Type 0} (story : D → Story) (m : PagedMachine D) → IsReady story m → 9 * most_a_level m.machine.work.session.workers + most_a_step ≤ most_a_round
+way_few story m ready = let w = (holds_of (shape m.machine) (view_of m) (here m.machine) m.machine.desks.items ready.sound.desks).rows.most in omega arith
+
+-- a refusal of a put, by which its last round is refused
+pub never_grown : (why : Refusal) (P : Type 0) → IsGrownRound (Err why) → P
+never_grown why P e = absurd e
+
+pub put_grown : (r : Result (Option ℕ) Refusal) (P : Type 0) → IsGrownRound (round_of r) → P
+put_grown (Ok before) P e = absurd e
+put_grown (Err why) P e = absurd e
+
+-- no other page is wanted behind the coming of this one
+pub stuck : {D : Type 0} (story : D → Story) (key value page frame : ℕ) (m k n : PagedMachine D) → IsWanted key page m → k.machine.work.session.free ≡ m.machine.work.session.free → (step : Stepped) (other : ℕ) → step ≡ stepped.Needs other
+    → HasStepped story key value (Some (record { page = page; frame = frame })) k n (Ok step) → ⊥
+stuck story key value page frame m k n w free step other is d = not_other page frame other k.machine.work.session.free (ap first_of free ∙ w.least) e.0.needed.least e.0.needed.other
+  where
+    e : HasStepped story key value (Some (record { page = page; frame = frame })) k n (Ok (stepped.Needs other))
+    e = subst (λ (q : Stepped). HasStepped story key value (Some (record { page = page; frame = frame })) k n (Ok q)) is d
+
+-- a step that came out so
+pub stepped_as : {D : Type 0} (story : D → Story) (key value : ℕ) (placed : Option Placed) (m n : PagedMachine D) (a b : Stepped) → a ≡ b → HasStepped story key value placed m n (Ok a) → HasStepped story key value placed m n (Ok b)
+stepped_as story key value placed m n a b e d = subst (λ (q : Stepped). HasStepped story key value placed m n (Ok q)) e d
+
+-- ## Where a page is needed
+
+needs_of : {D : Type 0} (story : D → Story) (key value : ℕ) (placed : Option Placed) (m n : PagedMachine D) (step : Stepped) (page : ℕ) → step ≡ stepped.Needs page → HasStepped story key value placed m n (Ok step) → HasStepped story key value placed m n (Ok (stepped.Needs page))
+needs_of story key value placed m n step page is d = stepped_as story key value placed m n step (stepped.Needs page) is d
+
+-- nothing was done
+pub needs_still : {D : Type 0} (story : D → Story) (key value : ℕ) (placed : Option Placed) (m n : PagedMachine D) (step : Stepped) (page : ℕ) → step ≡ stepped.Needs page → IsAside m n → HasStepped story key value placed m n (Ok step) → IsStill story m n
+needs_still story key value placed m n step page is a d = let e = needs_of story key value placed m n step page is d in still_cold story m n a e.0.needed.given e.0.needed.seen e.1
+
+-- the leaf is full, and this page comes next
+pub met_needs : {D : Type 0} (story : D → Story) (key value : ℕ) (placed : Option Placed) (m n : PagedMachine D) (step : Stepped) (page : ℕ) → step ≡ stepped.Needs page → HasStepped story key value placed m n (Ok step) → IsWanted key page n
+met_needs story key value placed m n step page is d =
+    let e = needs_of story key value placed m n step page is d in record {
+      leaf = e.0.leaf;
+      unfit = e.0.unfit;
+      fits = (λ i. room_refusal (opening (e.0.needed.given i)) (after_all (e.0.needed.given i) (e.0.needed.seen i)).core key) ∙ e.0.needed.fits;
+      least = ap (λ (k : Work _). first_of k.session.free) e.1 ∙ e.0.needed.least;
+    }
+
+-- and it may be put there still
+pub may_same_put : {D : Type 0} (story : D → Story) (key : ℕ) (m u : PagedMachine D) → IsStill story m u → MayPut key m → MayPut key u
+may_same_put story key m u s f = record {
+  is_open = ap (λ (x : Session). x.is_open) s.session ∙ f.is_open;
+  whole = ap (λ (x : Session). x.is_half_aborted) s.session ∙ f.whole;
+  few = subst (λ (x : Session). length x.undo < 64) (sym s.session) f.few;
+  room = subst (λ (q : Log × ℕ). HasRoomToStage q.0 (suc q.1)) (λ i. (sym s.beside.log i, room_takes (opening (sym s.given i)) (after_all (sym s.given i) (sym s.seen i)).core key)) f.room;
+  row = (λ i. is_held_by ((after_all (s.given i) (s.seen i)).core.row (key % (s.session i).held.count)).holder (s.session i).own) ∙ f.row;
+}
+
+pub warm_same : {D : Type 0} (story : D → Story) (key : ℕ) (m u : PagedMachine D) → IsStill story m u → IsWarm (pages m) key 0 → IsWarm (pages u) key 0
+warm_same story key m u s w = subst (λ (q : Given × Moment). IsWarmFrom (opening q.0) q.1.core key 0) (λ i. (sym s.given i, after_all (sym s.given i) (sym s.seen i))) w
+
+-- so it goes on from there
+pub rounds_from : (l : Grounds) (residence : EveryResidence) {D : Type 0} (story : D → Story) (lawful : (d : D) → IsLawful (story d)) (key value most : ℕ) (m u n : PagedMachine D) → IsStill story m u → (r : Result Round Refusal) → Rounds story key value most r u n → Rounds story key value most r m n
+rounds_from l residence story lawful key value most m u n s r e = rounds_up story key value (0 + most) most m n (omega arith) r (rounds_then l residence story lawful key value 0 most m u n (made_none l residence story lawful key m u s) r
+    (λ _. let q : room_takes (opening (view_of u).given) (state (view_of u)).core key ≡ room_takes (opening (view_of m).given) (state (view_of m)).core key = (λ i. room_takes (opening (s.given i)) (after_all (s.given i) (s.seen i)).core key) in omega arith) e)
+
+-- a round that came out so
+pub round_as : {D : Type 0} (story : D → Story) (key value most : ℕ) (m n : PagedMachine D) (a b : Round) → a ≡ b → Rounds story key value most (Ok a) m n → Rounds story key value most (Ok b) m n
+round_as story key value most m n a b e d = subst (λ (q : Round). Rounds story key value most (Ok q) m n) e d
