@@ -1,0 +1,366 @@
+-- A begin in every run.
+use Rattle.std.proofs.Common.{◌≡◌, ◌∙◌, ◌≤◌, ◌<◌, ◌^◌, ◌⊎◌, ◌↔◌, inl, inr, ◌++◌, ℕ, leb, Bool, true, false, cond, List, [], length, Option, Some, None, Result, Ok, Err, IfOk, IfErr, IsErr, ap, refl, sym, subst, arith, append-nil, true≢false}
+use Rattle.map_model.specs.Lists.{keep}
+use Rattle.map_model.specs.declared.call.Answer.TheVariants as answer
+use Rattle.map_model.specs.declared.call.Call.TheVariants as call
+use Rattle.map_model.specs.declared.call.Refusal.{Refusal}
+use Rattle.map_model.specs.declared.call.Refusal.TheVariants as refusal
+use Rattle.core_calls.specs.Fronts.{Done, front}
+use Rattle.core_calls.specs.LogEvents.{Prepares, PreparesBy, is_log}
+use Rattle.core_calls.specs.Steps.{is_step, is_structure}
+use Rattle.core_state.specs.Openings.{Opening}
+use Rattle.core_state.specs.States.{State}
+use Rattle.core_state.specs.Steps.{state_after}
+use Rattle.disk_runs.specs.MasterLaws.{raised}
+use Rattle.engine_calls.specs.Answers.{EveryAnswer}
+use Rattle.engine_calls.specs.Clauses.{EveryComing}
+use Rattle.engine_calls.specs.Parts.{behind_first}
+use Rattle.engine_trait.specs.Calls.{IsTold, MayCome, is_half_done}
+use Rattle.engine_trait.specs.Limits.{limits}
+use Rattle.engine_trait.specs.Refusals.{log_refusal, refusal_in}
+use Rattle.engine_trait.specs.Rooms.{needs_sync}
+use Rattle.lean_disk.specs.Faults.{HasCause}
+use Rattle.lean_disk.specs.Story.{IsLawful, Story}
+use Rattle.row_words.specs.Moments.{events_of}
+use Rattle.rows_trait.specs.Views.{state}
+use Rattle.row_ends.proofs.BeginLemmas.{begin_comes, begin_told, test_is}
+use Rattle.row_ends.specs.Tests.{begin_test}
+use Rattle.session_state.specs.Holds.{Holds, IsOf}
+use Rattle.session_state.specs.Syncs.{flushed_of}
+use Rattle.session_state.specs.declared.session.Session.{Session}
+use Rattle.session_desks.proofs.DeskLemmas.{desk_own}
+use Rattle.session_desks.proofs.SeatLemmas.{holds_of, turn_high, turn_low}
+use Rattle.session_desks.specs.Desks.{desk_of}
+use Rattle.session_desks.specs.Parts.{AreAsMany, here, shape}
+use Rattle.session_desks.specs.declared.desk.Desk.{Desk}
+use Rattle.worker_log.specs.Logs.{Log, limit, used}
+use Rattle.call_parts.proofs.RunLemmas.{core_is, front_is}
+use Rattle.call_parts.proofs.StepLemmas.{every_step}
+use Rattle.paged_desks.specs.Calls as calls
+use Rattle.paged_desks.specs.Calls.{AreHalf, CallDoes, DoesTied, Tied}
+use Rattle.paged_desks.specs.Machines.{IsReady, memory, view_of}
+use Rattle.paged_desks.specs.Pages.{IsKept}
+use Rattle.paged_desks.specs.Syncs.{IsSynced}
+use Rattle.paged_desks.specs.declared.machine.PagedMachine.{PagedMachine}
+use Rattle.paged_desks.proofs.EndingLemmas.{Grounds}
+use Rattle.paged_desks.proofs.Moments.{length_events}
+use Rattle.paged_ends.proofs.BeginRuns.{Comes, at_p, began, not_begun}
+use Rattle.paged_ends.proofs.StayLemmas.{begin_by, limit_of, stays_closed, used_of}
+use Rattle.paged_ends.proofs.SyncEvents.{sync_logs, sync_none}
+use Rattle.paged_ends.proofs.SyncLemmas.{few_events}
+use Rattle.call_parts.specs.Deeds.{Fails}
+use Rattle.call_parts.specs.Memory.{Memory}
+use Rattle.paged_desks.proofs.StandLemmas.{memory_is}
+use Rattle.paged_ends.proofs.BeginStands.{same_begun}
+use Rattle.paged_ends.specs.Ends.{KeepsFlushed, OnBegin, begin_answer}
+use Rattle.paged_ends.specs.Pieces.{HasBegun}
+
+-- where a script is told of it, no disk failed
+pub comes_told : (d f n : Type 0) (why : Refusal) → IsTold why → d → calls.Comes (answer.Refused why) d f n
+comes_told d f n refusal.InTransaction t x = x
+comes_told d f n refusal.NoTransaction t x = x
+comes_told d f n refusal.TooLong t x = x
+comes_told d f n (refusal.LogFull u k) t x = x
+comes_told d f n refusal.ClockSpent t x = x
+comes_told d f n refusal.RowSpent t x = x
+comes_told d f n refusal.TooTall t x = x
+comes_told d f n refusal.NoPages t x = x
+comes_told d f n _ t x = absurd t
+
+some_is : (r q : Refusal) → Some r ≡ Some q → r ≡ q
+some_is r q e = cc
+
+none_is : (r : Refusal) → None ≡ Some r → ⊥
+none_is r e = absurd (cc)
+
+-- nothing is due where few ends wait
+by_nothing : (b : Bool) → b ≡ false → PreparesBy false b []
+by_nothing false q = refl
+by_nothing true q = absurd (true≢false q)
+
+-- of a machine what is so of its session in a run
+module _ (l : Grounds) {D : Type 0} (story : D → Story) (p : PagedMachine D) (ready : IsReady story p) where
+  held : Holds (shape p.machine) (view_of p) p.machine.work.session p.machine.work.log
+  held = holds_of (shape p.machine) (view_of p) (here p.machine) p.machine.desks.items ready.sound.desks
+
+  pub low_own : 0 < p.machine.work.session.own
+  low_own = turn_low (shape p.machine) (view_of p) (here p.machine) p.machine.desks.items ready.sound.desks
+
+  pub high_own : p.machine.work.session.own ≤ p.machine.work.session.workers
+  high_own = turn_high (shape p.machine) (view_of p) (here p.machine) p.machine.desks.items ready.sound.desks
+
+  pub log_own : (memory p).log p.machine.work.session.own ≡ p.machine.work.log
+  log_own = ap (λ (d : Desk). d.log) (desk_own (here p.machine) p.machine.desks.items p.machine.work.session.own refl)
+
+  pub of_core : (s : State) → (state (view_of p)).core ≡ s → IsOf p.machine.work.session (s.worker p.machine.work.session.own)
+  of_core s e = subst (λ (k : State). IsOf p.machine.work.session (k.worker p.machine.work.session.own)) e held.session
+
+module _ (l : Grounds) (answers : EveryAnswer) (coming : EveryComing) {D : Type 0} (story : D → Story) (lawful : (d : D) → IsLawful (story d)) (m : PagedMachine D) (ready : IsReady story m) where
+  abbrev x : Session
+  x = m.machine.work.session
+
+  abbrev own : ℕ
+  own = x.own
+
+  -- ## No sync came
+
+  nothing : Comes story m m []
+  nothing = record {
+    part = let st = story m.machine.work.disk in (every_step l.reached l.needs l.versions l.kept l.prefixes l.seals st st (lawful m.machine.work.disk) x.workers (view_of m) (view_of m) (memory m)).none;
+    steps = refl;
+    structure = refl;
+    few = omega arith;
+    turn = refl;
+    same = (refl, refl);
+    halves = λ w lo hi. refl;
+  }
+
+  module _ (is_long : Bool) (due : is_long ≡ true → x.is_open ≡ true) (g : Opening) (xs : List Done) (many : g.workers ≡ x.workers) (tied : Tied g x.group xs (view_of m) (memory m)) (halves : AreHalf g.workers xs m.machine) (may : OnBegin own is_long g xs) where
+    abbrev s : State
+    s = state_after g (front xs)
+
+    core_m : (state (view_of m)).core ≡ s
+    core_m = core_is l.reached l.needs g xs [] (view_of m) (at_p l answers coming story lawful m m g xs many tied halves may.0 [] nothing (low_own l story m ready) (high_own l story m ready))
+
+    of_s : IsOf x (s.worker own)
+    of_s = of_core l story m ready s core_m
+
+    test_in : (log : Log) → begin_test x log ≡ refusal_in g s own (is_half_done own xs) log call.Begin
+    test_in log = test_is g s (is_half_done own xs) x log ready.works of_s
+
+    prepares : (s.worker own).is_open ≡ false → Prepares limits g xs own []
+    prepares shut = by_nothing (needs_sync g xs own call.Begin) (may.1 ∙ not_long is_long refl)
+      where
+        not_long : (b : Bool) → is_long ≡ b → is_long ≡ false
+        not_long false e = e
+        not_long true e = absurd (true≢false (sym (due e) ∙ (sym of_s.is_open ∙ shut)))
+
+    begun_now : (n : PagedMachine D) → IsReady story n → (number : ℕ) → HasBegun m n number → DoesTied g x.group xs own call.Begin (answer.Begun number) (memory m) n (story m.machine.work.disk) (story n.machine.work.disk)
+    begun_now n ready_n number b = began l answers coming story lawful m m g xs many tied halves may.0 [] nothing (low_own l story m ready) (high_own l story m ready) n ready ready_n number b
+        (prepares (of_s.is_open ∙ closed)) (λ q e. none_is q (sym none ∙ (sym (λ i. refusal_in g s own (is_half_done own xs) (log_own l story m ready i) call.Begin) ∙ e)))
+      where
+        none : refusal_in g s own (is_half_done own xs) m.machine.work.log call.Begin ≡ None
+        none = sym (test_in m.machine.work.log) ∙ b.free
+
+        closed : x.is_open ≡ false
+        closed = open_case x.is_open ((λ i. cond (sym ready.works i) (cond x.is_open (Some refusal.InTransaction) (log_refusal x.clock.clock m.machine.work.log None)) (Some refusal.Broken)) ∙ b.free)
+          where
+            open_case : (b : Bool) → cond b (Some refusal.InTransaction) (log_refusal x.clock.clock m.machine.work.log None) ≡ None → b ≡ false
+            open_case false e = refl
+            open_case true e = absurd (none_is refusal.InTransaction (sym e))
+
+    refused_now : (why : Refusal) → begin_test x m.machine.work.log ≡ Some why → DoesTied g x.group xs own call.Begin (answer.Refused why) (memory m) m (story m.machine.work.disk) (story m.machine.work.disk)
+    refused_now why e = not_begun l answers coming story lawful m m g xs many tied halves may.0 [] nothing (low_own l story m ready) (high_own l story m ready) ready m.machine.work.log why (sym (test_in m.machine.work.log) ∙ e)
+        ((λ i. refusal_in g (state_after g (append-nil (front xs) i)) own (is_half_done own xs) (log_own l story m ready i) call.Begin) ∙ (sym (test_in m.machine.work.log) ∙ e))
+        (λ q k. some_is why q (sym e ∙ (test_in m.machine.work.log ∙ ((λ i. refusal_in g s own (is_half_done own xs) (sym (log_own l story m ready) i) call.Begin) ∙ k))))
+        prepares (λ _. refl)
+
+    pub at_once : (n : PagedMachine D) (r : Result ℕ Refusal) → IsReady story n → IfOk r (HasBegun m n) → IfErr r (λ why. (begin_test x m.machine.work.log ≡ Some why) × (n ≡ m))
+        → calls.Comes (begin_answer r) (DoesTied g x.group xs own call.Begin (begin_answer r) (memory m) n (story m.machine.work.disk) (story n.machine.work.disk)) (Fails g x.group xs own call.Begin (memory m) (story m.machine.work.disk) (story n.machine.work.disk)) (calls.StandsNot g x.group xs (memory m) (story m.machine.work.disk))
+    at_once n (Ok number) ready_n b e = begun_now n ready_n number b
+    at_once n (Err why) ready_n b e = comes_told _ _ _ why (begin_told x m.machine.work.log why ready.works e.0) (subst (λ (k : PagedMachine D). DoesTied g x.group xs own call.Begin (answer.Refused why) (memory m) k (story m.machine.work.disk) (story k.machine.work.disk)) (sym e.1) (refused_now why e.0))
+
+  -- ## Behind a sync
+
+  module _ (closed : x.is_open ≡ false) (order : m.machine.work.log.head ≤ m.machine.work.log.next) (p : PagedMachine D) (at : ℕ) (made : IsSynced story m p at) (ready_p : IsReady story p) where
+    synced : Comes story m p made.events
+    synced = record {
+      part = made.part;
+      steps = sync_none is_step at (events_of made.events) (λ _ _. refl) refl made.sync;
+      structure = sync_none is_structure at (events_of made.events) (λ _ _. refl) refl made.sync;
+      few = few_events story m ready (length made.events) made.few;
+      turn = made.turn;
+      same = made.same;
+      halves = λ w lo hi. ap (λ (k : Session). k.is_half_aborted) (made.sessions w lo hi).session;
+    }
+
+    abbrev y : Session
+    y = p.machine.work.session
+
+    -- of the session that has the turn
+    kept : IsKept x y
+    kept = subst (λ (d : Desk). IsKept x d.session) (desk_own (here p.machine) p.machine.desks.items own (sym made.turn))
+        (subst (λ (d : Desk). IsKept d.session (desk_of (here p.machine) p.machine.desks.items own).session) (desk_own (here m.machine) m.machine.desks.items own refl) (made.sessions own (low_own l story m ready) (high_own l story m ready)))
+
+    pub shut : y.is_open ≡ false
+    shut = ap (λ (k : Session). k.is_open) kept.session ∙ closed
+
+    log_is : p.machine.work.log ≡ raised (flushed_of m.machine.work.log) at
+    log_is = sym (ap (λ (d : Desk). d.log) (desk_own (here p.machine) p.machine.desks.items own (sym made.turn))) ∙ (made.after own (low_own l story m ready) (high_own l story m ready) ∙ ap (λ (k : Log). raised (flushed_of k) at) (log_own l story m ready))
+
+    used_same : used p.machine.work.log ≡ used m.machine.work.log
+    used_same = ap used log_is ∙ used_of m.machine.work.log order
+
+    limit_same : limit p.machine.work.log ≡ limit m.machine.work.log
+    limit_same = ap limit log_is ∙ limit_of m.machine.work.log
+
+    module _ (g : Opening) (xs : List Done) (many : g.workers ≡ x.workers) (tied : Tied g x.group xs (view_of m) (memory m)) (halves : AreHalf g.workers xs m.machine) (may : OnBegin own true g xs) where
+      abbrev s0 : State
+      s0 = state_after g (front xs)
+
+      abbrev s1 : State
+      s1 = behind_first g xs (events_of made.events)
+
+      core_0 : (state (view_of m)).core ≡ s0
+      core_0 = core_is l.reached l.needs g xs [] (view_of m) (at_p l answers coming story lawful m m g xs many tied halves may.0 [] nothing (low_own l story m ready) (high_own l story m ready))
+
+      core_1 : (state (view_of p)).core ≡ s1
+      core_1 = core_is l.reached l.needs g xs (events_of made.events) (view_of p) (at_p l answers coming story lawful m p g xs many tied halves may.0 made.events synced (low_own l story m ready) (high_own l story m ready))
+
+      of_0 : IsOf x (s0.worker own)
+      of_0 = of_core l story m ready s0 core_0
+
+      of_1 : IsOf y (s1.worker own)
+      of_1 = subst (λ (w : ℕ). IsOf y (s1.worker w)) made.turn (of_core l story p ready_p s1 core_1)
+
+      half : Bool
+      half = is_half_done own xs
+
+      test_1 : begin_test y p.machine.work.log ≡ refusal_in g s1 own half p.machine.work.log call.Begin
+      test_1 = test_is g s1 half y p.machine.work.log ready_p.works (of_core l story p ready_p s1 core_1) ∙ ap (λ (w : ℕ). refusal_in g s1 w half p.machine.work.log call.Begin) made.turn
+
+      -- the log was as full before
+      log_kept : refusal_in g s1 own half ((memory m).log own) call.Begin ≡ refusal_in g s1 own half p.machine.work.log call.Begin
+      log_kept = (λ i. refusal_in g s1 own half (log_own l story m ready i) call.Begin)
+          ∙ (ap (λ (u : ℕ). begin_by s1 own u (limit m.machine.work.log)) (sym used_same) ∙ ap (λ (k : ℕ). begin_by s1 own (used p.machine.work.log) k) (sym limit_same))
+
+      stays : (q : Refusal) → refusal_in g s0 own half ((memory m).log own) call.Begin ≡ Some q → begin_test y p.machine.work.log ≡ Some q
+      stays q e = test_1 ∙ stays_closed (s0.worker own).clock (s1.worker own).clock m.machine.work.log p.machine.work.log (s0.worker own).is_open (s1.worker own).is_open (of_0.is_open ∙ closed) (of_1.is_open ∙ (ap (λ (k : Session). k.is_open) kept.session ∙ closed))
+          used_same limit_same (let a = of_0.clock in let b = of_1.clock in let c = kept.clock in omega arith) q ((λ i. refusal_in g s0 own half (sym (log_own l story m ready) i) call.Begin) ∙ e)
+
+      prepared : Prepares limits g xs own (keep is_log (events_of made.events))
+      prepared = subst (λ (b : Bool). PreparesBy false b (keep is_log (events_of made.events))) (sym may.1) (at, sync_logs at (events_of made.events) made.sync)
+
+      begun_behind : (n : PagedMachine D) → IsReady story n → (number : ℕ) → HasBegun p n number → DoesTied g x.group xs own call.Begin (answer.Begun number) (memory m) n (story m.machine.work.disk) (story n.machine.work.disk)
+      begun_behind n ready_n number b = began l answers coming story lawful m p g xs many tied halves may.0 made.events synced (low_own l story m ready) (high_own l story m ready) n ready_p ready_n number b prepared
+          (λ q e. none_is q (sym b.free ∙ stays q e))
+
+      refused_behind : (why : Refusal) → begin_test y p.machine.work.log ≡ Some why → DoesTied g x.group xs own call.Begin (answer.Refused why) (memory m) p (story m.machine.work.disk) (story p.machine.work.disk)
+      refused_behind why e = not_begun l answers coming story lawful m p g xs many tied halves may.0 made.events synced (low_own l story m ready) (high_own l story m ready) ready_p p.machine.work.log why (sym test_1 ∙ e)
+          (ap (λ (k : State). refusal_in g k own half ((memory m).log own) call.Begin) (front_is g xs (events_of made.events)) ∙ (log_kept ∙ (sym test_1 ∙ e)))
+          (λ q k. some_is why q (sym e ∙ stays q k)) (λ _. prepared) (λ h. absurd (true≢false (sym h ∙ (of_1.is_open ∙ (ap (λ (k : Session). k.is_open) kept.session ∙ closed)))))
+
+      pub behind_sync : (n : PagedMachine D) (r : Result ℕ Refusal) → IsReady story n → IfOk r (HasBegun p n) → IfErr r (λ why. (begin_test y p.machine.work.log ≡ Some why) × (n ≡ p))
+          → calls.Comes (begin_answer r) (DoesTied g x.group xs own call.Begin (begin_answer r) (memory m) n (story m.machine.work.disk) (story n.machine.work.disk)) (Fails g x.group xs own call.Begin (memory m) (story m.machine.work.disk) (story n.machine.work.disk)) (calls.StandsNot g x.group xs (memory m) (story m.machine.work.disk))
+      behind_sync n (Ok number) ready_n b e = begun_behind n ready_n number b
+      behind_sync n (Err why) ready_n b e = comes_told _ _ _ why (begin_told y p.machine.work.log why ready_p.works e.0) (subst (λ (k : PagedMachine D). DoesTied g x.group xs own call.Begin (answer.Refused why) (memory m) k (story m.machine.work.disk) (story k.machine.work.disk)) (sym e.1) (refused_behind why e.0))
+
+-- ## What is told, and what stays the same
+
+begin_open : (x : Session) (log : Log) → begin_test x log ≡ None → x.works ≡ true
+begin_open x log e = go x.works refl e
+  where
+    go : (b : Bool) → x.works ≡ b → cond b (cond x.is_open (Some refusal.InTransaction) (log_refusal x.clock.clock log None)) (Some refusal.Broken) ≡ None → x.works ≡ true
+    go true q k = q
+    go false q k = absurd (none_is refusal.Broken (sym k))
+
+-- where the machine works, a test that refuses is told of
+begin_where : (x : Session) (log : Log) (why : Refusal) → begin_test x log ≡ Some why → ((x.works ≡ true) × IsTold why) ⊎ ((x.works ≡ false) × (why ≡ refusal.Broken))
+begin_where x log why e = go x.works refl
+  where
+    go : (b : Bool) → x.works ≡ b → ((x.works ≡ true) × IsTold why) ⊎ ((x.works ≡ false) × (why ≡ refusal.Broken))
+    go true q = inl (q, begin_told x log why q e)
+    go false q = inr (q, sym (some_is _ why ((λ i. cond (sym q i) (cond x.is_open (Some refusal.InTransaction) (log_refusal x.clock.clock log None)) (Some refusal.Broken)) ∙ e)))
+
+told_works : (why : Refusal) → IsTold why → calls.works_behind {A = ℕ} (Err why) ≡ true
+told_works refusal.InTransaction t = refl
+told_works refusal.NoTransaction t = refl
+told_works refusal.TooLong t = refl
+told_works (refusal.LogFull u k) t = refl
+told_works refusal.ClockSpent t = refl
+told_works refusal.RowSpent t = refl
+told_works refusal.TooTall t = refl
+told_works refusal.NoPages t = refl
+told_works _ t = absurd t
+
+told_may : (why : Refusal) → IsTold why → MayCome 1 why
+told_may refusal.InTransaction t = tt
+told_may refusal.NoTransaction t = tt
+told_may refusal.TooLong t = tt
+told_may (refusal.LogFull u k) t = tt
+told_may refusal.ClockSpent t = tt
+told_may refusal.RowSpent t = tt
+told_may refusal.TooTall t = tt
+told_may refusal.NoPages t = tt
+told_may _ t = absurd t
+
+-- where no transaction is open, its log or its clock refuses it
+late_by : (a b : Bool) (u k : ℕ) (why : Refusal) → cond a (Some (refusal.LogFull u k)) (cond b (Some refusal.ClockSpent) None) ≡ Some why → (why ≡ refusal.InTransaction) ⊎ (why ≡ refusal.RowSpent) → ⊥
+late_by true b u k why e (inl q) = absurd (cc)
+late_by true b u k why e (inr q) = absurd (cc)
+late_by false true u k why e (inl q) = absurd (cc)
+late_by false true u k why e (inr q) = absurd (cc)
+late_by false false u k why e q = none_is why e
+
+test_late : (x : Session) (log : Log) → x.works ≡ true → x.is_open ≡ false → (why : Refusal) → begin_test x log ≡ Some why → (why ≡ refusal.InTransaction) ⊎ (why ≡ refusal.RowSpent) → ⊥
+test_late x log works closed why e = late_by (leb (limit log) (used log)) (leb (2 ^ 62) x.clock.clock) (used log) (limit log) why
+    ((λ i. cond (sym works i) (cond (sym closed i) (Some refusal.InTransaction) (log_refusal x.clock.clock log None)) (Some refusal.Broken)) ∙ e)
+
+err_is : (a b : Refusal) → ◌≡◌ {A = Result ℕ Refusal} (Err a) (Err b) → a ≡ b
+err_is a b e = cc
+
+ok_err : (a : ℕ) (b : Refusal) → ◌≡◌ {A = Result ℕ Refusal} (Ok a) (Err b) → ⊥
+ok_err a b e = absurd (cc)
+
+module _ {D : Type 0} (m n : PagedMachine D) where
+  abbrev Turned : Refusal → Type 0
+  Turned why = (begin_test m.machine.work.session m.machine.work.log ≡ Some why) × (n ≡ m)
+
+  pub begun_same : (r : Result ℕ Refusal) → IfErr r Turned → IsErr r → n ≡ m
+  begun_same (Ok a) e i = absurd (true≢false (sym i))
+  begun_same (Err why) e i = e.1
+
+  pub begun_disk : (r : Result ℕ Refusal) → IfOk r (HasBegun m n) → IfErr r Turned → n.machine.work.disk ≡ m.machine.work.disk
+  begun_disk (Ok a) b e = b.beside.disk
+  begun_disk (Err why) b e = ap (λ (k : PagedMachine D). k.machine.work.disk) e.1
+
+  pub begun_fault : (r : Result ℕ Refusal) → IfErr r Turned → r ≡ Err refusal.DiskFault → ⊥
+  begun_fault (Ok a) e q = ok_err a refusal.DiskFault q
+  begun_fault (Err why) e q = elim (begin_where m.machine.work.session m.machine.work.log why e.0) [ inl t ↦ subst IsTold (err_is why refusal.DiskFault q) t.1 | inr t ↦ differs (sym t.1 ∙ err_is why refusal.DiskFault q) ]
+    where
+      differs : refusal.Broken ≡ refusal.DiskFault → ⊥
+      differs k = absurd (cc)
+
+  pub begun_works : (r : Result ℕ Refusal) → IfOk r (HasBegun m n) → IfErr r Turned → n.machine.work.session.works ≡ m.machine.work.session.works → n.machine.work.session.works ≡ calls.works_behind r
+  begun_works (Ok a) b e same = same ∙ begin_open m.machine.work.session m.machine.work.log b.free
+  begun_works (Err why) b e same = same ∙ elim (begin_where m.machine.work.session m.machine.work.log why e.0) [ inl t ↦ t.0 ∙ sym (told_works why t.1) | inr t ↦ t.0 ∙ ap (λ (k : Refusal). calls.works_behind {A = ℕ} (Err k)) (sym t.1) ]
+
+  pub begun_comes : (r : Result ℕ Refusal) → IfErr r Turned → IfErr r (λ why. MayCome 1 why ⊎ calls.EndsWork why)
+  begun_comes (Ok a) e = tt
+  begun_comes (Err why) e = elim (begin_where m.machine.work.session m.machine.work.log why e.0) [ inl t ↦ inl (told_may why t.1) | inr t ↦ inr (ap calls.ends_work t.1) ]
+
+  pub begun_broken : (r : Result ℕ Refusal) → IfOk r (HasBegun m n) → IfErr r Turned → (r ≡ Err refusal.Broken) ↔ (m.machine.work.session.works ≡ false)
+  begun_broken (Ok a) b e = ((λ q. absurd (ok_err a refusal.Broken q)), (λ q. absurd (true≢false (sym (begin_open m.machine.work.session m.machine.work.log b.free) ∙ q))))
+  begun_broken (Err why) b e = elim (begin_where m.machine.work.session m.machine.work.log why e.0) [
+    | inl t ↦ ((λ q. absurd (subst IsTold (err_is why refusal.Broken q) t.1)), (λ q. absurd (true≢false (sym t.0 ∙ q))))
+    | inr t ↦ ((λ q. t.0), (λ q. ap (λ (k : Refusal). Err k) t.1))
+  ]
+
+  pub begun_late : m.machine.work.session.works ≡ true → m.machine.work.session.is_open ≡ false → (r : Result ℕ Refusal) → IfErr r Turned → (r ≡ Err refusal.InTransaction) ⊎ (r ≡ Err refusal.RowSpent) → ⊥
+  begun_late works closed (Ok a) e (inl q) = ok_err a refusal.InTransaction q
+  begun_late works closed (Ok a) e (inr q) = ok_err a refusal.RowSpent q
+  begun_late works closed (Err why) e (inl q) = test_late m.machine.work.session m.machine.work.log works closed why e.0 (inl (err_is why refusal.InTransaction q))
+  begun_late works closed (Err why) e (inr q) = test_late m.machine.work.session m.machine.work.log works closed why e.0 (inr (err_is why refusal.RowSpent q))
+
+-- a sync is due, so what refuses it before one is not its answer
+pub same_none : (is_long : Bool) → is_long ≡ true → (A B P : Type 0) → (A → ⊥) → (B → ⊥) → (is_long ≡ false) ⊎ (A ⊎ B) → P
+same_none is_long long A B P a b (inl q) = absurd (true≢false (sym long ∙ q))
+same_none is_long long A B P a b (inr (inl q)) = absurd (a q)
+same_none is_long long A B P a b (inr (inr q)) = absurd (b q)
+
+module _ {D : Type 0} (story : D → Story) (m n : PagedMachine D) where
+  pub begun_turn : (r : Result ℕ Refusal) → IfOk r (HasBegun m n) → IfErr r (Turned m n) → n.machine.work.session.own ≡ m.machine.work.session.own
+  begun_turn (Ok a) b e = (same_begun story m n a b.begins).0
+  begun_turn (Err why) b e = ap (λ (k : PagedMachine D). k.machine.work.session.own) e.1
+
+  pub begun_many : (r : Result ℕ Refusal) → IfOk r (HasBegun m n) → IfErr r (Turned m n) → AreAsMany m.machine n.machine
+  begun_many (Ok a) b e = let s = same_begun story m n a b.begins in (s.1, s.2)
+  begun_many (Err why) b e = (ap (λ (k : PagedMachine D). k.machine.work.session.workers) e.1, ap (λ (k : PagedMachine D). k.machine.work.session.group) e.1)
+
+  pub begun_flushed : (r : Result ℕ Refusal) → IfOk r (HasBegun m n) → IfErr r (Turned m n) → KeepsFlushed m n
+  begun_flushed (Ok a) b e w = ap (λ (k : Memory). (k.log w).flushed) (memory_is story m n b.beside (same_begun story m n a b.begins).0)
+  begun_flushed (Err why) b e w = ap (λ (k : PagedMachine D). ((memory k).log w).flushed) e.1
+
+-- a device that was called without a fault, and then was not called
+pub calm_from : (a b c : ℕ) (P Q : Type 0) → HasCause a b P → (P → ⊥) → c ≡ b → (Q → ⊥) → HasCause a c Q
+calm_from a b c P Q h no_p same no_q = record { later = (let x = h.later in omega arith); cause = λ q. absurd (no_q q); calm = λ _. same ∙ h.calm no_p }

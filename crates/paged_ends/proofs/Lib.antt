@@ -1,0 +1,12 @@
+pub mod SyncEvents
+pub mod SpentLemmas
+pub mod SyncLemmas
+pub mod StayLemmas
+pub mod BeginStands
+pub mod BeginRuns
+pub mod BeginLemmas
+pub mod CommitStands
+pub mod CommitRuns
+pub mod CommitPieces
+pub mod CommitLemmas
+pub mod CommitCalls

@@ -1,0 +1,36 @@
+-- A begin, a commit and a sync: where a begin may come, and results as answers.
+use Rattle.std.specs.Prelude.{◌≡◌, ℕ, Bool, List, Result, Ok, Err}
+use Rattle.map_model.specs.declared.call.Answer.{Answer}
+use Rattle.map_model.specs.declared.call.Answer.TheVariants as answer
+use Rattle.map_model.specs.declared.call.Call.TheVariants as call
+use Rattle.map_model.specs.declared.call.Refusal.{Refusal}
+use Rattle.core_state.specs.Openings.{Opening}
+use Rattle.core_calls.specs.Fronts.{Done, outcomes}
+use Rattle.engine_calls.specs.Clauses.{IsNewLine}
+use Rattle.engine_trait.specs.Rooms.{needs_sync}
+use Rattle.row_ends.specs.declared.ending.Ended.{Ended}
+use Rattle.session_desks.specs.Parts.{logs}
+use Rattle.paged_desks.specs.declared.machine.PagedMachine.{PagedMachine}
+use Rattle.worker_log.specs.Logs.{Log}
+
+-- a begin on a new line, where so many ends of the session wait that a sync is due, or not
+abbrev pub OnBegin : (own : ℕ) → (is_long : Bool) → Opening → List Done → Type 0
+OnBegin own is_long g xs = IsNewLine (outcomes xs) × (needs_sync g xs own call.Begin ≡ is_long)
+
+-- each log is flushed as far as it was
+abbrev pub KeepsFlushed : {D : Type 0} → (m n : PagedMachine D) → Type 0
+KeepsFlushed m n = (w : ℕ) → (logs n.machine w).flushed ≡ (logs m.machine w).flushed
+
+-- ## Answers
+
+abbrev pub begin_answer : Result ℕ Refusal → Answer
+begin_answer (Ok number) = answer.Begun number
+begin_answer (Err why) = answer.Refused why
+
+abbrev pub commit_answer : Result Ended Refusal → Answer
+commit_answer (Ok ended) = answer.Committed ended.number ended.at
+commit_answer (Err why) = answer.Refused why
+
+abbrev pub sync_answer : Result ℕ Refusal → Answer
+sync_answer (Ok at) = answer.Synced at
+sync_answer (Err why) = answer.Refused why

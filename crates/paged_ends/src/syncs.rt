@@ -1,0 +1,47 @@
+// A sync of all logs.
+ghost use Rattle.std.specs.Prelude.{◌≡◌, ◌⊎◌, ◌↔◌, IfErr, Err, false};
+ghost use Rattle.map_model.specs.declared.call.Call.TheVariants as call;
+ghost use Rattle.map_model.specs.declared.call.Refusal.{Refusal};
+ghost use Rattle.lean_disk.specs.Faults.{HasCause};
+ghost use Rattle.engine_trait.specs.Calls.{MayCome};
+ghost use Rattle.session_desks.specs.Parts.{AreAsMany, SeatFits, Works};
+ghost use Rattle.paged_desks.specs.Calls.{CallDoes, EndsWork, OnLine, works_behind};
+ghost use Rattle.paged_desks.specs.Machines.{IsReady};
+ghost use Rattle.paged_desks.specs.Parts.{HasHalf};
+ghost use Rattle.paged_ends.specs.Ends.{sync_answer};
+
+use crate::laws::laws;
+use map_model::Refusal;
+use paged_desks::PagedMachine;
+use session_state::Stages;
+use worker_log::DiskFault;
+
+/// Flushes every log, and raises every clock, and what is flushed of every log, to the greatest clock; where some log ends below that, the next master is
+/// written first. The answer is that number. While an abort is half done it is refused, and nothing is done.
+pub fn sync<D: Stages>(machine: &mut PagedMachine<D>) -> Result<u64, Refusal>
+    requires ready { Works machine.old.machine → IsReady D.story machine.old }
+    ensures ready { Works machine.new.machine → IsReady D.story machine.new }
+    ensures fits { SeatFits machine.old.machine → SeatFits machine.new.machine }
+    ensures does { Works machine.old.machine → CallDoes D.story OnLine 0 call.Sync (sync_answer result) machine.old machine.new }
+    ensures same { (result ≡ Err Refusal.Broken) ⊎ (result ≡ Err Refusal.RowSpent) → machine.new ≡ machine.old }
+    ensures session { AreAsMany machine.old.machine machine.new.machine }
+    ensures turn { Works machine.new.machine → machine.new.machine.work.session.own ≡ machine.old.machine.work.session.own }
+    ensures works { machine.new.machine.work.session.works ≡ works_behind result }
+    ensures come { IfErr result (λ why. MayCome 1 why ⊎ EndsWork why) }
+
+    ensures cause_broken { (result ≡ Err Refusal.Broken) ↔ (machine.old.machine.work.session.works ≡ false) }
+    ensures cause_spent { result ≡ Err Refusal.RowSpent → HasHalf machine.old }
+    ensures cause_disk_fault { HasCause (D.faults machine.old.machine.work.disk) (D.faults machine.new.machine.work.disk) (result ≡ Err Refusal.DiskFault) }
+{
+    laws();
+    if !machine.machine.work.session.works {
+        return Err(Refusal::Broken);
+    }
+    if machine.machine.any_half() {
+        return Err(Refusal::RowSpent);
+    }
+    match machine.sync() {
+        Ok(at) => Ok(at),
+        Err(DiskFault) => Err(Refusal::DiskFault),
+    }
+}
