@@ -3,6 +3,7 @@ pub mod OpenMarks
 pub mod BeginLemmas
 pub mod SeenLemmas
 pub mod AbortTracks
+pub mod AbortLemmas
 pub mod DeedLemmas
 pub mod AskLemmas
 pub mod CallLemmas

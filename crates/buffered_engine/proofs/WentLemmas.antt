@@ -1,5 +1,7 @@
 -- What a call left of a machine, from what it said.
-use Rattle.std.proofs.Common.{◌≡◌, ◌⊎◌, inl, inr, ◌↔◌, ℕ, true, false, not, List, Option, Some, None, Result, Ok, Err, IfErr, IfOk, refl, sym, ap, ◌∙◌, subst, true≢false}
+use Rattle.std.proofs.Common.{◌≡◌, ◌⊎◌, inl, inr, ◌↔◌, ℕ, true, false, not, List, ◌∷◌, ◌++◌, Option, Some, None, Result, Ok, Err, IfErr, IfOk, refl, sym, ap, ◌∙◌, subst, true≢false}
+use Rattle.std.proofs.lemmas.List.{append_assoc}
+use Rattle.map_model.proofs.ListLemmas.{has_right}
 use Rattle.map_model.specs.declared.call.Answer.{Answer}
 use Rattle.map_model.specs.declared.call.Answer.TheVariants as answer
 use Rattle.map_model.specs.declared.call.Call.{Call}
@@ -12,18 +14,22 @@ use Rattle.lean_disk.specs.Faults.{HasCause}
 use Rattle.lean_disk.specs.Story.{Story}
 use Rattle.engine_trait.specs.Calls.{MayCome}
 use Rattle.group_commit.specs.declared.receipts.Receipt.{Receipt}
+use Rattle.row_ends.specs.Ends.{gives}
 use Rattle.row_ends.specs.Receipts.{IsEnded}
 use Rattle.row_ends.specs.declared.ending.Ended.{Ended}
+use Rattle.row_words.specs.declared.event.Event.{Event}
+use Rattle.row_words.specs.declared.event.Event.TheVariants.{End}
 use Rattle.rows_trait.specs.declared.view.View.{View}
 use Rattle.session_desks.specs.Parts.{AreAsMany, SeatFits, Works, here, shape}
 use Rattle.session_desks.proofs.SeatLemmas.{holds_of}
 use Rattle.paged_desks.specs.Calls.{CallDoes, EndsWork, ends_work, works_behind}
 use Rattle.paged_desks.specs.Machines.{IsReady, view_of}
 use Rattle.paged_desks.specs.declared.machine.PagedMachine.{PagedMachine}
-use Rattle.paged_calls.specs.Calls.{get_answer, del_answer}
+use Rattle.paged_calls.specs.Calls.{del_answer, get_answer, put_answer}
 use Rattle.paged_ends.specs.Ends.{begin_answer, commit_answer, sync_answer}
 use Rattle.buffered_engine.specs.Calls.{IsTo, MayBe, is_stop}
-use Rattle.buffered_engine.specs.Inside.Asks.{EndsAt, FindsFlushed, IsEndOf, IsEnding, abort_answer, ends_in, put_answer, receipt_in}
+use Rattle.buffered_engine.specs.Inside.Aborts.{HasReceipt, abort_answer}
+use Rattle.buffered_engine.specs.Inside.Asks.{FindsFlushed, IsEndOf, IsEnding, ends_in, receipt_in}
 use Rattle.buffered_engine.specs.Inside.Parts.{MachineWent}
 use Rattle.buffered_engine.specs.Receipts.{IsReceipt, flushed_in}
 use Rattle.buffered_engine.specs.declared.ends.Response.{Response}
@@ -173,10 +179,23 @@ module _ {D : Type 0} (story : D → Story) (m n : PagedMachine D) (ready : Work
   commit_ends (Ok e) works is = end_of own (view_of m) (view_of n) e (answer.Committed e.number e.at)
       (record { flushed = flushed_in (view_of m); was = refl; is = receipt_is works e (flushed_in (view_of m)) is.number is.at is.need }) refl (λ number at q. (cc, cc))
 
-  pub abort_ends : (r : Result Ended Refusal) → n.machine.work.session.works ≡ works_behind r → IfOk r (EndsAt (view_of m) (view_of n) n.machine.work.session) → IsEndOf own (view_of m) (view_of n) (abort_answer r) (receipt_in own r)
+  -- what an abort found flushed
+  finds : (e : Ended) (h : HasReceipt m n e) → FindsFlushed own h.floor (view_of m) (view_of n)
+  finds e h = let ends : List Event = End own false h.floor ∷ gives own h.rows in record {
+    events = h.events ++ ends;
+    given = h.kept;
+    seen = h.ended ∙ (ap (λ (es : List Event). es ++ ends) h.seen ∙ append_assoc (view_of m).seen h.events ends);
+    has = has_right (End own false h.floor) h.events ends (inl refl);
+  }
+
+  pub abort_ends : (r : Result Ended Refusal) → n.machine.work.session.works ≡ works_behind r → IfOk r (HasReceipt m n) → IsEndOf own (view_of m) (view_of n) (abort_answer r) (receipt_in own r)
   abort_ends (Err why) works is = ends_none own (view_of m) (view_of n) (answer.Refused why) refl
   abort_ends (Ok e) works is = end_of own (view_of m) (view_of n) e (answer.Aborted e.number)
-      (record { flushed = is.flushed; was = subst (λ (k : ℕ). FindsFlushed k is.flushed (view_of m) (view_of n)) (turn works) is.found; is = receipt_is works e is.flushed is.number is.at is.need }) refl (λ number at q. absurd (cc))
+      (record {
+        flushed = is.floor;
+        was = finds e is;
+        is = receipt_is works e is.floor is.told.number is.told.at (is.told.need ∙ ap (need_of n.machine.work.session.clock.debt) (sym is.floor_is));
+      }) refl (λ number at q. absurd (cc))
 
 -- ## A call
 

@@ -1,8 +1,9 @@
 // What a call came to, and the end that it may be.
 ghost use Rattle.std.specs.Prelude.{◌≡◌, None};
-ghost use Rattle.paged_calls.specs.Calls.{get_answer, del_answer};
+ghost use Rattle.paged_calls.specs.Calls.{del_answer, get_answer, put_answer};
 ghost use Rattle.paged_ends.specs.Ends.{begin_answer, commit_answer, sync_answer};
-ghost use Rattle.buffered_engine.specs.Inside.Asks.{abort_answer, put_answer, receipt_in};
+ghost use Rattle.buffered_engine.specs.Inside.Aborts.{abort_answer};
+ghost use Rattle.buffered_engine.specs.Inside.Asks.{receipt_in};
 
 use group_commit::Receipt;
 use map_model::{Answer, Refusal};

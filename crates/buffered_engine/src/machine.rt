@@ -53,7 +53,7 @@ pub(crate) fn row_call<D: Stages>(machine: &mut PagedMachine<D>, call: &Call) ->
     let own = machine.machine.work.session.own;
     match *call {
         Call::Get { key } => Response::value(paged_calls::get(machine, key)),
-        Call::Put { key, value } => Response::was(missing::put(machine, key, value)),
+        Call::Put { key, value } => Response::was(paged_calls::put(machine, key, value)),
         Call::Del { key } => Response::was(paged_calls::del(machine, key)),
         _ => Response::committed(own, paged_ends::commit(machine)),
     }

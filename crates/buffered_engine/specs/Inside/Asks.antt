@@ -7,7 +7,6 @@ use Rattle.map_model.specs.declared.call.Answer.TheVariants as answer
 use Rattle.map_model.specs.declared.call.Call.{Call}
 use Rattle.map_model.specs.declared.call.Call.TheVariants as call
 use Rattle.map_model.specs.declared.call.Refusal.{Refusal}
-use Rattle.rfa_model.specs.Stamps.{need_of}
 use Rattle.core_state.specs.Openings.{Opening}
 use Rattle.core_calls.specs.Fronts.{Done}
 use Rattle.core_calls.specs.Steps.{hindered_in}
@@ -22,7 +21,6 @@ use Rattle.group_commit.specs.Ripeness.{flushed_of}
 use Rattle.group_commit.specs.declared.queue.End.{End}
 use Rattle.group_commit.specs.declared.receipts.Receipt.{Receipt}
 use Rattle.row_ends.specs.declared.ending.Ended.{Ended}
-use Rattle.session_state.specs.declared.session.Session.{Session}
 use Rattle.worker_log.specs.Logs.{Log}
 use Rattle.paged_desks.specs.Calls.{OnLine}
 use Rattle.paged_ends.specs.Ends.{OnBegin}
@@ -51,16 +49,6 @@ pub record IsDue (own : ℕ) (c : Call) (g : Opening) (xs : List Done) : Type 0 
   pub hindered : hindered_in newest.outcome.deed ≡ Some c
   pub session : newest.outcome.session ≡ own
 
--- ## Results as answers
-
-abbrev pub put_answer : Result (Option ℕ) Refusal → Answer
-put_answer (Ok was) = answer.Was was
-put_answer (Err why) = answer.Refused why
-
-abbrev pub abort_answer : Result Ended Refusal → Answer
-abort_answer (Ok ended) = answer.Aborted ended.number
-abort_answer (Err why) = answer.Refused why
-
 -- the receipt of an end
 abbrev pub receipt_in : (own : ℕ) → Result Ended Refusal → Option Receipt
 receipt_in own (Ok e) = Some (record { txn = e.number; log = own; gsn = e.at; need = e.need })
@@ -84,15 +72,6 @@ pub record FindsFlushed (own flushed : ℕ) (v w : View) : Type 0 where
   pub given : w.given ≡ v.given
   pub seen : w.seen ≡ v.seen ++ events
   pub has : Has (told.End own false flushed) events
-
--- The number of an aborted transaction and that of its end, as the session has them behind it; and what the end needs: what the session owes other logs, where they
--- were flushed as they were at the end. Behind the begin of the call a sync may have come.
-pub record EndsAt (v w : View) (y : Session) (e : Ended) : Type 0 where
-  pub number : e.number ≡ y.txn
-  pub at : e.at ≡ y.end
-  pub flushed : ℕ
-  pub found : FindsFlushed y.own flushed v w
-  pub need : e.need ≡ need_of y.clock.debt flushed
 
 -- up to which number all logs were flushed where the end was made: before the call where it is a commit, and as an abort found it
 abbrev pub WasFlushed : Answer → (own : ℕ) → (v w : View) → ℕ → Type 0

@@ -1,11 +1,11 @@
 use Rattle.std.proofs.Common.{◌≡◌, None, ℕ, refl}
 use Rattle.map_model.specs.declared.call.Call.{Call}
 use Rattle.map_model.specs.declared.call.Call.TheVariants as call
-use Rattle.paged_calls.specs.Calls.{get_answer, del_answer}
+use Rattle.paged_calls.specs.Calls.{del_answer, get_answer, put_answer}
 use Rattle.paged_desks.specs.Calls.{OnLine}
 use Rattle.paged_desks.specs.Machines.{view_of}
 use Rattle.paged_ends.specs.Ends.{commit_answer}
-use Rattle.buffered_engine.specs.Inside.Asks.{IsRowCall, put_answer, receipt_in}
+use Rattle.buffered_engine.specs.Inside.Asks.{IsRowCall, receipt_in}
 use Rattle.buffered_engine.specs.Inside.Parts.{MachineWent}
 use Rattle.buffered_engine.proofs.WentLemmas.{call_went, commit_ends, commits, dels, dels_none, gets, gets_none, puts, puts_none, told_as}
 use Rattle.buffered_engine.proofs.machine.row_call.Goals as goal
