@@ -150,8 +150,8 @@ module _ {D : Type 0} (reached : EveryReached) (outcome : EveryOutcome) (rises :
     abbrev x : Done
     x = d.does.done
 
-    abbrev t : core.State
-    t = state_after g (front (x ∷ xs))
+    abbrev now : core.State
+    now = state_after g (front (x ∷ xs))
 
     told : EachTells limits g was.group (x ∷ xs)
     told = (d.tied.ties 0).told
@@ -159,8 +159,8 @@ module _ {D : Type 0} (reached : EveryReached) (outcome : EveryOutcome) (rises :
     laws : OutcomeLaws g xs x names ends
     laws = outcome limits g was.group xs x names ends told run.tracks
 
-    worker : (f : core.Worker → ℕ) → f ((state w).core.worker own) ≡ f (t.worker x.outcome.session)
-    worker f = ap (λ (s : core.State). f (s.worker own)) (core_is g was.group (x ∷ xs) w (memory n) d.tied reached) ∙ ap (λ (k : ℕ). f (t.worker k)) (sym d.does.session)
+    worker : (f : core.Worker → ℕ) → f ((state w).core.worker own) ≡ f (now.worker x.outcome.session)
+    worker f = ap (λ (s : core.State). f (s.worker own)) (core_is g was.group (x ∷ xs) w (memory n) d.tied reached) ∙ ap (λ (k : ℕ). f (now.worker k)) (sym d.does.session)
 
     module _ (r : Receipt) (e : receipt ≡ Some r) where
       abbrev i : IsEnding own v w a r
@@ -199,16 +199,16 @@ module _ {D : Type 0} (reached : EveryReached) (outcome : EveryOutcome) (rises :
       by : ends_by x.outcome.deed ≡ Some (is_commit_in a)
       by = ended x a d.does.answer_is (ended_is.some r e)
 
-      pushed_is : (b : Bool) → is_commit_in a ≡ b → Tracks g t names (pushed r b ends)
+      pushed_is : (b : Bool) → is_commit_in a ≡ b → Tracks g now names (pushed r b ends)
       pushed_is true k = laws.ends true (by ∙ ap Some k) (λ q. absurd (true≢false q)) r (commits k)
       pushed_is false k = abort_tracks rises limits g was.group xs x names ends told.1 run.tracks (by ∙ ap Some k) i.flushed (has_end (abort_flushed a own v w i.flushed (ended_is.some r e) k i.was)) r aborts
 
-    tracks : Tracks g t names (put_ends receipt a ends)
+    tracks : Tracks g now names (put_ends receipt a ends)
     tracks = go (came receipt)
       where
-        go : Came receipt → Tracks g t names (put_ends receipt a ends)
-        go (Nothing e) = subst (λ (o : Option Receipt). Tracks g t names (put_ends o a ends)) (sym e) (laws.others (unended x a d.does.answer_is (ended_is.none e)))
-        go (Receipt_is r e) = subst (λ (o : Option Receipt). Tracks g t names (put_ends o a ends)) (sym e) (pushed_is r e (is_commit_in a) refl)
+        go : Came receipt → Tracks g now names (put_ends receipt a ends)
+        go (Nothing e) = subst (λ (o : Option Receipt). Tracks g now names (put_ends o a ends)) (sym e) (laws.others (unended x a d.does.answer_is (ended_is.none e)))
+        go (Receipt_is r e) = subst (λ (o : Option Receipt). Tracks g now names (put_ends o a ends)) (sym e) (pushed_is r e (is_commit_in a) refl)
 
     pub in_run_behind : InRun is g (x ∷ xs) names
     in_run_behind = record {
@@ -216,9 +216,9 @@ module _ {D : Type 0} (reached : EveryReached) (outcome : EveryOutcome) (rises :
       next = subst (λ (k : Next). IsNext k (x ∷ xs)) (sym next_is) (next_behind was.sessions x xs a d.does.answer_is may);
       turn = subst (λ (k : Next). WhereDue k (IsOfTurn is.turn (x ∷ xs))) (sym next_is) (due_behind a (IsOfTurn is.turn (x ∷ xs)) (λ e. d.does.session ∙ sym (turn e)));
       tied = subst (λ (k : ℕ). Tied g k (x ∷ xs) w (memory n)) (sym same.1) d.tied;
-      tracks = subst (λ (qs : List (List End)). Tracks g t names qs) (sym ends_are) tracks;
-      told = subst (λ (k : Next). IsSettled k (due g t names ≡ [])) (sym next_is) tt;
-      settled = subst (λ (k : Next). IsSettled k ((u : ℕ) → 0 < u → u ≤ g.workers → length (queue_of ends_new u) ≡ waiting g t u)) (sym next_is) tt;
+      tracks = subst (λ (qs : List (List End)). Tracks g now names qs) (sym ends_are) tracks;
+      told = subst (λ (k : Next). IsSettled k (due g now names ≡ [])) (sym next_is) tt;
+      settled = subst (λ (k : Next). IsSettled k ((u : ℕ) → 0 < u → u ≤ g.workers → length (queue_of ends_new u) ≡ waiting g now u)) (sym next_is) tt;
     }
 
   -- ## In the run in which it stands
@@ -315,8 +315,8 @@ module _ {D : Type 0} (reached : EveryReached) (outcome : EveryOutcome) (rises :
             let l = r.most in
             durables_room (is_conflict_in a) (second own).session.is_open (length (queue_of (put_ends receipt a ends) own)) (waiting g t own) (omega arith)
             (λ o. elim (cases_Bool (leb 256 (waiting g s own))) [
-              | inl l ↦ inr ((omega arith), none_wait_behind g was.group stood.done y k told_of.1 e (subst (λ (j : ℕ). leb 256 (waiting g s j) ≡ true) (sym d.does.session) l) own)
-              | inr l ↦ inl (let f = leb-false 256 (waiting g s own) l in let z = settled k begun in omega arith)
+              | inl long ↦ inr ((omega arith), none_wait_behind g was.group stood.done y k told_of.1 e (subst (λ (j : ℕ). leb 256 (waiting g s j) ≡ true) (sym d.does.session) long) own)
+              | inr short ↦ inl (let f = leb-false 256 (waiting g s own) short in let z = settled k begun in omega arith)
             ])
         go (Ends e b) =
             let k = subst (λ (p : Answer). ends_in p ≡ true) d.does.answer_is e in

@@ -116,10 +116,10 @@ module _ {D : Type 0} (Did : Type 0) (a : Answer) (was is : State D) (w : Went D
   broken = (λ e. w.broken.0 (is_broken a e), λ f. ap told (w.broken.1 f))
 
 next : {D : Type 0} (a : Answer) (is : State D) → is.works ≡ not (is_stop a) → (is.works ≡ true → is.next ≡ behind_answer a) → IfOk (told a) (λ b. is.next ≡ behind_answer b)
-next (answer.Refused refusal.Broken) is works h = tt
-next (answer.Refused refusal.DiskFault) is works h = tt
-next (answer.Refused (refusal.Damaged area place)) is works h = tt
-next _ is works h = h works
+next (answer.Refused refusal.Broken) is goes h = tt
+next (answer.Refused refusal.DiskFault) is goes h = tt
+next (answer.Refused (refusal.Damaged area place)) is goes h = tt
+next _ is goes h = h goes
 
 -- ## Of a line
 
@@ -131,12 +131,12 @@ module _ {D : Type 0} (story : D → Story) (own : ℕ) (c : Call) (was is : Sta
   does (answer.Refused refusal.Broken) h = tt
   does (answer.Refused refusal.DiskFault) h = tt
   does (answer.Refused (refusal.Damaged area place)) h = tt
-  does _ h g xs names run = let d = h (λ e. absurd (cc)) g xs names run in (d.does, d.in_run)
+  does _ h = λ g xs names run. let d = h (λ e. absurd (cc)) g xs names run in (d.does, d.in_run)
 
   stopped : (a : Answer) → ((a ≡ no_device → ⊥) → Did a) → IfErr (told a) (Stopped story own c was is)
-  stopped (answer.Refused refusal.Broken) h g xs names run = tt
-  stopped (answer.Refused refusal.DiskFault) h g xs names run = h (λ e. absurd (cc)) g xs names run
-  stopped (answer.Refused (refusal.Damaged area place)) h g xs names run = h (λ e. absurd (cc)) g xs names run
+  stopped (answer.Refused refusal.Broken) h = λ g xs names run. tt
+  stopped (answer.Refused refusal.DiskFault) h = λ g xs names run. h (λ e. absurd (cc)) g xs names run
+  stopped (answer.Refused (refusal.Damaged area place)) h = λ g xs names run. h (λ e. absurd (cc)) g xs names run
   stopped _ h = tt
 
   pub line_does : (faults : D → ℕ) (a : Answer) → Asked story own c a was is → HasCause (faults was.disk) (faults is.disk) (a ≡ fault) → LineDoes story faults own c (told a) was is
@@ -162,12 +162,12 @@ module _ {D : Type 0} (story : D → Story) (was is : State D) where
   abort_does (answer.Refused refusal.Broken) h = tt
   abort_does (answer.Refused refusal.DiskFault) h = tt
   abort_does (answer.Refused (refusal.Damaged area place)) h = tt
-  abort_does _ h g y earlier names run c due = let d = h (λ e. absurd (cc)) g y earlier names run c due in (d.does, d.in_run)
+  abort_does _ h = λ g y earlier names run c due. let d = h (λ e. absurd (cc)) g y earlier names run c due in (d.does, d.in_run)
 
   abort_stopped : (a : Answer) → ((a ≡ no_device → ⊥) → Aborts a) → IfErr (told a) (AbortStopped story was is)
-  abort_stopped (answer.Refused refusal.Broken) h g y earlier names run c due = tt
-  abort_stopped (answer.Refused refusal.DiskFault) h g y earlier names run c due = h (λ e. absurd (cc)) g y earlier names run c due
-  abort_stopped (answer.Refused (refusal.Damaged area place)) h g y earlier names run c due = h (λ e. absurd (cc)) g y earlier names run c due
+  abort_stopped (answer.Refused refusal.Broken) h = λ g y earlier names run c due. tt
+  abort_stopped (answer.Refused refusal.DiskFault) h = λ g y earlier names run c due. h (λ e. absurd (cc)) g y earlier names run c due
+  abort_stopped (answer.Refused (refusal.Damaged area place)) h = λ g y earlier names run c due. h (λ e. absurd (cc)) g y earlier names run c due
   abort_stopped _ h = tt
 
   pub hindered_does : (faults : D → ℕ) (a : Answer) → AskedAbort story a was is → MayBe 1 a → HasCause (faults was.disk) (faults is.disk) (a ≡ fault) → HinderedDoes story faults (told a) was is

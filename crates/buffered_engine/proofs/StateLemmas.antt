@@ -50,7 +50,7 @@ module _ {D : Type 0} (reached : EveryReached) (outcome : EveryOutcome) (rises :
   abbrev new : Story
   new = story n.machine.work.disk
 
-  stood : HasRun was
+  abbrev stood : HasRun was
   stood = e.run works
 
   -- ## On a line

@@ -142,9 +142,9 @@ module _ {D : Type 0} (story : D → Story) (session : ℕ) (m n : PagedMachine 
             (subst (λ (q : ℕ × D). StandsNot g q.0 xs (memory n) (story q.1)) (λ i. (t.group i, t.disk i)) x)
 
     -- so it went for whoever asked it
-    pub went_turned : (faults : D → ℕ) (many some : ℕ) (r : Response) (k : PagedMachine D) → (MayBe many r.answer → MayBe some r.answer)
-        → MachineWent story faults (May n.machine.work.session.own) many n.machine.work.session.own c r n k → MachineWent story faults To some session c r m k
-    went_turned faults many some r k told w = record {
+    pub went_turned : (faults : D → ℕ) (few some : ℕ) (r : Response) (k : PagedMachine D) → (MayBe few r.answer → MayBe some r.answer)
+        → MachineWent story faults (May n.machine.work.session.own) few n.machine.work.session.own c r n k → MachineWent story faults To some session c r m k
+    went_turned faults few some r k told w = record {
       does = call_turned r.answer k w.does;
       to = w.to;
       may = told w.may;

@@ -44,11 +44,11 @@ may_be many (refusal.Damaged area place) h = tt
 may_be many _ (inl m) = m
 may_be many _ (inr e) = absurd (true≢false (sym e))
 
-works_still : {T : Type 0} (why : Refusal) → not (ends_work why) ≡ works_behind {A = T} (Err why)
-works_still refusal.Broken = refl
-works_still refusal.DiskFault = refl
-works_still (refusal.Damaged area place) = refl
-works_still _ = refl
+works_still : (T : Type 0) (why : Refusal) → not (ends_work why) ≡ works_behind {A = T} (Err why)
+works_still T refusal.Broken = refl
+works_still T refusal.DiskFault = refl
+works_still T (refusal.Damaged area place) = refl
+works_still T _ = refl
 
 refused_is : (p q : Refusal) → answer.Refused p ≡ answer.Refused q → p ≡ q
 refused_is p q r = cc
@@ -214,7 +214,7 @@ module _ {D T : Type 0} (story : D → Story) (faults : D → ℕ) (May : Openin
 
   stops_is : (r : Result T Refusal) → not (is_stop (f r)) ≡ works_behind r
   stops_is (Ok t) = ap not (k.goes t)
-  stops_is (Err why) = ap (λ (a : Answer). not (is_stop a)) (k.refused why) ∙ works_still why
+  stops_is (Err why) = ap (λ (a : Answer). not (is_stop a)) (k.refused why) ∙ works_still T why
 
   pub call_went : (r : Result T Refusal) → IsReady story m → CallDoes story May own c (f r) m n → IsEndOf own (view_of m) (view_of n) (f r) receipt → (Works n.machine → IsReady story n) → (SeatFits m.machine → SeatFits n.machine) → AreAsMany m.machine n.machine
       → n.machine.work.session.works ≡ works_behind r → IfErr r (λ why. MayCome many why ⊎ EndsWork why) → (r ≡ Err refusal.Broken) ↔ (m.machine.work.session.works ≡ false)
@@ -234,7 +234,7 @@ module _ {D T : Type 0} (story : D → Story) (faults : D → ℕ) (May : Openin
 
 -- it may have come to any number of sessions
 pub went_more : {D : Type 0} (story : D → Story) (faults : D → ℕ) (May : Opening → List Done → Type 0) (own : ℕ) (c : Call) (r : Response) (m n : PagedMachine D) (many : ℕ) → MachineWent story faults May 1 own c r m n → MachineWent story faults May many own c r m n
-went_more story faults May own c r m n many w = record {
+went_more story faults May session c r m n many w = record {
   does = w.does;
   to = w.to;
   may = may_more many r.answer w.may;

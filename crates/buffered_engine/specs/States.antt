@@ -1,5 +1,5 @@
 -- An engine as its callers see it.
-use Rattle.std.specs.Prelude.{◌≡◌, ◌⊎◌, ◌≤◌, ◌<◌, ℕ, Bool, true, List, [], ◌∷◌, length}
+use Rattle.std.specs.Prelude.{◌≡◌, ◌⊎◌, ◌≤◌, ◌<◌, ℕ, Bool, true, false, List, [], ◌∷◌, length}
 use Rattle.page_model.specs.Limits.{waiting_ends}
 use Rattle.map_model.specs.Journals.{Name}
 use Rattle.core_state.specs.Openings.{Opening}
