@@ -12,9 +12,14 @@ use Rattle.buffered_engine.specs.Inside.Calm.{AreSame, IsCalm, calm_behind}
 use Rattle.buffered_engine.proofs.TakeLemmas.{flushed_take}
 
 -- behind a call
-pub calm_put : (calm : Option (List ℕ)) (receipt : Option Receipt) (a : Answer) (logs now : ℕ) (ends : List (List End)) → now ≡ logs → IsCalm calm logs ends → IsCalm (calm_behind calm receipt) now (put_ends receipt a ends)
+calm_put : (calm : Option (List ℕ)) (receipt : Option Receipt) (a : Answer) (logs now : ℕ) (ends : List (List End)) → now ≡ logs → IsCalm calm logs ends → IsCalm (calm_behind calm receipt) now (put_ends receipt a ends)
 calm_put calm None a logs now ends e h = subst (λ (n : ℕ). IsCalm calm n ends) (sym e) h
 calm_put calm (Some r) a logs now ends e h = tt
+
+-- so behind it, by what is in memory then
+pub calm_behind_put : (calm calm_new : Option (List ℕ)) (receipt : Option Receipt) (a : Answer) (logs now : ℕ) (ends ends_new : List (List End)) → calm_new ≡ calm_behind calm receipt → ends_new ≡ put_ends receipt a ends → now ≡ logs → IsCalm calm logs ends → IsCalm calm_new now ends_new
+calm_behind_put calm calm_new receipt a logs now ends ends_new is are e h =
+    subst (λ (o : Option (List ℕ)). IsCalm o now ends_new) (sym is) (subst (λ (qs : List (List End)). IsCalm (calm_behind calm receipt) now qs) (sym are) (calm_put calm receipt a logs now ends e h))
 
 -- the numbers that were taken
 pub same_taken : (logs : ℕ) (numbers : List ℕ) → logs ≤ length numbers → AreSame logs numbers (take logs numbers)

@@ -7,7 +7,7 @@ use Rattle.paged_desks.specs.Machines.{view_of}
 use Rattle.paged_ends.specs.Ends.{commit_answer}
 use Rattle.buffered_engine.specs.Inside.Asks.{IsRowCall, receipt_in}
 use Rattle.buffered_engine.specs.Inside.Parts.{MachineWent}
-use Rattle.buffered_engine.proofs.WentLemmas.{call_went, commit_ends, commits, dels, dels_none, gets, gets_none, puts, puts_none, told_as}
+use Rattle.buffered_engine.proofs.WentLemmas.{call_went, commit_ends, commits, dels, dels_none, gets, gets_none, puts, puts_none, told_as, went_more}
 use Rattle.buffered_engine.proofs.machine.row_call.Goals as goal
 
 pub returns-in-Get-clause-went : goal.returns-in-Get-clause-went
@@ -69,4 +69,5 @@ returns-in_default-clause-went g c =
     let faults = g.D.Disk.faults in
     told_as (λ q t. MachineWent story faults OnLine many own q t m n) c.args.call.now call.Commit c.committed.result (record { answer = commit_answer r; receipt = receipt_in own r })
     (commit_is c.args.call.now c.requires.call c.in_default.not-Get c.in_default.not-Put c.in_default.not-Del) c.committed.ensures
-    (call_went story faults OnLine many own call.Commit commit_answer (commits many) (receipt_in own r) m n r c.requires.ready (e.does c.requires.ready.works) (commit_ends story m n e.ready e.turn r e.works e.receipt) e.ready e.fits e.session e.works e.come e.cause_broken e.cause_disk_fault)
+    (went_more story faults OnLine own call.Commit (record { answer = commit_answer r; receipt = receipt_in own r }) m n many
+    (call_went story faults OnLine 1 own call.Commit commit_answer (commits 1) (receipt_in own r) m n r c.requires.ready (e.does c.requires.ready.works) (commit_ends story m n e.ready e.turn r e.works e.receipt) e.ready e.fits e.session e.works e.come e.cause_broken e.cause_disk_fault))

@@ -1,9 +1,8 @@
 use Rattle.std.proofs.Common.{refl, sym, ap, ◌∙◌, subst, rules}
 use Rattle.buffered_engine.specs.Calls.{AskedAbort}
-use Rattle.buffered_engine.specs.Inside.Calm.{IsCalm}
 use Rattle.buffered_engine.specs.Inside.Parts.{state_by}
 use Rattle.buffered_engine.specs.States.{State}
-use Rattle.buffered_engine.proofs.CalmLemmas.{calm_put}
+use Rattle.buffered_engine.proofs.CalmLemmas.{calm_behind_put}
 use Rattle.buffered_engine.proofs.StateLemmas.{abort_engine, abort_went, room_abort_of}
 use Rattle.buffered_engine.proofs.engine.Engine.ask_abort.Goals as goal
 
@@ -23,8 +22,8 @@ invariant_of-self g c =
     let e = c.abort-response.ensures in (
       abort_engine c.every_reached.ensures c.every_outcome.ensures c.every_rise.ensures g.D.Disk.story g.D.Disk.faults m n c.self.inside.next c.next_behind-self-inside.result c.self.inside.unripe c.put_end.new.unripe (search rules) c.self.invariant.0 c.abort-response.result c.next_behind-self-inside.ensures c.put_end.ensures
           (ap (λ s. s.next) c.self.view_is ∙ c.requires.next) e.turn e.went e.due,
-      subst (λ o. IsCalm o n.machine.work.session.workers c.put_end.new.unripe) (sym c.calm_behind-self-inside.ensures) (subst (λ qs. IsCalm _ n.machine.work.session.workers qs) (sym c.put_end.ensures)
-          (calm_put c.self.inside.calm c.abort-response.result.receipt c.abort-response.result.answer m.machine.work.session.workers n.machine.work.session.workers c.self.inside.unripe e.went.session.0 c.self.invariant.1)),
+      calm_behind_put c.self.inside.calm c.calm_behind-self-inside.result c.abort-response.result.receipt c.abort-response.result.answer m.machine.work.session.workers n.machine.work.session.workers c.self.inside.unripe c.put_end.new.unripe
+          c.calm_behind-self-inside.ensures c.put_end.ensures e.went.session.0 c.self.invariant.1,
     )
 
 pub abort-response-requires-clause-ready : goal.abort-response-requires-clause-ready
