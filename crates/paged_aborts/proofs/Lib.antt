@@ -2,6 +2,7 @@ pub mod BackEvents
 pub mod BackStands
 pub mod BackSteps
 pub mod LateLemmas
+pub mod FilledLemmas
 pub mod UndoneLemmas
 pub mod BackWarms
 pub mod CauseLemmas

@@ -1,5 +1,5 @@
 -- Changes that were put back, one behind another, and pages that came before them, as a part of a call.
-use Rattle.std.proofs.Common.{◌≡◌, ◌∙◌, ◌≤◌, ◌<◌, ◌+◌, ◌*◌, ◌||◌, ◌++◌, ℕ, true, false, List, [], ◌∷◌, ap, refl, sym, subst, arith, append-nil, eq-eqb}
+use Rattle.std.proofs.Common.{◌≡◌, ◌∙◌, ◌≤◌, ◌<◌, ◌+◌, ◌*◌, ◌||◌, ◌++◌, ℕ, true, false, List, [], ◌∷◌, length, ap, refl, sym, subst, arith, append-nil, eq-eqb}
 use Rattle.std.proofs.lemmas.List.{length-append}
 use Rattle.map_model.specs.Lists.{any}
 use Rattle.map_model.specs.declared.call.Call.TheVariants as call
@@ -38,6 +38,7 @@ use Rattle.session_state.proofs.Moments.{events_more}
 use Rattle.session_state.specs.Holds.{IsSameSession}
 use Rattle.session_state.specs.Staging.{KeepsLog}
 use Rattle.session_state.specs.Ties.{Behind}
+use Rattle.session_state.specs.declared.undo.Undone.{Undone}
 use Rattle.session_state.specs.declared.session.Session.{Session}
 use Rattle.session_state.specs.declared.work.Work.{Work}
 use Rattle.worker_log.specs.Logs.{Log}
@@ -54,6 +55,7 @@ use Rattle.paged_aborts.specs.Backs.{HasFailedBack, HasUndone, IsGivenUp, is_bac
 use Rattle.paged_aborts.proofs.BackEvents.{back_join, backs_join, come_back, come_backs, half_join, length_events, one_back, paging_backs}
 use Rattle.paged_aborts.proofs.BackStands as stands
 use Rattle.paged_aborts.proofs.BackSteps.{beside_of}
+use Rattle.paged_aborts.proofs.FilledLemmas.{come_none, left_more}
 
 -- as many pages are hot where the rows stand as they did
 hot_same : {D : Type 0} (m n : PagedMachine D) → (view_of n).given ≡ (view_of m).given → (view_of n).seen ≡ (view_of m).seen → hot_in n ≡ hot_in m
@@ -86,6 +88,7 @@ module _ (l : Grounds) (places : EveryWhere) {D : Type 0} (story : D → Story) 
         (subst (λ (k : Memory). Part m.machine.work.session.workers [] (view_of m) (view_of n) (memory m) k (story m.machine.work.disk) (story m.machine.work.disk)) (sym (memory_is story m n b own_is))
         ((every_step l.reached l.needs l.versions l.kept l.prefixes l.seals (story m.machine.work.disk) (story m.machine.work.disk) (lawful m.machine.work.disk) m.machine.work.session.workers (view_of m) (view_of n) (memory m)).rest [] (record { given = given; seen = seen ∙ sym (append-nil (view_of m).seen); met = tt }) refl));
     backs = refl;
+    left = (let q = ap (λ (k : Work D). length k.session.undo) e in omega arith);
     few = (let q = hot_same m n given seen in omega arith);
     tight = λ g xs first k. tt;
     same = (ap (λ (k : Work D). k.session.workers) e, ap (λ (k : Work D). k.session.group) e);
@@ -146,6 +149,7 @@ module _ (l : Grounds) (places : EveryWhere) {D : Type 0} (story : D → Story) 
             keeps = c.keeps;
           })));
       backs = one_back own c.page;
+      left = (let q = c.fewer in omega arith);
       few = (let q = hot_is in omega arith);
       tight = λ g xs first k. tt;
       same = (same.1, same.2);
@@ -187,11 +191,16 @@ module _ (l : Grounds) (places : EveryWhere) {D : Type 0} (story : D → Story) 
         (subst (λ (d : Desk). IsKept d.session (desk_of (here n.machine) n.machine.desks.items m.machine.work.session.own).session) (desk_own (here m.machine) m.machine.desks.items m.machine.work.session.own refl)
         (p.sessions m.machine.work.session.own (turn_low (shape m.machine) (view_of m) (here m.machine) m.machine.desks.items ready.sound.desks) (turn_high (shape m.machine) (view_of m) (here m.machine) m.machine.desks.items ready.sound.desks)))
 
+    -- the changes that are left are the same
+    pub undo_kept : {key most : ℕ} → HasPaged key most m n → n.machine.work.session.undo ≡ m.machine.work.session.undo
+    undo_kept p = ap (λ (y : Session). y.undo) (own_kept p).session
+
     pub undone_come : {key most : ℕ} → HasGone story key most m n → HasUndone story most m n
     undone_come {key = key} c = record {
       events = c.paged.events;
       part = c.part;
       backs = come_backs m.machine.work.session.own c.paged.events c.paged.paging;
+      left = (let p = come_none c.paged.events c.paged.paging in let q = ap (λ (us : List Undone). length us) (undo_kept c.paged) in omega arith);
       few = c.paged.few;
       tight = λ g xs first b. (places (call.Get key) call.Abort g (behind_first g xs first) (events_of c.paged.events)).weaker false (λ t k. (key, k)) (c.paged.tight g xs first b);
       same = c.paged.same;
@@ -200,10 +209,6 @@ module _ (l : Grounds) (places : EveryWhere) {D : Type 0} (story : D → Story) 
       half = ap (λ (y : Session). y.is_half_aborted) (own_kept c.paged).session ∙ ap (λ b. b || m.machine.work.session.is_half_aborted) (sym (come_back c.paged.events c.paged.paging));
       others = λ w lo hi other. ap (λ (y : Session). y.is_half_aborted) (c.paged.sessions w lo hi).session;
     }
-
-    -- the changes that are left are the same
-    pub undo_kept : {key most : ℕ} → HasPaged key most m n → n.machine.work.session.undo ≡ m.machine.work.session.undo
-    undo_kept p = ap (λ (y : Session). y.undo) (own_kept p).session
 
     pub open_kept : {key most : ℕ} → HasPaged key most m n → n.machine.work.session.is_open ≡ m.machine.work.session.is_open
     open_kept p = ap (λ (y : Session). y.is_open) (own_kept p).session
@@ -245,6 +250,7 @@ module _ (l : Grounds) (places : EveryWhere) {D : Type 0} (story : D → Story) 
       part = (joins_at m.machine.work.disk k.machine.work.disk n.machine.work.disk many a.events (view_of m) (view_of k) (view_of n) (memory m) (memory k) (memory n)).join b.events a.part
           (subst (λ w. Part w b.events (view_of k) (view_of n) (memory k) (memory n) (story k.machine.work.disk) (story n.machine.work.disk)) a.same.0 b.part);
       backs = subst (Rattle.call_parts.specs.Rooms.AreBacks m.machine.work.session.own) (sym (events_more a.events b.events)) (backs_join m.machine.work.session.own es (events_of b.events) a.backs (subst (λ w. Rattle.call_parts.specs.Rooms.AreBacks w (events_of b.events)) a.turn b.backs));
+      left = left_more a.events b.events (length m.machine.work.session.undo) (length k.machine.work.session.undo) (length n.machine.work.session.undo) a.left b.left;
       few = (let p = a.few in let q = b.few in let r = length-append a.events b.events in omega arith);
       tight = λ g xs first f. subst (SyncsWhere (IsTightSomewhere g) g (behind_first g xs first) false) (sym (events_more a.events b.events))
           ((places call.Abort call.Abort g (behind_first g xs first) es).more (events_of b.events) (a.tight g xs first f)
@@ -275,7 +281,7 @@ module _ (l : Grounds) (places : EveryWhere) {D : Type 0} (story : D → Story) 
 
   -- by more events at most
   pub undone_up : (m n : PagedMachine D) (i j : ℕ) → i ≤ j → HasUndone story i m n → HasUndone story j m n
-  undone_up m n i j le a = record { events = a.events; part = a.part; backs = a.backs; few = (let p = a.few in omega arith); tight = a.tight; same = a.same; turn = a.turn; is_open = a.is_open; half = a.half; others = a.others }
+  undone_up m n i j le a = record { events = a.events; part = a.part; backs = a.backs; left = a.left; few = (let p = a.few in omega arith); tight = a.tight; same = a.same; turn = a.turn; is_open = a.is_open; half = a.half; others = a.others }
 
   pub failed_up : (m n : PagedMachine D) (i j : ℕ) → i ≤ j → HasFailedBack story i m n → HasFailedBack story j m n
   failed_up m n i j le a = record { events = a.events; failed = a.failed; backs = a.backs; few = (let p = a.few in omega arith); same = a.same; fits = a.fits }

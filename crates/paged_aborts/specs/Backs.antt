@@ -1,5 +1,5 @@
 -- Changes are put back, and pages come where they are needed, as a part of a call.
-use Rattle.std.specs.Prelude.{◌≡◌, ◌⊎◌, ◌≤◌, ◌<◌, ◌+◌, ◌*◌, ◌||◌, ℕ, suc, Bool, true, false, List, [], length, Some, Result, Ok, Err}
+use Rattle.std.specs.Prelude.{◌≡◌, ◌⊎◌, ◌≤◌, ◌<◌, ◌+◌, ◌*◌, ◌||◌, ℕ, suc, Bool, true, false, List, [], ◌∷◌, length, Some, Result, Ok, Err}
 use Rattle.page_model.specs.Limits.{transaction_changes}
 use Rattle.map_model.specs.Lists.{any}
 use Rattle.map_model.specs.declared.call.Refusal.{Refusal}
@@ -77,12 +77,19 @@ abbrev pub is_back : Event → Bool
 is_back (told.PutBack w p) = true
 is_back e = false
 
+-- so many are
+abbrev pub backs_in : List Event → ℕ
+backs_in [] = 0
+backs_in (told.PutBack w p ∷ es) = suc (backs_in es)
+backs_in (e ∷ es) = backs_in es
+
 -- Changes of the session whose turn it is were put back, and pages came where they were needed, by so many events at most beside those by which pages cooled. In each run a sync stands
--- only where a page of some key's way finds no frame. The session's abort is half done once one was put back; the others are as they were.
+-- only where a page of some key's way finds no frame. The session's abort is half done once one was put back, and the others of its changes are left; other sessions' aborts are as they were.
 pub record HasUndone {D : Type 0} (story : D → Story) (most : ℕ) (m n : PagedMachine D) : Type 0 where
   pub events : List Event
   pub part : Part m.machine.work.session.workers events (view_of m) (view_of n) (memory m) (memory n) (story m.machine.work.disk) (story n.machine.work.disk)
   pub backs : AreBacks m.machine.work.session.own (events_of events)
+  pub left : backs_in events + length n.machine.work.session.undo ≡ length m.machine.work.session.undo
   pub few : length events + 2 * hot_in n ≤ 2 * hot_in m + most
   pub tight : (g : Opening) (xs : List Done) (first : List happening.Event) → Behind g xs first (view_of m) → SyncsWhere (IsTightSomewhere g) g (behind_first g xs first) false (events_of events)
   pub same : AreAsMany m.machine n.machine
