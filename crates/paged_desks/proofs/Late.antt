@@ -79,7 +79,11 @@ module _ {D : Type 0} (m : PagedMachine D) (law : EveryFlush) (are : AreDesks (s
   pub cramped_of : (MaySync m.machine → ⊥) → IsCramped m
   cramped_of not_all = elim (look m.machine.work.session.workers (omega arith)) [ inl all ↦ absurd (not_all all) | inr c ↦ c ]
 
-half_in : {D : Type 0} {m : PagedMachine D} → IsCramped m → HasHalf m
+-- and if each may, none is such
+pub may_all : {D : Type 0} {m : PagedMachine D} → MaySync m.machine → IsCramped m → ⊥
+may_all all c = c.cramped (all c.session c.low c.high)
+
+pub half_in : {D : Type 0} {m : PagedMachine D} → IsCramped m → HasHalf m
 half_in c = record { session = c.session; low = c.low; high = c.high; half = c.half }
 
 -- it was so before what leaves aborts as they were
