@@ -2,6 +2,7 @@
 use Rattle.std.proofs.Common.{◌≡◌, ◌∙◌, ◌⊎◌, inl, inr, ◌≤◌, ◌<◌, ◌+◌, ◌^◌, ◌||◌, ◌++◌, ◌↔◌, ℕ, Bool, true, false, cond, List, [], ◌∷◌, length, Some, None, Result, Ok, Err, IfOk, ap, refl, sym, subst, arith, true≢false}
 use Rattle.std.proofs.lemmas.Bool.{cases_eq}
 use Rattle.map_model.specs.Lists.{any}
+use Rattle.map_model.specs.declared.call.Call.{Call}
 use Rattle.map_model.specs.declared.call.Refusal.{Refusal}
 use Rattle.map_model.specs.declared.call.Refusal.TheVariants as refusal
 use Rattle.core_calls.proofs.WhereLemmas.{syncs_kept}
@@ -40,16 +41,21 @@ use Rattle.call_parts.specs.Rooms.{AreBacks}
 use Rattle.paged_desks.proofs.Doing.{sessions_few}
 use Rattle.paged_desks.proofs.EndingLemmas.{Grounds}
 use Rattle.paged_desks.proofs.StandLemmas.{halves_are, memory_is}
-use Rattle.paged_desks.specs.Calls.{EndsWork, IsAside, IsBeside, ends_work, works_behind}
+use Rattle.paged_desks.specs.Calls.{CallDoes, EndsWork, IsAside, IsBeside, ends_work, works_behind}
 use Rattle.paged_desks.specs.Machines.{IsReady, memory, view_of}
 use Rattle.paged_desks.specs.Pages.{hot_in}
 use Rattle.paged_desks.specs.Parts.{HasHalf, IsLate, IsStuck}
 use Rattle.paged_desks.specs.declared.machine.PagedMachine.{PagedMachine}
-use Rattle.paged_aborts.specs.Aborts.{AbortDoes, Cut, Did, HasReceipt}
-use Rattle.paged_aborts.specs.Backs.{EndsAbort, HasFailedBack, HasUndone, IsWhy, NoneLeft, PutsBack, is_back, most_in_all}
-use Rattle.paged_aborts.proofs.AbortRuns.{closed_does, failed_does, halved_does, late_of, never}
+use Rattle.paged_aborts.specs.Aborts.{HasReceipt, MayAbort, abort_answer}
+use Rattle.paged_aborts.specs.Backs.{EndsAbort, HasFailedBack, HasUndone, IsWhy, NoneLeft, PutsBack, backs_in, is_back, most_in_all}
+use Rattle.paged_aborts.proofs.AbortRuns.{b0, closed_does, failed_does, halved_does, late_of, never}
+use Rattle.paged_aborts.proofs.CrampedLemmas.{Bounds, not_own}
 use Rattle.paged_aborts.proofs.EndRuns.{aborted_does}
 use Rattle.paged_aborts.proofs.UndoneLemmas.{failed_then, undone_then}
+
+-- in each run in which it may come, whatever its line asked, it was answered so by one outcome more; or the disk failed so
+abbrev pub DoesAbort : {D : Type 0} → (story : D → Story) → (own : ℕ) → (is_open : Bool) → Result replies.Ended Refusal → (m n : PagedMachine D) → Type 0
+DoesAbort story own is_open r m n = (c : Call) → CallDoes story (MayAbort own is_open c) own c (abort_answer r) m n
 
 pub some_is : (p q : Refusal) → Some p ≡ Some q → p ≡ q
 some_is p q e = cc
@@ -122,7 +128,12 @@ misses_none [] a = refl
 misses_none (told.Miss w ∷ es) a = misses_none es a
 misses_none (_ ∷ es) a = absurd a
 
-module _ (l : Grounds) (places : EveryWhere) (answers : EveryAnswer) (coming : EveryComing) (entries : EveryEntry) (frames : EveryFrame) {D : Type 0} (story : D → Story) (lawful : (d : D) → IsLawful (story d)) where
+misses_some : (es : List Event) → AreMisses es → backs_in es ≡ 0
+misses_some [] a = refl
+misses_some (told.Miss w ∷ es) a = misses_some es a
+misses_some (_ ∷ es) a = absurd a
+
+module _ (l : Grounds) (bounds : Bounds) (places : EveryWhere) (answers : EveryAnswer) (coming : EveryComing) (entries : EveryEntry) (frames : EveryFrame) {D : Type 0} (story : D → Story) (lawful : (d : D) → IsLawful (story d)) where
   -- a latch of a row that the session holds has come to its end
   module _ (k n : PagedMachine D) (a : IsAside k n) (s : IsSpent (view_of k) (view_of n) k.machine.work.session n.machine.work.session k.machine.work.log n.machine.work.log k.machine.work.disk n.machine.work.disk) where
     abbrev y : Session
@@ -150,6 +161,7 @@ module _ (l : Grounds) (places : EveryWhere) (answers : EveryAnswer) (coming : E
           ((every_step l.reached l.needs l.versions l.kept l.prefixes l.seals (story k.machine.work.disk) (story k.machine.work.disk) (lawful k.machine.work.disk) y.workers (view_of k) (view_of n) (memory k)).rest es
           (record { given = s.missed.given; seen = s.missed.seen; met = misses_met (opening (view_of k).given) (state (view_of k)).core es s.missed.are_misses }) (misses_quiet es s.missed.are_misses));
       backs = misses_backs y.own es s.missed.are_misses;
+      left = (let p = misses_some es s.missed.are_misses in let q = ap (λ (q : Session). length q.undo) s.session in omega arith);
       few = (let p = s.missed.few in let q = hot_is in omega arith);
       tight = λ g xs first t. syncs_kept (IsTightSomewhere g) g (events_of es) (behind_first g xs first) (keep_none is_log (events_of es) (misses_log es s.missed.are_misses));
       same = (ap (λ (q : Session). q.workers) s.session, ap (λ (q : Session). q.group) s.session);
@@ -179,21 +191,21 @@ module _ (l : Grounds) (places : EveryWhere) (answers : EveryAnswer) (coming : E
     high = turn_high (shape m.machine) (view_of m) (here m.machine) m.machine.desks.items ready.sound.desks
 
     -- no transaction is open
-    pub abort_closed : x.works ≡ true → (why : Refusal) → abort_test x ≡ Some why → AbortDoes story own x.is_open (Err why) m m
+    pub abort_closed : x.works ≡ true → (why : Refusal) → abort_test x ≡ Some why → DoesAbort story own x.is_open (Err why) m m
     abort_closed works why e = go (refused_by x why e)
       where
-        go : Refused x why → AbortDoes story own x.is_open (Err why) m m
+        go : Refused x why → DoesAbort story own x.is_open (Err why) m m
         go (Fails broken is) = absurd (true≢false (sym works ∙ broken))
-        go (Closed w closed is) = subst (λ (k : Refusal). AbortDoes story own x.is_open (Err k) m m) (sym is) (Did (λ c g xs many tied halves due. closed_does l answers coming frames story lawful m ready c g xs many tied halves due closed))
+        go (Closed w closed is) = subst (λ (k : Refusal). DoesAbort story own x.is_open (Err k) m m) (sym is) (λ c g xs many tied halves due. closed_does l answers coming frames story lawful m ready c g xs many tied halves due closed)
 
     -- ## A change could not be put back
 
     -- since a latch is spent
-    late_does : (most : ℕ) → most ≤ 2 ^ 17 → (n : PagedMachine D) → IsReady story n → HasUndone story most m n → IsLate (view_of n) ⊎ HasHalf m → AbortDoes story own x.is_open (Err refusal.RowSpent) m n
-    late_does most le n ready_n u late = Did (λ c g xs many tied halves due. halved_does l answers coming frames story lawful m ready c g xs many tied halves due most le n u ready_n.logged (late_of l answers coming frames story lawful m ready c g xs many tied halves due most le n u late))
+    late_does : (most : ℕ) → most ≤ 2 ^ 17 → (n : PagedMachine D) → IsReady story n → HasUndone story most m n → IsLate (view_of n) ⊎ HasHalf m → DoesAbort story own x.is_open (Err refusal.RowSpent) m n
+    late_does most le n ready_n u late = λ c g xs many tied halves due. halved_does l answers coming frames story lawful m ready c g xs many tied halves due most le n u ready_n.logged (late_of l answers coming frames story lawful m ready c g xs many tied halves due most le n u late)
 
     -- or since a page finds no frame
-    stuck_does : (n : PagedMachine D) → IsReady story n → HasUndone story all_most m n → (key : ℕ) → IsStuck key n → AbortDoes story own x.is_open (Err refusal.RowSpent) m n
+    stuck_does : (n : PagedMachine D) → IsReady story n → HasUndone story all_most m n → (key : ℕ) → IsStuck key n → DoesAbort story own x.is_open (Err refusal.RowSpent) m n
     stuck_does n ready_n u key s = go (cases_eq s.cramped.session own) x.is_half_aborted refl
       where
         within : s.cramped.session ≤ x.workers
@@ -202,31 +214,31 @@ module _ (l : Grounds) (places : EveryWhere) (answers : EveryAnswer) (coming : E
         wide : all_most ≤ 2 ^ 17
         wide = let q = small in omega arith
 
-        go : (s.cramped.session ≡ own) ⊎ (s.cramped.session ≡ own → ⊥) → (half : Bool) → x.is_half_aborted ≡ half → AbortDoes story own x.is_open (Err refusal.RowSpent) m n
+        go : (s.cramped.session ≡ own) ⊎ (s.cramped.session ≡ own → ⊥) → (half : Bool) → x.is_half_aborted ≡ half → DoesAbort story own x.is_open (Err refusal.RowSpent) m n
         go (inl is) true half = late_does all_most wide n ready_n u (inr (record { session = own; low = low; high = high; half = ap (λ (d : Desk). d.session.is_half_aborted) (desk_own (here m.machine) m.machine.desks.items own refl) ∙ half }))
-        go (inl is) false half = Cut refl (record { whole = half; undone = u; key = key; stuck = s; own = is })
+        go (inl is) false half = λ c g xs many tied halves due. absurd (not_own l.reached l.needs bounds story m n ready all_most u g xs (b0 l answers coming frames story lawful m ready c g xs many tied halves due) key s half is)
         go (inr other) _ half = late_does all_most wide n ready_n u (inr (record { session = s.cramped.session; low = s.cramped.low; high = within; half = sym (u.others s.cramped.session s.cramped.low within other) ∙ s.cramped.half }))
 
-    pub not_back : (n : PagedMachine D) (why : Refusal) → (works_behind {A = Unit {0}} (Err why) ≡ true → IsReady story n) → PutsBack story all_most NoneLeft (Err why) m n → AbortDoes story own x.is_open (Err why) m n
+    pub not_back : (n : PagedMachine D) (why : Refusal) → (works_behind {A = Unit {0}} (Err why) ≡ true → IsReady story n) → PutsBack story all_most NoneLeft (Err why) m n → DoesAbort story own x.is_open (Err why) m n
     not_back n refusal.RowSpent ready_n p = go p.1
       where
-        go : IsWhy n → AbortDoes story own x.is_open (Err refusal.RowSpent) m n
+        go : IsWhy n → DoesAbort story own x.is_open (Err refusal.RowSpent) m n
         go (inl late) = late_does all_most (let q = small in omega arith) n (ready_n refl) p.0 (inl late)
         go (inr stuck) = stuck_does n (ready_n refl) p.0 stuck.0 stuck.1
-    not_back n refusal.DiskFault ready_n p = Did (λ c g xs many tied halves due. failed_does l answers coming frames story lawful m ready c g xs many tied halves due all_most (let q = small in omega arith) n p)
-    not_back n (refusal.Damaged area place) ready_n p = Did (λ c g xs many tied halves due. (failed_does l answers coming frames story lawful m ready c g xs many tied halves due all_most (let q = small in omega arith) n p.0, never l answers coming frames story lawful m ready c g xs many tied halves due p.1))
+    not_back n refusal.DiskFault ready_n p = λ c g xs many tied halves due. failed_does l answers coming frames story lawful m ready c g xs many tied halves due all_most (let q = small in omega arith) n p
+    not_back n (refusal.Damaged area place) ready_n p = λ c g xs many tied halves due. (failed_does l answers coming frames story lawful m ready c g xs many tied halves due all_most (let q = small in omega arith) n p.0, never l answers coming frames story lawful m ready c g xs many tied halves due p.1)
     not_back n _ ready_n p = absurd p
 
     -- ## The end
 
     module _ (k n : PagedMachine D) (u : HasUndone story all_most m k) (opened : x.is_open ≡ true) (ready_k : IsReady story k) (same : IsSameSession k.machine.work.session n.machine.work.session) where
-      pub ends_by : (r : Result replies.Ended Refusal) → EndsAbort story r k n → (works_behind r ≡ true → IsReady story n) → (works_behind r ≡ true → IsAside k n) → (r ≡ Err refusal.DiskFault → HasFailedBack story 0 k n) → AbortDoes story own x.is_open r m n
-      ends_by (Ok reply) e ready_n a f = Did (λ c g xs many tied halves due. aborted_does l answers coming entries frames story lawful m ready opened c g xs many tied halves due all_most (let q = small in omega arith) k n u ready_k (a refl) same (ready_n refl) reply e.0 e.1)
+      pub ends_by : (r : Result replies.Ended Refusal) → EndsAbort story r k n → (works_behind r ≡ true → IsReady story n) → (works_behind r ≡ true → IsAside k n) → (r ≡ Err refusal.DiskFault → HasFailedBack story 0 k n) → DoesAbort story own x.is_open r m n
+      ends_by (Ok reply) e ready_n a f = λ c g xs many tied halves due. aborted_does l answers coming entries frames story lawful m ready opened c g xs many tied halves due all_most (let q = small in omega arith) k n u ready_k (a refl) same (ready_n refl) reply e.0 e.1
       ends_by (Err refusal.RowSpent) e ready_n a f = late_does (all_most + length k.machine.work.session.held.rows) wide n (ready_n refl) (undone_then l places story lawful m k n all_most (length k.machine.work.session.held.rows) u (undone_missed k n (a refl) e)) (inl (inl e.late))
         where
           wide : all_most + length k.machine.work.session.held.rows ≤ 2 ^ 17
           wide = let h = holds_of (shape k.machine) (view_of k) (here k.machine) k.machine.desks.items ready_k.sound.desks in let a = h.fewer in let b = h.rows.few in let q = small in omega arith
-      ends_by (Err refusal.DiskFault) e ready_n a f = Did (λ c g xs many tied halves due. failed_does l answers coming frames story lawful m ready c g xs many tied halves due (all_most + 0) (let q = small in omega arith) n
+      ends_by (Err refusal.DiskFault) e ready_n a f = (λ c g xs many tied halves due. failed_does l answers coming frames story lawful m ready c g xs many tied halves due (all_most + 0) (let q = small in omega arith) n
           (failed_then l places story lawful m k n all_most 0 u (f refl)))
       ends_by (Err _) e ready_n a f = absurd e
 
@@ -273,6 +285,7 @@ not_broken P works never on = ((λ p. absurd (never p)), (λ off. absurd (true�
 
 pub receipt_of : {D : Type 0} (story : D → Story) (most : ℕ) (m k n : PagedMachine D) → HasUndone story most m k → (r : Result replies.Ended Refusal) → EndsAbort story r k n → IfOk r (IsEnded (view_of k) n.machine.work.session) → IfOk r (HasReceipt m n)
 receipt_of story most m k n u (Ok reply) c is_told = record {
+  kept = c.0.ended.given ∙ u.part.given;
   before = view_of k;
   events = u.events;
   given = u.part.given;

@@ -9,6 +9,7 @@ pub mod CauseLemmas
 pub mod LoseLemmas
 pub mod AbortEvents
 pub mod AbortRuns
+pub mod CrampedLemmas
 pub mod EndStands
 pub mod EndRuns
 pub mod AbortCalls

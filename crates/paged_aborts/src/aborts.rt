@@ -1,5 +1,6 @@
 // An abort.
 ghost use Rattle.std.specs.Prelude.{◌≡◌, ◌⊎◌, ◌↔◌, IfErr, IfOk, Err, Some, true, false, []};
+ghost use Rattle.map_model.specs.declared.call.Call.{Call};
 ghost use Rattle.map_model.specs.declared.call.Refusal.{Refusal};
 ghost use Rattle.lean_disk.specs.Faults.{HasCause};
 ghost use Rattle.engine_trait.specs.Calls.{MayCome};
@@ -8,9 +9,9 @@ ghost use Rattle.row_ends.specs.Receipts.{IsEnded};
 ghost use Rattle.row_ends.specs.Tests.{abort_test};
 ghost use Rattle.session_desks.specs.Parts.{AreAsMany, SeatFits, Works};
 ghost use Rattle.session_state.specs.Holds.{IsSameSession};
-ghost use Rattle.paged_desks.specs.Calls.{EndsWork, IsAside, works_behind};
+ghost use Rattle.paged_desks.specs.Calls.{CallDoes, EndsWork, IsAside, works_behind};
 ghost use Rattle.paged_desks.specs.Machines.{IsReady, view_of};
-ghost use Rattle.paged_aborts.specs.Aborts.{AbortDoes, HasReceipt};
+ghost use Rattle.paged_aborts.specs.Aborts.{HasReceipt, MayAbort, abort_answer};
 ghost use Rattle.paged_aborts.specs.Backs.{EndsAbort, HasFailedBack};
 
 use crate::backs::put_back_all;
@@ -50,13 +51,13 @@ fn finish<D: Stages>(machine: &mut PagedMachine<D>) -> Result<Ended, Refusal>
 /// The transaction of the session whose turn it is is aborted: what it changed is put back, the newest change first, its end is staged, and the lock rows that it holds are given back.
 /// Where a page of a key's way is in no frame, the pages of the way are brought into frames. Nothing is flushed, but for syncs that pages need.
 ///
-/// RowSpent: a latch has come to its end, or a page needs a sync and the log of a session whose abort is half done may not be flushed; the next abort goes on. Damaged: a page has no valid
-/// slot, or is not the one that left its frame, or has lost an entry.
+/// RowSpent: a latch has come to its end; or an abort was half done before the call, and a page needs a sync before which the log of such a session may not be flushed. The next abort goes
+/// on. Damaged: a page has no valid slot, or is not the one that left its frame, or has lost an entry.
 pub fn abort<D: Stages>(machine: &mut PagedMachine<D>) -> Result<Ended, Refusal>
     requires ready { Works machine.old.machine → IsReady D.story machine.old }
     ensures ready { Works machine.new.machine → IsReady D.story machine.new }
     ensures fits { SeatFits machine.old.machine → SeatFits machine.new.machine }
-    ensures does { Works machine.old.machine → AbortDoes D.story machine.old.machine.work.session.own machine.old.machine.work.session.is_open result machine.old machine.new }
+    ensures does { Works machine.old.machine → (c : Call) → CallDoes D.story (MayAbort machine.old.machine.work.session.own machine.old.machine.work.session.is_open c) machine.old.machine.work.session.own c (abort_answer result) machine.old machine.new }
     ensures receipt { IfOk result (HasReceipt machine.old machine.new) }
     // A test of the session that refuses it comes before all else.
     ensures tested { (why : Refusal) → abort_test machine.old.machine.work.session ≡ Some why → (result ≡ Err why) × (machine.new ≡ machine.old) }

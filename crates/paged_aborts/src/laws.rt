@@ -7,11 +7,14 @@ ghost use Rattle.engine_calls.specs.Clauses.{EveryComing};
 ghost use Rattle.engine_calls.specs.Entries.{EveryEntry};
 ghost use Rattle.page_pool.specs.Counts.{EveryFrame};
 ghost use Rattle.page_pool.specs.Pools.{EveryStanding};
-ghost use Rattle.row_opening.specs.Openings.{EveryNeed, EveryReached};
+ghost use Rattle.row_opening.specs.Openings.{EveryNeed, EveryOpened, EveryReached};
 ghost use Rattle.session_state.specs.Others.{EveryOther};
+ghost use Rattle.session_state.specs.Reserves.{EveryReserve};
+ghost use Rattle.sync_counts.specs.Syncs.{EverySyncCount, EveryTight};
 ghost use Rattle.worker_log.specs.Laws.{EveryKept, EveryPrefix};
 
-// The laws of versions, logs, seals and openings, of answers and entries, of other sessions, and of what the pager knows over their steps.
+// The laws of versions, logs, seals and openings, of answers and entries, of other sessions, of what the pager knows over their steps, of the syncs that pages ask for, and of the
+// blocks that are kept for an abort.
 pub(crate) fn laws()
     ensures versions { EveryVersion }
     ensures kept { EveryKept }
@@ -26,6 +29,10 @@ pub(crate) fn laws()
     ensures others { EveryOther }
     ensures standing { EveryStanding }
     ensures frames { EveryFrame }
+    ensures opened { EveryOpened }
+    ensures reserve { EveryReserve }
+    ensures tights { EveryTight }
+    ensures counts { EverySyncCount }
 {
     core_calls::every_where();
     call_parts::laws();
@@ -35,4 +42,8 @@ pub(crate) fn laws()
     session_state::every_other();
     page_pool::every_standing();
     page_pool::every_frame();
+    row_opening::every_opened();
+    session_state::every_reserve();
+    sync_counts::every_tight();
+    sync_counts::every_sync_count();
 }

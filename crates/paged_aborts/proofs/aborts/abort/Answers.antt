@@ -1,6 +1,7 @@
 use Rattle.std.proofs.Common.{◌∙◌, ap, inl, Err, refl, sym}
 use Rattle.paged_desks.proofs.EndingLemmas.{Grounds}
 use Rattle.paged_aborts.proofs.AbortCalls.{abort_closed, back_comes, back_late, closed_broken, closed_comes, closed_works, end_late, ends_by, err_late, may_abort, none_is, not_back, not_broken, receipt_of, some_is}
+use Rattle.paged_aborts.proofs.CrampedLemmas.{Bounds}
 use Rattle.paged_aborts.proofs.CauseLemmas.{all_calm, as_ended, cause_at, cause_ended}
 use Rattle.paged_aborts.specs.Backs.{NoneLeft}
 use Rattle.paged_aborts.proofs.aborts.abort.Goals as goal
@@ -9,10 +10,11 @@ pub returns-in-Some-clause-does : goal.returns-in-Some-clause-does
 returns-in-Some-clause-does g c works =
     let e = c.laws.ensures in
     let l : Grounds = record { reached = e.reached; needs = e.needs; versions = e.versions; kept = e.kept; prefixes = e.prefixes; seals = e.seals } in
+    let bounds : Bounds = record { opened = e.opened; reserve = e.reserve; counts = e.counts; tights = e.tights } in
     let lawful = (g.met.D.Disk g.world.𝓛 g.world.𝓜 g.world.𝓡 ((λ s x. x), (λ x. x), (λ x. x), (λ x. x))).lawful in
     let story = g.D.Disk.story in
     let m = c.args.machine.now in
-    abort_closed l e.places e.answers e.coming e.entries e.frames story lawful m (c.requires.ready works) works c.in-Some.why (sym c.abort_refusal.ensures ∙ c.in-Some.is)
+    abort_closed l bounds e.places e.answers e.coming e.entries e.frames story lawful m (c.requires.ready works) works c.in-Some.why (sym c.abort_refusal.ensures ∙ c.in-Some.is)
 
 pub returns-in-Some-clause-works : goal.returns-in-Some-clause-works
 returns-in-Some-clause-works g c = closed_works c.args.machine.now.machine.work.session c.in-Some.why (sym c.abort_refusal.ensures ∙ c.in-Some.is)
@@ -33,10 +35,11 @@ pub returns-in-Err-clause-does : goal.returns-in-Err-clause-does
 returns-in-Err-clause-does g c works =
     let e = c.laws.ensures in
     let l : Grounds = record { reached = e.reached; needs = e.needs; versions = e.versions; kept = e.kept; prefixes = e.prefixes; seals = e.seals } in
+    let bounds : Bounds = record { opened = e.opened; reserve = e.reserve; counts = e.counts; tights = e.tights } in
     let lawful = (g.met.D.Disk g.world.𝓛 g.world.𝓜 g.world.𝓡 ((λ s x. x), (λ x. x), (λ x. x), (λ x. x))).lawful in
     let story = g.D.Disk.story in
     let m = c.args.machine.now in
-    not_back l e.places e.answers e.coming e.entries e.frames story lawful m (c.requires.ready works) c.put_back_all.new.machine c.in-Err.why c.in-Err.ensures.ready c.in-Err.ensures.backs
+    not_back l bounds e.places e.answers e.coming e.entries e.frames story lawful m (c.requires.ready works) c.put_back_all.new.machine c.in-Err.why c.in-Err.ensures.ready c.in-Err.ensures.backs
 
 pub finish-requires-clause-is_open : goal.finish-requires-clause-is_open
 finish-requires-clause-is_open g c κs within = c.in_default-put_back_all.ensures.backs.0.is_open ∙ (may_abort c.args.machine.now.machine.work.session (sym c.abort_refusal.ensures ∙ c.in_default.is)).is_open
@@ -48,12 +51,13 @@ pub returns-clause-does : goal.returns-clause-does
 returns-clause-does g c works =
     let e = c.laws.ensures in
     let l : Grounds = record { reached = e.reached; needs = e.needs; versions = e.versions; kept = e.kept; prefixes = e.prefixes; seals = e.seals } in
+    let bounds : Bounds = record { opened = e.opened; reserve = e.reserve; counts = e.counts; tights = e.tights } in
     let lawful = (g.met.D.Disk g.world.𝓛 g.world.𝓜 g.world.𝓡 ((λ s x. x), (λ x. x), (λ x. x), (λ x. x))).lawful in
     let story = g.D.Disk.story in
     let m = c.args.machine.now in
     let b = c.in_default-put_back_all.ensures in
     let d = c.finish.ensures in
-    ends_by l e.places e.answers e.coming e.entries e.frames story lawful m (c.requires.ready works) c.put_back_all.new.machine c.finish.new.machine b.backs.0 (may_abort m.machine.work.session (sym c.abort_refusal.ensures ∙ c.in_default.is)).is_open (b.ready refl) d.same_session c.finish.result d.aborts d.ready d.aside d.failed
+    ends_by l bounds e.places e.answers e.coming e.entries e.frames story lawful m (c.requires.ready works) c.put_back_all.new.machine c.finish.new.machine b.backs.0 (may_abort m.machine.work.session (sym c.abort_refusal.ensures ∙ c.in_default.is)).is_open (b.ready refl) d.same_session c.finish.result d.aborts d.ready d.aside d.failed
 
 pub returns-in-Some-clause-tested : goal.returns-in-Some-clause-tested
 returns-in-Some-clause-tested g c why e = (ap Err (some_is c.in-Some.why why (sym c.in-Some.is ∙ (c.abort_refusal.ensures ∙ e))), refl)
