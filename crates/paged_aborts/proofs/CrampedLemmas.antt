@@ -1,6 +1,6 @@
 -- An abort that was not half done before the call is not held up by its own log: behind all that it put back, and the syncs that pages asked for, what is left to put back finds room
 -- behind a flush.
-use Rattle.std.proofs.Common.{◌≡◌, ◌∙◌, ◌≤◌, ◌<◌, ◌+◌, ◌*◌, ◌++◌, ℕ, suc, true, false, List, length, ap, refl, sym, subst, arith}
+use Rattle.std.proofs.Common.{◌≡◌, ◌∙◌, ◌≤◌, ◌<◌, ◌+◌, ◌*◌, ◌++◌, ℕ, suc, false, List, length, ap, refl, sym, subst, arith}
 use Rattle.std.specs.Prelude.{min}
 use Rattle.std.proofs.Math.Nat.{min-eq_left, min-le_left}
 use Rattle.core_calls.specs.Fronts.{Done, front}
@@ -10,7 +10,6 @@ use Rattle.core_state.specs.Events as happening
 use Rattle.core_state.specs.Openings.{Opening}
 use Rattle.core_state.specs.States.{State, nodes_of}
 use Rattle.core_state.specs.Steps.{AllMet, state_after}
-use Rattle.engine_calls.specs.Parts.{behind_first}
 use Rattle.engine_trait.specs.Logs.{Logs}
 use Rattle.lean_disk.specs.Story.{Story}
 use Rattle.page_model.specs.Nodes.{Format, NodeOk}
@@ -29,15 +28,13 @@ use Rattle.session_state.specs.Holds.{Holds}
 use Rattle.session_state.specs.Reserves.{EveryReserve}
 use Rattle.session_state.specs.Syncs.{MayFlush}
 use Rattle.session_state.specs.Ties.{Behind}
-use Rattle.session_state.specs.Undo.{HasRoomToUndo}
 use Rattle.session_state.specs.declared.session.Session.{Session}
 use Rattle.sync_counts.specs.Syncs.{EverySyncCount, EveryTight, syncs}
-use Rattle.worker_log.specs.Calls.{flushed_log}
 use Rattle.worker_log.specs.Logs.{Log}
 use Rattle.call_parts.proofs.RunLemmas.{behind_more, core_is, front_is}
 use Rattle.paged_desks.proofs.Full.{tight_behind}
 use Rattle.paged_desks.specs.Machines.{IsReady, memory, view_of}
-use Rattle.paged_desks.specs.Parts.{IsCramped, IsStuck}
+use Rattle.paged_desks.specs.Parts.{IsStuck}
 use Rattle.paged_desks.specs.declared.machine.PagedMachine.{PagedMachine}
 use Rattle.paged_aborts.specs.Backs.{HasUndone, backs_in}
 use Rattle.paged_aborts.proofs.FilledLemmas.{Phase, Steps, alike_self, fills, room_alike, writes_backs}

@@ -1,5 +1,5 @@
 -- How many changes events put back, and how they fill the session's log.
-use Rattle.std.proofs.Common.{◌≡◌, ◌∙◌, ◌⊎◌, inl, inr, ◌≤◌, ◌<◌, ◌+◌, ◌-◌, ◌*◌, ◌==◌, ◌||◌, ◌++◌, ℕ, suc, Bool, true, false, cond, List, [], ◌∷◌, length, ap, refl, sym, subst, arith, append-nil, true≢false}
+use Rattle.std.proofs.Common.{◌≡◌, ◌∙◌, ◌⊎◌, inl, inr, ◌≤◌, ◌<◌, ◌+◌, ◌-◌, ◌*◌, ◌==◌, ◌||◌, ◌++◌, ℕ, Bool, true, false, cond, List, [], ◌∷◌, length, ap, refl, sym, subst, arith, append-nil, true≢false}
 use Rattle.std.specs.Prelude.{min}
 use Rattle.std.proofs.lemmas.Bool.{and_parts, cases_eq, cases_lt, eqb-true}
 use Rattle.map_model.specs.Lists.{all}
@@ -113,6 +113,14 @@ pub record Alike (x y : Log) : Type 0 where
 pub alike_self : (x : Log) → Alike x x
 alike_self x = record { blocks = refl; head = refl; next = refl; payload = refl; count = refl }
 
+-- a record closes the block in hand
+abbrev closed : Record → Log → Log
+closed r y = record y { next = y.next + 1; payload = records_text (r ∷ []); count = 1; last = r.gsn; ends = y.ends ++ y.last ∷ [] }
+
+-- or it joins it
+abbrev joined : Record → Log → Log
+joined r y = record y { payload = y.payload ++ records_text (r ∷ []); count = y.count + 1; last = r.gsn }
+
 -- the same record makes of both what is alike
 record AfterToo (r : Record) (x y : Log) : Type 0 where
   pub log : Log
@@ -125,22 +133,16 @@ after_too r x is y a f = go (cases_lt 2000 (length x.payload + length (records_t
     long : length y.payload ≡ length x.payload
     long = ap length a.payload
 
-    abbrev closed : Log
-    closed = record y { next = y.next + 1; payload = records_text (r ∷ []); count = 1; last = r.gsn; ends = y.ends ++ y.last ∷ [] }
-
-    abbrev joined : Log
-    joined = record y { payload = y.payload ++ records_text (r ∷ []); count = y.count + 1; last = r.gsn }
-
     go : (2000 < length x.payload + length (records_text (r ∷ []))) ⊎ (length x.payload + length (records_text (r ∷ [])) ≤ 2000) → AfterToo r is y
     go (inl over) = record {
-      log = closed;
+      log = closed r y;
       after = record { room = λ fits. absurd (let k = long in omega arith); full = λ _. refl };
-      alike = subst (λ (l : Log). Alike l closed) (sym (f.full (λ fits. omega arith))) (record { blocks = a.blocks; head = a.head; next = ap (λ n. n + 1) a.next; payload = refl; count = refl });
+      alike = subst (λ (l : Log). Alike l (closed r y)) (sym (f.full (λ fits. omega arith))) (record { blocks = a.blocks; head = a.head; next = ap (λ n. n + 1) a.next; payload = refl; count = refl });
     }
     go (inr within) = record {
-      log = joined;
+      log = joined r y;
       after = record { room = λ _. refl; full = λ off. absurd (off (let k = long in omega arith)) };
-      alike = subst (λ (l : Log). Alike l joined) (sym (f.room within)) (record { blocks = a.blocks; head = a.head; next = a.next; payload = ap (λ (us : List ℕ). us ++ records_text (r ∷ [])) a.payload; count = ap (λ n. n + 1) a.count });
+      alike = subst (λ (l : Log). Alike l (joined r y)) (sym (f.room within)) (record { blocks = a.blocks; head = a.head; next = a.next; payload = ap (λ (us : List ℕ). us ++ records_text (r ∷ [])) a.payload; count = ap (λ n. n + 1) a.count });
     }
 
 -- so does a flush
@@ -164,7 +166,7 @@ flush_again x y a c = record {
 
 -- room behind a flush is the same
 pub room_alike : (x y : Log) (many : ℕ) → Alike x y → HasRoomToUndo (flushed_log y) many → HasRoomToUndo (flushed_log x) many
-room_alike x y many a room = subst (λ (q : ℕ × ℕ). q.0 + (64 * many + 2064) ≤ 1900 * q.1) (λ i. (1900 * ((a.next i + cond (a.count i == 0) 0 1) - a.head i) + min (length []) 2000, a.blocks i)) room
+room_alike x y many a room = subst (λ (q : ℕ × ℕ). q.0 + (64 * many + 2064) ≤ 1900 * q.1) (λ i. (1900 * ((a.next i + cond (a.count i == 0) 0 1) - a.head i) + min (length {A = ℕ} []) 2000, a.blocks i)) room
 
 -- ## Events
 
