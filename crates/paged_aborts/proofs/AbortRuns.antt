@@ -244,7 +244,7 @@ module _ (l : Grounds) (answers : EveryAnswer) (coming : EveryComing) (frames : 
       how = record {
         few = few;
         refused = λ why e. inr (sym (refused_is refusal.RowSpent why e));
-        refuses = λ why e. inr refl;
+        refuses = λ why sure e. inr (inl refl);
         still = λ _ _. facts.structure;
         room = subst (λ d. MakesItsRoom own g at d fs) (sym asks) facts.structure;
       }

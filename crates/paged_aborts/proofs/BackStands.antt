@@ -72,12 +72,12 @@ module _ (v w : View) (own page : ℕ) (given : w.given ≡ v.given) (seen : w.s
   g = opening v.given
 
   -- the newest change
-  record Newest : Type 0 where
-    first : Entry
-    rest : List Entry
-    is : (s.worker own).changes ≡ first ∷ rest
+  pub record Newest : Type 0 where
+    pub first : Entry
+    pub rest : List Entry
+    pub is : (s.worker own).changes ≡ first ∷ rest
 
-  newest : Newest
+  pub newest : Newest
   newest = go (s.worker own).changes refl (and_parts (s.worker own).is_open (may_put_back g (s.page page).node page (s.worker own).changes) (and_parts (are_hot s (page ∷ [])) (needs g s (happening.Event.Put_back own page)) met).1).1
     where
       go : (cs : List Entry) → (s.worker own).changes ≡ cs → may_put_back g (s.page page).node page cs ≡ true → Newest

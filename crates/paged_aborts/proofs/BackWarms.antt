@@ -137,7 +137,7 @@ module _ (l : Grounds) (places : EveryWhere) {D : Type 0} (story : D → Story) 
   few = (holds_of (shape m.machine) (view_of m) (here m.machine) m.machine.desks.items ready.sound.desks).numbers.few
 
   pub so_far_none : SoFar story m m
-  so_far_none = record { many = 0; undone = undone_up l places story lawful m m 0 (0 * each) (omega arith) (undone_same l places story lawful m m (record { shape = refl; desks = refl; latches = refl; master = refl; pager = refl }) refl refl refl); left = refl }
+  so_far_none = record { many = 0; undone = undone_up l places story lawful m m 0 (0 * each) (omega arith) (undone_same l places story lawful m m (record { shape = refl; desks = refl; latches = refl; master = refl; pager = refl }) refl refl refl); left = omega arith }
 
   module _ (k n : PagedMachine D) (s : SoFar story m k) where
     same_each : most_a_back k.machine.work.session.workers ≡ each

@@ -164,11 +164,11 @@ some_left [] u e = absurd (cc)
 some_left (x ∷ us) u e = omega arith
 
 -- a way that is hot is met by no cold page
-pub cold_never : (made : Unmade) (cold : Cold) → made ≡ unmade.Cold cold → (IsErrAnd {A = Unit {0}} (Err made) IsCut → ⊥) → ⊥
+pub cold_never : (made : Unmade) (cold : Cold) → made ≡ unmade.Cold cold → (IsErrAnd {T = Unit {0}} (Err made) IsCut → ⊥) → ⊥
 cold_never made cold is never = never (subst IsCut (sym is) tt)
 
 -- an entry is lost in no other way
-pub lost_never : (made : Unmade) → made ≡ unmade.Lost → (IsErrAnd {A = Unit {0}} (Err made) IsLost → ⊥) → ⊥
+pub lost_never : (made : Unmade) → made ≡ unmade.Lost → (IsErrAnd {T = Unit {0}} (Err made) IsLost → ⊥) → ⊥
 lost_never made is never = never (subst IsLost (sym is) tt)
 
 -- as many sessions
@@ -177,11 +177,11 @@ same_then m k n a s = (s.1 ∙ a.0, s.2 ∙ a.1)
 
 -- the newest change of a session whose changes are those that they were
 pub newest_as : {D : Type 0} (key : ℕ) (m k : PagedMachine D) → k.machine.work.session.undo ≡ m.machine.work.session.undo → IsNewestKey key m → IsNewestKey key k
-newest_as key m k e q = (q.0, ap newest_of e ∙ q.1.0, q.1.1)
+newest_as key m k e q = (q.0, ap newest_of e ∙ q.1, q.2)
 
 -- where the way of its key is hot
 pub warm_newest : {D : Type 0} (key : ℕ) (k : PagedMachine D) → IsNewestKey key k → IsWarm (pages k) key 0 → IsWarmNewest k
-warm_newest key k q warm u e = subst (λ (n : ℕ). IsWarm (pages k) n 0) (sym q.1.1 ∙ sym (ap (λ (v : Undone). v.key) (newest_is u q.0 (sym e ∙ q.1.0)))) warm
+warm_newest key k q warm u e = subst (λ (n : ℕ). IsWarm (pages k) n 0) (sym q.2 ∙ sym (ap (λ (v : Undone). v.key) (newest_is u q.0 (sym e ∙ q.1)))) warm
   where
     newest_is : (u v : Undone) → Some u ≡ Some v → u ≡ v
     newest_is u v p = cc

@@ -285,7 +285,7 @@ module _ (l : Grounds) (answers : EveryAnswer) (coming : EveryComing) (entries :
   how = record {
     few = few;
     refused = λ why q. absurd (cc);
-    refuses = λ why q. absurd (not_refused why (at.worker mine).is_open (runs.open_is l answers coming frames story lawful m ready c g xs many tied halves due ∙ opened) (subst (λ (d : Call). refusal_in g at mine (is_half_done mine xs) log d ≡ Some why) asks q));
+    refuses = λ why sure q. absurd (not_refused why (at.worker mine).is_open (runs.open_is l answers coming frames story lawful m ready c g xs many tied halves due ∙ opened) (subst (λ (d : Call). refusal_in g at mine (is_half_done mine xs) log d ≡ Some why) asks q));
     still = λ _ _. structure;
     room = subst (λ (d : Call). MakesItsRoom mine g at d (fs ++ ending_events)) (sym asks) structure;
   }

@@ -166,7 +166,7 @@ module _ {D : Type 0} (story : D → Story) (m n : PagedMachine D) (ready : IsRe
 
 -- ## What is told
 
-fault_is : Err refusal.RowSpent ≡ Err {A = replies.Ended} refusal.DiskFault → ⊥
+fault_is : ◌≡◌ {A = Result replies.Ended Refusal} (Err refusal.RowSpent) (Err refusal.DiskFault) → ⊥
 fault_is e = absurd (cc)
 
 ok_err : (told : replies.Ended) → Ok told ≡ Err refusal.DiskFault → ⊥
