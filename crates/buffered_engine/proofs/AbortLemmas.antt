@@ -6,7 +6,7 @@ use Rattle.map_model.specs.declared.call.Call.TheVariants as call
 use Rattle.lean_disk.specs.Story.{Story}
 use Rattle.paged_desks.specs.Calls.{CallDoes, OnLine}
 use Rattle.paged_desks.specs.declared.machine.PagedMachine.{PagedMachine}
-use Rattle.buffered_engine.specs.Inside.Aborts.{Asked, Hindered, MayAbort}
+use Rattle.paged_aborts.specs.Aborts.{Asked, Hindered, MayAbort}
 use Rattle.buffered_engine.specs.Inside.Asks.{IsDue}
 
 module _ {D : Type 0} (story : D → Story) (own : ℕ) (is_open : Bool) (a : Answer) (m n : PagedMachine D) (does : (c : Call) → CallDoes story (MayAbort own is_open c) own c a m n) where

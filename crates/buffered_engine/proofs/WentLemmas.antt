@@ -28,7 +28,7 @@ use Rattle.paged_desks.specs.declared.machine.PagedMachine.{PagedMachine}
 use Rattle.paged_calls.specs.Calls.{del_answer, get_answer, put_answer}
 use Rattle.paged_ends.specs.Ends.{begin_answer, commit_answer, sync_answer}
 use Rattle.buffered_engine.specs.Calls.{IsTo, MayBe, is_stop}
-use Rattle.buffered_engine.specs.Inside.Aborts.{HasReceipt, abort_answer}
+use Rattle.paged_aborts.specs.Aborts.{HasReceipt, abort_answer}
 use Rattle.buffered_engine.specs.Inside.Asks.{FindsFlushed, IsEndOf, IsEnding, ends_in, receipt_in}
 use Rattle.buffered_engine.specs.Inside.Parts.{MachineWent}
 use Rattle.buffered_engine.specs.Receipts.{IsReceipt, flushed_in}

@@ -2,7 +2,7 @@
 ghost use Rattle.std.specs.Prelude.{◌≡◌, None};
 ghost use Rattle.paged_calls.specs.Calls.{del_answer, get_answer, put_answer};
 ghost use Rattle.paged_ends.specs.Ends.{begin_answer, commit_answer, sync_answer};
-ghost use Rattle.buffered_engine.specs.Inside.Aborts.{abort_answer};
+ghost use Rattle.paged_aborts.specs.Aborts.{abort_answer};
 ghost use Rattle.buffered_engine.specs.Inside.Asks.{receipt_in};
 
 use group_commit::Receipt;

@@ -8,7 +8,6 @@ mod durables;
 mod ends;
 mod engine;
 mod machine;
-mod missing;
 
 pub use answers::Hosts;
 pub use calls::{Aborted, Began, Synced};

@@ -10,7 +10,6 @@ ghost use Rattle.buffered_engine.specs.Inside.Asks.{IsDue, IsRowCall};
 ghost use Rattle.buffered_engine.specs.Inside.Parts.{IsTurned, MachineWent};
 
 use crate::ends::Response;
-use crate::missing;
 use map_model::Call;
 use paged_desks::PagedMachine;
 use session_state::Stages;
@@ -67,5 +66,5 @@ pub(crate) fn abort<D: Stages>(machine: &mut PagedMachine<D>) -> Response
     ensures turn { Works machine.new.machine → machine.new.machine.work.session.own ≡ machine.old.machine.work.session.own }
 {
     let own = machine.machine.work.session.own;
-    Response::aborted(own, missing::abort(machine))
+    Response::aborted(own, paged_aborts::abort(machine))
 }

@@ -1,7 +1,7 @@
 use Rattle.std.proofs.Common.{sym, subst}
 use Rattle.map_model.specs.declared.call.Call.TheVariants as call
 use Rattle.paged_desks.specs.Calls.{CallDoes, OnLine}
-use Rattle.buffered_engine.specs.Inside.Aborts.{abort_answer}
+use Rattle.paged_aborts.specs.Aborts.{abort_answer}
 use Rattle.buffered_engine.specs.Inside.Asks.{IsDue, receipt_in}
 use Rattle.buffered_engine.specs.Inside.Parts.{MachineWent}
 use Rattle.buffered_engine.specs.declared.ends.Response.{Response}
