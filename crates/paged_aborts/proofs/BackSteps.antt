@@ -1,5 +1,5 @@
 -- A machine behind a try to put a change back, by its answer.
-use Rattle.std.proofs.Common.{◌≡◌, ℕ, true, false, Result, Ok, Err, ap, sym, true≢false}
+use Rattle.std.proofs.Common.{◌≡◌, ℕ, true, Result, Ok, Err, ap, sym, true≢false}
 use Rattle.lean_disk.specs.Story.{Story}
 use Rattle.map_model.specs.declared.call.Refusal.TheVariants as refusal
 use Rattle.page_pool.specs.Pools.{EveryStanding}

@@ -1,6 +1,6 @@
 -- An abort that was not half done before the call is not held up by its own log: behind all that it put back, and the syncs that pages asked for, what is left to put back finds room
 -- behind a flush.
-use Rattle.std.proofs.Common.{◌≡◌, ◌∙◌, ◌≤◌, ◌<◌, ◌+◌, ◌*◌, ◌++◌, ℕ, suc, false, List, [], length, ap, refl, sym, subst, arith}
+use Rattle.std.proofs.Common.{◌≡◌, ◌∙◌, ◌≤◌, ◌++◌, ℕ, false, List, [], length, ap, refl, sym, subst, arith}
 use Rattle.std.specs.Prelude.{min}
 use Rattle.std.proofs.Math.Nat.{min-eq_left, min-le_left}
 use Rattle.core_calls.specs.Fronts.{Done, front}

@@ -1,5 +1,5 @@
 -- The end of an abort in a run: which outcome it is.
-use Rattle.std.proofs.Common.{◌≡◌, ◌∙◌, ◌≤◌, ◌<◌, ◌+◌, ◌^◌, ◌++◌, ℕ, suc, Bool, true, false, cond, List, [], ◌∷◌, length, Some, None, ap, refl, sym, subst, arith, true≢false}
+use Rattle.std.proofs.Common.{◌≡◌, ◌∙◌, ◌≤◌, ◌<◌, ◌^◌, ◌++◌, ℕ, suc, Bool, true, false, cond, List, [], ◌∷◌, length, Some, None, ap, refl, sym, subst, arith, true≢false}
 use Rattle.std.proofs.lemmas.List.{length-append}
 use Rattle.map_model.specs.Lists.{all, any}
 use Rattle.map_model.specs.declared.call.Answer.TheVariants as answer

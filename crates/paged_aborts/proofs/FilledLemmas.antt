@@ -25,7 +25,7 @@ use Rattle.row_words.specs.Moments.{events_of}
 use Rattle.row_words.specs.declared.event.Event as rows
 use Rattle.row_words.specs.declared.event.Event.TheVariants as told
 use Rattle.session_state.specs.Reserves.{Makes, MakesAll, Step, takes, takes_all}
-use Rattle.session_state.specs.Undo.{HasRoomToUndo, filled}
+use Rattle.session_state.specs.Undo.{HasRoomToUndo}
 use Rattle.sync_counts.specs.Syncs.{syncs}
 use Rattle.worker_log.specs.Calls.{After, flushed_log}
 use Rattle.worker_log.specs.Logs.{Log}

@@ -1,5 +1,5 @@
 -- The frame in which a key's leaf stands.
-use Rattle.std.proofs.Common.{◌≡◌, ◌∙◌, ◌≤◌, ◌<◌, ◌+◌, ◌++◌, ltb, ℕ, Bool, true, false, [], if◌then◌else◌, ap, refl, sym, subst, arith, append-nil}
+use Rattle.std.proofs.Common.{◌≡◌, ◌∙◌, ◌<◌, ltb, ℕ, Bool, true, false, [], if◌then◌else◌, ap, refl, sym, subst, arith, append-nil}
 use Rattle.std.proofs.lemmas.Bool.{eq-eqb}
 use Rattle.btree_descent.specs.Descents.{Sized}
 use Rattle.btree_descent.specs.Known.{IsSound}

@@ -36,10 +36,10 @@ abort_answer (Err why) = answer.Refused why
 
 -- The numbers of the transaction and of its end, and what the end needs, by how far the logs were flushed when it ended: then its changes were put back, and its rows were given back next.
 pub record HasReceipt {D : Type 0} (m n : PagedMachine D) (e : Ended) : Type 0 where
-  pub kept : (view_of n).given ≡ (view_of m).given
   pub before : View
   pub events : List Event
   pub given : before.given ≡ (view_of m).given
+  pub kept : (view_of n).given ≡ (view_of m).given
   pub seen : before.seen ≡ (view_of m).seen ++ events
   pub told : IsEnded before n.machine.work.session e
   pub floor : ℕ

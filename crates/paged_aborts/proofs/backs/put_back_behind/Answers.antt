@@ -52,7 +52,7 @@ put_back_in_leaf-requires-clause-left g c κs within =
     let lawful = (g.met.D.Disk g.world.𝓛 g.world.𝓜 g.world.𝓡 ((λ s x. x), (λ x. x), (λ x. x), (λ x. x))).lawful in
     let story = g.D.Disk.story in
     let m = c.args.machine.now in
-    some_left c.warm.new.self.machine.work.session.undo c.requires.newest.0 (ap newest_of (undo_kept l e.places story lawful m c.warm.new.self c.requires.ready (c.in_default.ensures.gone refl).paged) ∙ c.requires.newest.1.0)
+    some_left c.warm.new.self.machine.work.session.undo c.requires.newest.0 (ap newest_of (undo_kept l e.places story lawful m c.warm.new.self c.requires.ready (c.in_default.ensures.gone refl).paged) ∙ c.requires.newest.1)
 
 pub returns-in-Ok-clause-backs : goal.returns-in-Ok-clause-backs
 returns-in-Ok-clause-backs g c =

@@ -7,7 +7,7 @@ use Rattle.paged_aborts.proofs.LoseLemmas.{leaf_place, loaded_seen}
 use Rattle.paged_aborts.proofs.leaves.last_page.Goals as goal
 
 pub load_word-requires-clause-place : goal.load_word-requires-clause-place
-load_word-requires-clause-place g c κs within =
+load_word-requires-clause-place g c =
     let v = g.R.Rows.view c.args.seat.now in
     let t = c.in-Leaf.ensures.went in
     leaf_place (g.R.Rows.shape c.reach.new.rows) v (g.R.Rows.view c.reach.new.seat) c.args.frames c.in-Leaf.row t.page c.args.key c.requires.sound (subst (λ (z : Shape). Sized z v c.args.frames) (sym c.reach.ensures.fits.1) c.requires.sized) t.ran.given t.leaf

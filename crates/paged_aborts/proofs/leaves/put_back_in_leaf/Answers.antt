@@ -6,7 +6,7 @@ use Rattle.paged_aborts.proofs.BackSteps.{back_ready}
 use Rattle.paged_aborts.proofs.leaves.put_back_in_leaf.Goals as goal
 
 pub put_back-requires-clause-holds : goal.put_back-requires-clause-holds
-put_back-requires-clause-holds g c =
+put_back-requires-clause-holds g c κs within =
     let m = c.args.machine.now.machine in
     holds_of (shape m) m.seat.view (here m) m.desks.items c.requires.ready.sound.desks
 
