@@ -1,0 +1,212 @@
+-- What a call of an engine did in each run in which it stands, and that it stands in one.
+use Rattle.std.proofs.Common.{◌≡◌, ◌≤◌, ◌<◌, ℕ, Bool, true, false, not, leb, List, ◌∷◌, length, Option, Some, None, IfSome, arith, refl, sym, ap, ◌∙◌, subst, true≢false}
+use Rattle.map_model.specs.Journals.{Name}
+use Rattle.map_model.specs.declared.call.Answer.{Answer}
+use Rattle.map_model.specs.declared.call.Answer.TheVariants as answer
+use Rattle.map_model.specs.declared.call.Call.{Call}
+use Rattle.map_model.specs.declared.call.Call.TheVariants as call
+use Rattle.map_model.specs.declared.call.Refusal.TheVariants as refusal
+use Rattle.page_model.specs.Limits.{most_sessions, waiting_ends}
+use Rattle.core_commit.specs.Rises.{EveryRise}
+use Rattle.core_state.specs.Openings.{Opening}
+use Rattle.core_state.specs.Steps.{state_after}
+use Rattle.core_calls.specs.Fronts.{Done, front, outcomes}
+use Rattle.core_calls.specs.Refusals.{waiting}
+use Rattle.engine_calls.specs.Clauses.{IsNewLine}
+use Rattle.lean_disk.specs.Story.{Story}
+use Rattle.row_opening.specs.Openings.{EveryReached}
+use Rattle.call_parts.specs.Deeds.{Fails}
+use Rattle.engine_trait.specs.Calls.{IsAsked}
+use Rattle.engine_front.specs.Stops.{StandsNot}
+use Rattle.engine_front.specs.Turns.{IsNext, behind_answer, is_conflict_in}
+use Rattle.engine_front.specs.declared.calls.Next.{Next}
+use Rattle.engine_front.specs.declared.calls.Next.TheVariants.{Abort, Line}
+use Rattle.group_commit.specs.Laws.{EveryOutcome}
+use Rattle.group_commit.specs.Queues.{queue_of}
+use Rattle.group_commit.specs.declared.queue.End.{End}
+use Rattle.group_commit.specs.declared.receipts.Receipt.{Receipt}
+use Rattle.rows_trait.specs.declared.view.View.{View}
+use Rattle.session_desks.specs.Desks.{desk_of}
+use Rattle.session_desks.specs.Parts.{Works, here}
+use Rattle.paged_desks.specs.Calls.{AreHalf, CallDoes, Comes, DoesTied}
+use Rattle.paged_desks.specs.Machines.{memory, view_of}
+use Rattle.paged_desks.specs.declared.machine.PagedMachine.{PagedMachine}
+use Rattle.buffered_engine.specs.Calls.{AbortsInRuns, DoesIn, IsTo, MayBe, is_stop}
+use Rattle.buffered_engine.specs.Inside.Asks.{IsDue, IsEndOf, OnAsked, ends_in, next_behind, put_ends}
+use Rattle.buffered_engine.specs.Inside.Parts.{IsEngine, MachineWent, state_by}
+use Rattle.buffered_engine.specs.States.{HasRoom, HasRun, InRun, IsOfTurn, IsSettled, State, WhereDue, memory_in}
+use Rattle.buffered_engine.specs.declared.ends.Response.{Response}
+use Rattle.buffered_engine.proofs.AskLemmas.{Room, has_run, in_run_behind, room_abort, room_line}
+use Rattle.buffered_engine.proofs.CallLemmas.{comes_if, did}
+use Rattle.buffered_engine.proofs.SeenLemmas.{same_half}
+
+-- ## Answers
+
+-- an answer that may be where there is one session may be where there are several
+pub may_more : (n : ℕ) (a : Answer) → MayBe 1 a → MayBe n a
+may_more n (answer.Refused (refusal.Conflict h)) m = λ e. m refl
+may_more n (answer.Refused why) m = m
+may_more n a m = m
+
+-- who ended a transaction is a session
+pub some_session : (sessions own : ℕ) (c : Call) (a : Answer) → IsAsked sessions own c → IsTo c a → ends_in a ≡ true → (0 < own) × (own ≤ sessions)
+some_session sessions own call.Sync (answer.Committed n at) i t e = absurd t
+some_session sessions own call.Sync (answer.Aborted n) i t e = absurd t
+some_session sessions own call.Sync a i t e = absurd (true≢false (sym e))
+some_session sessions own c a i t e = (i.0, i.1)
+
+-- where a call may come in a run, a begin with the ends of its session that wait
+pub may_ask : (sessions own : ℕ) (c : Call) (is_long : Bool) (g : Opening) (xs : List Done) → IsAsked sessions own c → IsNewLine (outcomes xs)
+    → (c ≡ call.Begin → 0 < own → own ≤ sessions → leb 256 (waiting g (state_after g (front xs)) own) ≡ is_long) → OnAsked own c is_long g xs
+may_ask sessions own call.Begin is_long g xs asked line long = (line, long refl asked.0 asked.1)
+may_ask sessions own c is_long g xs asked line long = line
+
+begun_by : (c : Call) (a : Answer) (n : ℕ) → IsTo c a → a ≡ answer.Begun n → c ≡ call.Begin
+begun_by c a n t e = go c (subst (IsTo c) e t)
+  where
+    go : (c : Call) → IsTo c (answer.Begun n) → c ≡ call.Begin
+    go call.Begin t = refl
+    go c t = absurd t
+
+-- a conflict is no end
+none_hindered : (a : Answer) → MayBe 1 a → is_conflict_in a ≡ true → ⊥
+none_hindered (answer.Refused (refusal.Conflict h)) may e = may refl
+none_hindered _ may e = true≢false (sym e)
+
+-- no session asks a sync, so it is answered no conflict
+pub sync_turn : (a : Answer) (P : Type 0) → MayBe 1 a → is_conflict_in a ≡ true → P
+sync_turn a P may e = absurd (none_hindered a may e)
+
+not_stopped : (b : Bool) → not b ≡ true → b ≡ false
+not_stopped true e = absurd (true≢false (sym e))
+not_stopped false e = refl
+
+-- ## A call
+
+module _ {D : Type 0} (reached : EveryReached) (outcome : EveryOutcome) (rises : EveryRise) (story : D → Story) (m n : PagedMachine D) (next next_new : Next) (ends ends_new : List (List End))
+    (works : Works m.machine) (e : IsEngine story m next ends) (faults : D → ℕ) (On : Opening → List Done → Type 0) (own : ℕ) (some_call : Call) (r : Response) (w : MachineWent story faults On m.machine.work.session.workers own some_call r m n)
+    (next_is : next_new ≡ next_behind n.machine.work.session.works next r.answer) (ends_are : ends_new ≡ put_ends r.receipt r.answer ends) (turn : Works n.machine → is_conflict_in r.answer ≡ true → n.machine.work.session.own ≡ own) where
+  abbrev was : State D
+  was = state_by m next ends
+
+  abbrev is : State D
+  is = state_by n next_new ends_new
+
+  abbrev a : Answer
+  a = r.answer
+
+  abbrev old : Story
+  old = story m.machine.work.disk
+
+  abbrev new : Story
+  new = story n.machine.work.disk
+
+  abbrev stood : HasRun was
+  stood = e.run works
+
+  going : is_stop a ≡ false → Works n.machine
+  going s = w.works ∙ ap not s
+
+  next_of : Works n.machine → next_new ≡ behind_answer a
+  next_of q = next_is ∙ ap (λ (b : Bool). next_behind b next a) q
+
+  half : (g : Opening) (xs : List Done) (names : List Name) → InRun was g xs names → AreHalf g.workers xs m.machine
+  half g xs names run u low high = same_half g stood.opening was.group was.group xs stood.done (memory m) (memory m) (view_of m) run.tied stood.in_run.tied u
+      ∙ stood.is_half_aborted u low (subst (λ (k : ℕ). u ≤ k) (run.workers ∙ sym stood.in_run.workers) high)
+
+  module _ (c : Call) (May : Opening → List Done → Type 0) (does : CallDoes story May own c a m n) where
+    abbrev Did : Opening → List Done → Type 0
+    Did g xs = DoesTied g was.group xs own c a (memory m) n old new
+
+    abbrev Failed : Opening → List Done → Type 0
+    Failed g xs = Fails g was.group xs own c (memory m) old new
+
+    abbrev Never : Opening → List Done → Type 0
+    Never g xs = StandsNot g was.group xs (memory m) old
+
+    pub in_runs : (g : Opening) (xs : List Done) (names : List Name) → InRun was g xs names → May g xs → Comes a (DoesIn g xs names own c a was is old new) (Failed g xs) (Never g xs)
+    in_runs g xs names run may = comes_if a (Did g xs) (DoesIn g xs names own c a was is old new) (Failed g xs) (Never g xs) w.not_broken
+        (λ s d. record { does = d.does; in_run = in_run_behind reached outcome rises m n next next_new ends ends_new own c a r.receipt old new w.session w.may w.ends ends_are (next_of (going s)) (turn (going s)) g xs names run d })
+        (does g xs run.workers run.tied (half g xs names run) may)
+
+    pub run_behind : (ends_in a ≡ true → 0 < own)
+        → ((u : ℕ) → 0 < u → u ≤ stood.opening.workers → Room (desk_of was.work was.desks u).session.is_open (length (queue_of ends u)))
+        → ((k : ℕ) → a ≡ answer.Begun k → length (queue_of ends own) ≡ waiting stood.opening (state_after stood.opening (front stood.done)) own)
+        → May stood.opening stood.done → Works n.machine → HasRun is
+    run_behind some room settled here q = has_run reached outcome rises m n next next_new ends ends_new own c a r.receipt old new w.session w.may w.ends ends_are (next_of q) (turn q)
+        story (e.ready works) (w.ready q) (turn q) stood
+        (did a (Did stood.opening stood.done) (Failed stood.opening stood.done) (Never stood.opening stood.done) (not_stopped (is_stop a) (sym w.works ∙ q))
+        (does stood.opening stood.done stood.in_run.workers stood.in_run.tied (half stood.opening stood.done stood.names stood.in_run) here))
+        some room settled
+
+  pub few : n.machine.work.session.workers ≤ most_sessions
+  few = subst (λ (k : ℕ). k ≤ most_sessions) (sym w.session.0) e.few
+
+-- ## On a line
+
+module _ {D : Type 0} (was : State D) (line : was.next ≡ Line) where
+  pub line_of : (g : Opening) (xs : List Done) (names : List Name) → InRun was g xs names → IsNewLine (outcomes xs)
+  line_of g xs names run = subst (λ (n : Next). IsNext n xs) line run.next
+
+  pub settled_of : (g : Opening) (xs : List Done) (names : List Name) → InRun was g xs names → (w : ℕ) → 0 < w → w ≤ g.workers → length (queue_of was.ends w) ≡ waiting g (state_after g (front xs)) w
+  settled_of g xs names run = subst (λ (n : Next). IsSettled n ((w : ℕ) → 0 < w → w ≤ g.workers → length (queue_of was.ends w) ≡ waiting g (state_after g (front xs)) w)) line run.settled
+
+  pub asked_of : (own : ℕ) (c : Call) (is_long : Bool) (g : Opening) (xs : List Done) (names : List Name) → InRun was g xs names → IsAsked was.sessions own c → (c ≡ call.Begin → is_long ≡ leb waiting_ends (length (queue_of was.ends own)))
+      → OnAsked own c is_long g xs
+  asked_of own c is_long g xs names run asked long = may_ask was.sessions own c is_long g xs asked (line_of g xs names run)
+      (λ e low high. ap (leb 256) (sym (settled_of g xs names run own low (subst (λ (n : ℕ). own ≤ n) (sym run.workers) high))) ∙ sym (long e))
+
+  pub begun_of : (own : ℕ) (c : Call) (a : Answer) (g : Opening) (xs : List Done) (names : List Name) → InRun was g xs names → IsAsked was.sessions own c → IsTo c a → (n : ℕ) → a ≡ answer.Begun n
+      → length (queue_of was.ends own) ≡ waiting g (state_after g (front xs)) own
+  begun_of own c a g xs names run asked to n e =
+      let i = subst (λ (d : Call). IsAsked was.sessions own d) (begun_by c a n to e) asked in
+      settled_of g xs names run own i.0 (subst (λ (k : ℕ). own ≤ k) (sym run.workers) i.1)
+
+  pub room_on_line : (stood : HasRun was) → (w : ℕ) → 0 < w → w ≤ stood.opening.workers → Room (desk_of was.work was.desks w).session.is_open (length (queue_of was.ends w))
+  room_on_line stood w low high = room_line (desk_of was.work was.desks w).session.is_open (length (queue_of was.ends w)) (waiting stood.opening (state_after stood.opening (front stood.done)) w)
+      (subst (λ (n : Next). HasRoom n (desk_of was.work was.desks w).session.is_open (length (queue_of was.ends w)) (waiting stood.opening (state_after stood.opening (front stood.done)) w)) line (stood.room w low high))
+
+-- ## Behind a conflict
+
+module _ {D : Type 0} (was : State D) (due : was.next ≡ Abort) where
+  pub room_on_abort : (stood : HasRun was) → (w : ℕ) → 0 < w → w ≤ stood.opening.workers → Room (desk_of was.work was.desks w).session.is_open (length (queue_of was.ends w))
+  room_on_abort stood w low high = room_abort (desk_of was.work was.desks w).session.is_open (length (queue_of was.ends w)) (waiting stood.opening (state_after stood.opening (front stood.done)) w)
+      (subst (λ (n : Next). HasRoom n (desk_of was.work was.desks w).session.is_open (length (queue_of was.ends w)) (waiting stood.opening (state_after stood.opening (front stood.done)) w)) due (stood.room w low high))
+
+  pub open_due : HasRun was → was.work.session.is_open ≡ true
+  open_due stood = subst (λ (n : Next). WhereDue n (was.work.session.is_open ≡ true)) due stood.is_open
+
+  -- the call that met it
+  pub due_of : (g : Opening) (xs : List Done) (names : List Name) → InRun was g xs names → (c : Call) × IsDue was.turn c g xs
+  due_of g xs names run =
+      let h = subst (λ (n : Next). IsNext n xs) due run.next in
+      (h.hindered, record { newest = h.newest; earlier = h.earlier; are = h.are; hindered = h.is; session = subst (IsOfTurn was.turn) h.are (subst (λ (n : Next). WhereDue n (IsOfTurn was.turn xs)) due run.turn) })
+
+  pub turn_of : (g : Opening) (y : Done) (earlier : List Done) (names : List Name) → InRun was g (y ∷ earlier) names → y.outcome.session ≡ was.turn
+  turn_of g y earlier names run = subst (λ (n : Next). WhereDue n (IsOfTurn was.turn (y ∷ earlier))) due run.turn
+
+  pub aborts_in : (is : State D) (a : Answer) (old new : Story)
+      → ((c : Call) (g : Opening) (xs : List Done) (names : List Name) → InRun was g xs names → IsDue was.turn c g xs → Comes a (DoesIn g xs names was.turn c a was is old new) (Fails g was.group xs was.turn c (memory_in was) old new) (StandsNot g was.group xs (memory_in was) old))
+      → AbortsInRuns a was is old new
+  aborts_in is a old new does g y earlier names run c h =
+      let t = turn_of g y earlier names run in
+      subst (λ (k : ℕ). Comes a (DoesIn g (y ∷ earlier) names k c a was is old new) (Fails g was.group (y ∷ earlier) k c (memory_in was) old new) (StandsNot g was.group (y ∷ earlier) (memory_in was) old)) (sym t)
+      (does c g (y ∷ earlier) names run (record { newest = y; earlier = earlier; are = refl; hindered = h; session = t }))
+
+-- ## Room for an end
+
+-- where room is as it is said, an end of the session finds room
+pub end_room : (sessions own : ℕ) (a : Answer) (receipt : Option Receipt) (v w : View) (qs : List (List End)) (opens : ℕ → Bool) → IsEndOf own v w a receipt → (ends_in a ≡ true → (0 < own) × (own ≤ sessions)) → length qs ≡ sessions
+    → ((k : ℕ) → 0 < k → k ≤ sessions → Room (opens k) (length (queue_of qs k)))
+    → IfSome receipt (λ r. (0 < r.log) × (r.log ≤ length qs)) × IfSome receipt (λ r. length (queue_of qs r.log) < 257)
+end_room sessions own a receipt v w qs opens e some many room = go receipt (λ r q. (e.ended r q).is.log) (λ r q. e.some r q)
+  where
+    go : (o : Option Receipt) → ((r : Receipt) → o ≡ Some r → r.log ≡ own) → ((r : Receipt) → o ≡ Some r → ends_in a ≡ true) → IfSome o (λ r. (0 < r.log) × (r.log ≤ length qs)) × IfSome o (λ r. length (queue_of qs r.log) < 257)
+    go None l k = (tt, tt)
+    go (Some r) l k =
+        let is = l r refl in
+        let s = some (k r refl) in
+        let low = s.0 in let high = s.1 in
+        let m = (room own low high).most in
+        let q = ap (λ (n : ℕ). length (queue_of qs n)) is in
+        ((omega arith, omega arith), omega arith)

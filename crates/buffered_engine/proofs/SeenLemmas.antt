@@ -1,0 +1,41 @@
+-- What a view that is tied to a run has seen: the state of that run, and which aborts are half done.
+use Rattle.std.proofs.Common.{◌≡◌, ℕ, false, List, ◌++◌, append-nil, sym, ap, ◌∙◌}
+use Rattle.rfa_model.specs.Reaches.{least}
+use Rattle.core_state.specs.Openings.{Opening}
+use Rattle.core_state.specs.States.{State, flushed_by_all}
+use Rattle.core_state.specs.Events.{Event}
+use Rattle.core_state.specs.Steps.{state_after}
+use Rattle.core_calls.specs.Fronts.{Done, front}
+use Rattle.row_opening.specs.Openings.{EveryReached}
+use Rattle.row_words.specs.Moments.{events_of}
+use Rattle.row_words.specs.Openings.{opening}
+use Rattle.rows_trait.specs.declared.view.View.{View}
+use Rattle.rows_trait.specs.Views.{state}
+use Rattle.call_parts.specs.Memory.{Memory}
+use Rattle.engine_trait.specs.Calls.{is_half_done}
+use Rattle.engine_trait.specs.Limits.{limits}
+use Rattle.session_state.specs.Ties.{Ties}
+use Rattle.paged_desks.specs.Calls.{Tied}
+use Rattle.buffered_engine.proofs.HalfMarks.{half_told, halves}
+
+module _ (g : Opening) (group : ℕ) (xs : List Done) (v : View) (m : Memory) (t : Tied g group xs v m) where
+  abbrev first : Ties g group xs 0 (is_half_done 0 xs) v
+  first = t.ties 0
+
+  -- just the events of the outcomes
+  pub events_seen : events_of v.given.before ++ events_of v.seen ≡ front xs
+  events_seen = first.seen ∙ (ap (λ (es : List Event). front xs ++ es) (t.begun 0) ∙ append-nil (front xs))
+
+  pub core_is : EveryReached → (state v).core ≡ state_after g (front xs)
+  core_is reached = reached g v.given first.opens v.seen ∙ ap (state_after g) events_seen
+
+  pub all_seen : EveryReached → flushed_by_all (opening v.given) (state v).core ≡ flushed_by_all g (state_after g (front xs))
+  all_seen reached = ap (least (state v).core.flushed) (sym first.opens.workers) ∙ ap (λ (s : State). flushed_by_all g s) (core_is reached)
+
+  -- by what was seen
+  seen_half : (w : ℕ) → is_half_done w xs ≡ halves w (events_of v.given.before ++ events_of v.seen) false
+  seen_half w = half_told limits g group xs first.told w ∙ sym (ap (λ (es : List Event). halves w es false) events_seen)
+
+-- so it is the same in each run
+pub same_half : (g h : Opening) (group many : ℕ) (xs ys : List Done) (m n : Memory) (v : View) → Tied g group xs v m → Tied h many ys v n → (w : ℕ) → is_half_done w xs ≡ is_half_done w ys
+same_half g h group many xs ys m n v t u w = seen_half g group xs v m t w ∙ sym (seen_half h many ys v n u w)

@@ -1,0 +1,248 @@
+-- What a call left of a machine, from what it said.
+use Rattle.std.proofs.Common.{◌≡◌, ◌⊎◌, inl, inr, ◌↔◌, ℕ, true, false, not, List, ◌∷◌, ◌++◌, Option, Some, None, Result, Ok, Err, IfErr, IfOk, refl, sym, ap, ◌∙◌, subst, true≢false}
+use Rattle.std.proofs.lemmas.List.{append_assoc}
+use Rattle.map_model.proofs.ListLemmas.{has_right}
+use Rattle.map_model.specs.declared.call.Answer.{Answer}
+use Rattle.map_model.specs.declared.call.Answer.TheVariants as answer
+use Rattle.map_model.specs.declared.call.Call.{Call}
+use Rattle.map_model.specs.declared.call.Refusal.{Refusal}
+use Rattle.map_model.specs.declared.call.Refusal.TheVariants as refusal
+use Rattle.rfa_model.specs.Stamps.{need_of}
+use Rattle.core_state.specs.Openings.{Opening}
+use Rattle.core_calls.specs.Fronts.{Done}
+use Rattle.lean_disk.specs.Faults.{HasCause}
+use Rattle.lean_disk.specs.Story.{Story}
+use Rattle.engine_trait.specs.Calls.{MayCome}
+use Rattle.group_commit.specs.declared.receipts.Receipt.{Receipt}
+use Rattle.row_ends.specs.Ends.{gives}
+use Rattle.row_ends.specs.Receipts.{IsEnded}
+use Rattle.row_ends.specs.declared.ending.Ended.{Ended}
+use Rattle.row_words.specs.declared.event.Event.{Event}
+use Rattle.row_words.specs.declared.event.Event.TheVariants.{End}
+use Rattle.rows_trait.specs.declared.view.View.{View}
+use Rattle.session_desks.specs.Parts.{AreAsMany, SeatFits, Works, here, shape}
+use Rattle.session_desks.proofs.SeatLemmas.{holds_of}
+use Rattle.paged_desks.specs.Calls.{CallDoes, EndsWork, ends_work, works_behind}
+use Rattle.paged_desks.specs.Machines.{IsReady, view_of}
+use Rattle.paged_desks.specs.declared.machine.PagedMachine.{PagedMachine}
+use Rattle.paged_calls.specs.Calls.{del_answer, get_answer, put_answer}
+use Rattle.paged_ends.specs.Ends.{begin_answer, commit_answer, sync_answer}
+use Rattle.buffered_engine.specs.Calls.{IsTo, MayBe, is_stop}
+use Rattle.paged_aborts.specs.Aborts.{HasReceipt, abort_answer}
+use Rattle.buffered_engine.specs.Inside.Asks.{FindsFlushed, IsEndOf, IsEnding, ends_in, receipt_in}
+use Rattle.buffered_engine.specs.Inside.Parts.{MachineWent}
+use Rattle.buffered_engine.specs.Receipts.{IsReceipt, flushed_in}
+use Rattle.buffered_engine.specs.declared.ends.Response.{Response}
+use Rattle.buffered_engine.proofs.AskingLemmas.{may_more}
+
+-- ## Refusals
+
+may_be : (many : ℕ) (why : Refusal) → MayCome many why ⊎ EndsWork why → MayBe many (answer.Refused why)
+may_be many refusal.Broken h = tt
+may_be many refusal.DiskFault h = tt
+may_be many (refusal.Damaged area place) h = tt
+may_be many _ (inl m) = m
+may_be many _ (inr e) = absurd (true≢false (sym e))
+
+works_still : (T : Type 0) (why : Refusal) → not (ends_work why) ≡ works_behind {A = T} (Err why)
+works_still T refusal.Broken = refl
+works_still T refusal.DiskFault = refl
+works_still T (refusal.Damaged area place) = refl
+works_still T _ = refl
+
+refused_is : (p q : Refusal) → answer.Refused p ≡ answer.Refused q → p ≡ q
+refused_is p q r = cc
+
+-- ## Answers
+
+-- a result as an answer to this call
+pub record IsAnswer {T : Type 0} (many : ℕ) (c : Call) (f : Result T Refusal → Answer) : Type 0 where
+  pub refused : (q : Refusal) → f (Err q) ≡ answer.Refused q
+  pub to : (r : Result T Refusal) → IsTo c (f r)
+  pub come : (x : T) → MayBe many (f (Ok x))
+  pub goes : (x : T) → is_stop (f (Ok x)) ≡ false
+  pub apart : (x : T) (q : Refusal) → f (Ok x) ≡ answer.Refused q → ⊥
+
+pub begins : (many : ℕ) → IsAnswer many Call.Begin begin_answer
+begins many = record { refused = λ q. refl; to = to; come = λ x. tt; goes = λ x. refl; apart = λ x q e. absurd (cc) }
+  where
+    to : (r : Result ℕ Refusal) → IsTo Call.Begin (begin_answer r)
+    to (Ok x) = tt
+    to (Err q) = tt
+
+pub gets : (many key : ℕ) → IsAnswer many (Call.Get key) get_answer
+gets many key = record { refused = λ q. refl; to = to; come = λ x. tt; goes = λ x. refl; apart = λ x q e. absurd (cc) }
+  where
+    to : (r : Result (Option ℕ) Refusal) → IsTo (Call.Get key) (get_answer r)
+    to (Ok x) = tt
+    to (Err q) = tt
+
+pub puts : (many key value : ℕ) → IsAnswer many (Call.Put key value) put_answer
+puts many key value = record { refused = λ q. refl; to = to; come = λ x. tt; goes = λ x. refl; apart = λ x q e. absurd (cc) }
+  where
+    to : (r : Result (Option ℕ) Refusal) → IsTo (Call.Put key value) (put_answer r)
+    to (Ok x) = tt
+    to (Err q) = tt
+
+pub dels : (many key : ℕ) → IsAnswer many (Call.Del key) del_answer
+dels many key = record { refused = λ q. refl; to = to; come = λ x. tt; goes = λ x. refl; apart = λ x q e. absurd (cc) }
+  where
+    to : (r : Result (Option ℕ) Refusal) → IsTo (Call.Del key) (del_answer r)
+    to (Ok x) = tt
+    to (Err q) = tt
+
+pub commits : (many : ℕ) → IsAnswer many Call.Commit commit_answer
+commits many = record { refused = λ q. refl; to = to; come = λ x. tt; goes = λ x. refl; apart = λ x q e. absurd (cc) }
+  where
+    to : (r : Result Ended Refusal) → IsTo Call.Commit (commit_answer r)
+    to (Ok x) = tt
+    to (Err q) = tt
+
+pub aborts : (many : ℕ) → IsAnswer many Call.Abort abort_answer
+aborts many = record { refused = λ q. refl; to = to; come = λ x. tt; goes = λ x. refl; apart = λ x q e. absurd (cc) }
+  where
+    to : (r : Result Ended Refusal) → IsTo Call.Abort (abort_answer r)
+    to (Ok x) = tt
+    to (Err q) = tt
+
+pub syncs : (many : ℕ) → IsAnswer many Call.Sync sync_answer
+syncs many = record { refused = λ q. refl; to = to; come = λ x. tt; goes = λ x. refl; apart = λ x q e. absurd (cc) }
+  where
+    to : (r : Result ℕ Refusal) → IsTo Call.Sync (sync_answer r)
+    to (Ok x) = tt
+    to (Err q) = tt
+
+-- ## Ends
+
+ends_none : (own : ℕ) (v w : View) (a : Answer) → ends_in a ≡ false → IsEndOf own v w a None
+ends_none own v w a e = record {
+  ended = λ r q. absurd (cc);
+  none = λ _. e;
+  some = λ r q. absurd (cc);
+  commit = λ number at q. absurd (true≢false (sym (ap ends_in q) ∙ e));
+}
+
+pub begins_none : (own : ℕ) (v w : View) (r : Result ℕ Refusal) → IsEndOf own v w (begin_answer r) None
+begins_none own v w (Ok x) = ends_none own v w (answer.Begun x) refl
+begins_none own v w (Err why) = ends_none own v w (answer.Refused why) refl
+
+pub gets_none : (own : ℕ) (v w : View) (r : Result (Option ℕ) Refusal) → IsEndOf own v w (get_answer r) None
+gets_none own v w (Ok x) = ends_none own v w (answer.Value x) refl
+gets_none own v w (Err why) = ends_none own v w (answer.Refused why) refl
+
+pub puts_none : (own : ℕ) (v w : View) (r : Result (Option ℕ) Refusal) → IsEndOf own v w (put_answer r) None
+puts_none own v w (Ok x) = ends_none own v w (answer.Was x) refl
+puts_none own v w (Err why) = ends_none own v w (answer.Refused why) refl
+
+pub dels_none : (own : ℕ) (v w : View) (r : Result (Option ℕ) Refusal) → IsEndOf own v w (del_answer r) None
+dels_none own v w (Ok x) = ends_none own v w (answer.Was x) refl
+dels_none own v w (Err why) = ends_none own v w (answer.Refused why) refl
+
+pub syncs_none : (own : ℕ) (v w : View) (r : Result ℕ Refusal) → IsEndOf own v w (sync_answer r) None
+syncs_none own v w (Ok x) = ends_none own v w (answer.Synced x) refl
+syncs_none own v w (Err why) = ends_none own v w (answer.Refused why) refl
+
+some_is : {A : Type 0} (a b : A) → Some a ≡ Some b → a ≡ b
+some_is a b e = cc
+
+some_none : {A : Type 0} (a : A) → ◌≡◌ {A = Option A} (Some a) None → ⊥
+some_none a e = absurd (cc)
+
+-- the receipt of an end
+abbrev receipt_of : (own : ℕ) → Ended → Receipt
+receipt_of own e = record { txn = e.number; log = own; gsn = e.at; need = e.need }
+
+end_of : (own : ℕ) (v w : View) (e : Ended) (a : Answer) → IsEnding own v w a (receipt_of own e) → ends_in a ≡ true → ((number at : ℕ) → a ≡ answer.Committed number at → (e.number ≡ number) × (e.at ≡ at)) → IsEndOf own v w a (Some (receipt_of own e))
+end_of own v w e a is ends commit = record {
+  ended = λ q p. subst (IsEnding own v w a) (some_is (receipt_of own e) q p) is;
+  none = λ p. absurd (some_none (receipt_of own e) p);
+  some = λ q p. ends;
+  commit = λ number at p. let k = commit number at p in (receipt_of own e, refl, k.0, k.1);
+}
+
+module _ {D : Type 0} (story : D → Story) (m n : PagedMachine D) (ready : Works n.machine → IsReady story n) (turn : Works n.machine → n.machine.work.session.own ≡ m.machine.work.session.own) where
+  abbrev own : ℕ
+  own = m.machine.work.session.own
+
+  -- the receipt has what the core's worker has
+  receipt_is : Works n.machine → (e : Ended) (flushed : ℕ) → e.number ≡ n.machine.work.session.txn → e.at ≡ n.machine.work.session.end → e.need ≡ need_of n.machine.work.session.clock.debt flushed → IsReceipt own flushed (view_of n) (receipt_of own e)
+  receipt_is works e flushed number at need = subst (λ (k : ℕ). IsReceipt k flushed (view_of n) (receipt_of k e)) (turn works)
+      (let h = holds_of (shape n.machine) (view_of n) (here n.machine) n.machine.desks.items (ready works).sound.desks in record {
+        log = refl;
+        txn = number ∙ sym h.session.txn;
+        gsn = at ∙ sym h.session.end;
+        need = need ∙ ap (λ (d : ℕ). need_of d flushed) (sym h.session.debt);
+      })
+
+  pub commit_ends : (r : Result Ended Refusal) → n.machine.work.session.works ≡ works_behind r → IfOk r (IsEnded (view_of m) n.machine.work.session) → IsEndOf own (view_of m) (view_of n) (commit_answer r) (receipt_in own r)
+  commit_ends (Err why) works is = ends_none own (view_of m) (view_of n) (answer.Refused why) refl
+  commit_ends (Ok e) works is = end_of own (view_of m) (view_of n) e (answer.Committed e.number e.at)
+      (record { flushed = flushed_in (view_of m); was = refl; is = receipt_is works e (flushed_in (view_of m)) is.number is.at is.need }) refl (λ number at q. (cc, cc))
+
+  -- what an abort found flushed
+  finds : (e : Ended) (h : HasReceipt m n e) → FindsFlushed own h.floor (view_of m) (view_of n)
+  finds e h = let ends : List Event = End own false h.floor ∷ gives own h.rows in record {
+    events = h.events ++ ends;
+    given = h.kept;
+    seen = h.ended ∙ (ap (λ (es : List Event). es ++ ends) h.seen ∙ append_assoc (view_of m).seen h.events ends);
+    has = has_right (End own false h.floor) h.events ends (inl refl);
+  }
+
+  pub abort_ends : (r : Result Ended Refusal) → n.machine.work.session.works ≡ works_behind r → IfOk r (HasReceipt m n) → IsEndOf own (view_of m) (view_of n) (abort_answer r) (receipt_in own r)
+  abort_ends (Err why) works is = ends_none own (view_of m) (view_of n) (answer.Refused why) refl
+  abort_ends (Ok e) works is = end_of own (view_of m) (view_of n) e (answer.Aborted e.number)
+      (record {
+        flushed = is.floor;
+        was = finds e is;
+        is = receipt_is works e is.floor is.told.number is.told.at (is.told.need ∙ ap (need_of n.machine.work.session.clock.debt) (sym is.floor_is));
+      }) refl (λ number at q. absurd (cc))
+
+-- ## A call
+
+-- of the call that it is, and with the response that it had
+pub told_as : (P : Call → Response → Type 0) (c d : Call) (r t : Response) → c ≡ d → r ≡ t → P d t → P c r
+told_as P c d r t e f p = subst (λ (q : Call). P q r) (sym e) (subst (P d) (sym f) p)
+
+module _ {D T : Type 0} (story : D → Story) (faults : D → ℕ) (May : Opening → List Done → Type 0) (many own : ℕ) (c : Call) (f : Result T Refusal → Answer) (k : IsAnswer many c f) (receipt : Option Receipt) (m n : PagedMachine D) where
+  back : (r : Result T Refusal) (q : Refusal) → f r ≡ answer.Refused q → r ≡ Err q
+  back (Ok t) q e = absurd (k.apart t q e)
+  back (Err why) q e = ap Err (refused_is why q (sym (k.refused why) ∙ e))
+
+  may_come : (r : Result T Refusal) → IfErr r (λ why. MayCome many why ⊎ EndsWork why) → MayBe many (f r)
+  may_come (Ok t) h = k.come t
+  may_come (Err why) h = subst (MayBe many) (sym (k.refused why)) (may_be many why h)
+
+  stops_is : (r : Result T Refusal) → not (is_stop (f r)) ≡ works_behind r
+  stops_is (Ok t) = ap not (k.goes t)
+  stops_is (Err why) = ap (λ (a : Answer). not (is_stop a)) (k.refused why) ∙ works_still T why
+
+  pub call_went : (r : Result T Refusal) → IsReady story m → CallDoes story May own c (f r) m n → IsEndOf own (view_of m) (view_of n) (f r) receipt → (Works n.machine → IsReady story n) → (SeatFits m.machine → SeatFits n.machine) → AreAsMany m.machine n.machine
+      → n.machine.work.session.works ≡ works_behind r → IfErr r (λ why. MayCome many why ⊎ EndsWork why) → (r ≡ Err refusal.Broken) ↔ (m.machine.work.session.works ≡ false)
+      → HasCause (faults m.machine.work.disk) (faults n.machine.work.disk) (r ≡ Err refusal.DiskFault) → MachineWent story faults May many own c (record { answer = f r; receipt = receipt }) m n
+  call_went r was does ends ready fits session works come broken cause = record {
+    does = does;
+    to = k.to r;
+    may = may_come r come;
+    ends = ends;
+    ready = ready;
+    fits = fits was.sound.fits;
+    session = session;
+    works = works ∙ sym (stops_is r);
+    not_broken = λ q. true≢false (sym was.works ∙ broken.0 (back r refusal.Broken q));
+    cause_disk_fault = record { later = cause.later; cause = λ q. cause.cause (back r refusal.DiskFault q); calm = λ x. cause.calm (λ q. x (ap f q ∙ k.refused refusal.DiskFault)) };
+  }
+
+-- it may have come to any number of sessions
+pub went_more : {D : Type 0} (story : D → Story) (faults : D → ℕ) (May : Opening → List Done → Type 0) (own : ℕ) (c : Call) (r : Response) (m n : PagedMachine D) (many : ℕ) → MachineWent story faults May 1 own c r m n → MachineWent story faults May many own c r m n
+went_more story faults May session c r m n many w = record {
+  does = w.does;
+  to = w.to;
+  may = may_more many r.answer w.may;
+  ends = w.ends;
+  ready = w.ready;
+  fits = w.fits;
+  session = w.session;
+  works = w.works;
+  not_broken = w.not_broken;
+  cause_disk_fault = w.cause_disk_fault;
+}

@@ -1,0 +1,62 @@
+use Rattle.std.proofs.Common.{◌≡◌, ℕ, List, sym, subst}
+use Rattle.core_calls.specs.Fronts.{Done}
+use Rattle.core_state.specs.Openings.{Opening}
+use Rattle.engine_trait.specs.Calls.{IsAsked}
+use Rattle.map_model.specs.declared.call.Call.{Call}
+use Rattle.map_model.specs.declared.call.Call.TheVariants as calls
+use Rattle.paged_desks.specs.Calls.{OnLine}
+use Rattle.paged_ends.specs.Ends.{OnBegin}
+use Rattle.buffered_engine.specs.Calls.{MayBe}
+use Rattle.buffered_engine.specs.Inside.Asks.{OnAsked}
+use Rattle.buffered_engine.specs.Inside.Parts.{MachineWent}
+use Rattle.buffered_engine.proofs.AskingLemmas.{may_more, sync_turn}
+use Rattle.buffered_engine.proofs.TurnLemmas.{asker, on_line, went_turned}
+use Rattle.buffered_engine.proofs.WentLemmas.{went_more}
+use Rattle.buffered_engine.proofs.asking.ask.Goals as goal
+
+pub returns-in-Sync-clause-went : goal.returns-in-Sync-clause-went
+returns-in-Sync-clause-went g c =
+    let o = c.args.machine.now in
+    let n = c.sync.new.machine in
+    let story = g.D.Disk.story in
+    let faults = g.D.Disk.faults in
+    let i = subst (λ (q : Call). IsAsked o.machine.work.session.workers c.args.session q) c.in-Sync.is c.requires.asked in
+    subst (λ (q : Call). MachineWent story faults (OnAsked c.args.session q c.args.is_long) o.machine.work.session.workers c.args.session q c.sync.result o n) (sym c.in-Sync.is)
+    (subst (λ (k : ℕ). MachineWent story faults (OnAsked k calls.Sync c.args.is_long) o.machine.work.session.workers k calls.Sync c.sync.result o n) (sym i) (went_more story faults OnLine 0 calls.Sync c.sync.result o n o.machine.work.session.workers c.sync.ensures))
+
+pub returns-in-Sync-clause-turn : goal.returns-in-Sync-clause-turn
+returns-in-Sync-clause-turn g c works hindered = sync_turn c.sync.result.answer (c.sync.new.machine.machine.work.session.own ≡ c.args.session) c.sync.ensures.may hindered
+
+pub returns-in-Begin-clause-went : goal.returns-in-Begin-clause-went
+returns-in-Begin-clause-went g c =
+    let o = c.args.machine.now in
+    let t = c.turn_to.new.machine in
+    let n = c.begin.new.machine in
+    let story = g.D.Disk.story in
+    let faults = g.D.Disk.faults in
+    let i = subst (λ (q : Call). IsAsked o.machine.work.session.workers c.args.session q) c.in-Begin.is c.requires.asked in
+    subst (λ (q : Call). MachineWent story faults (OnAsked c.args.session q c.args.is_long) o.machine.work.session.workers c.args.session q c.begin.result o n) (sym c.in-Begin.is)
+    (went_turned story c.args.session o t c.turn_to.ensures.turned i.0 i.1 (λ (x : Opening) (xs : List Done). OnBegin c.args.session c.args.is_long x xs) (λ (k : ℕ) (x : Opening) (xs : List Done). OnBegin k c.args.is_long x xs) (λ x xs h. h) calls.Begin
+    faults 1 o.machine.work.session.workers c.begin.result n (may_more o.machine.work.session.workers c.begin.result.answer) c.begin.ensures.went)
+
+pub returns-in-Abort-clause-went : goal.returns-in-Abort-clause-went
+returns-in-Abort-clause-went g c =
+    let o = c.args.machine.now in
+    let t = c.turn_to-in-Abort.new.machine in
+    let n = c.abort.new.machine in
+    let story = g.D.Disk.story in
+    let faults = g.D.Disk.faults in
+    let i = subst (λ (q : Call). IsAsked o.machine.work.session.workers c.args.session q) c.in-Abort.is c.requires.asked in
+    subst (λ (q : Call). MachineWent story faults (OnAsked c.args.session q c.args.is_long) o.machine.work.session.workers c.args.session q c.abort.result o n) (sym c.in-Abort.is)
+    (went_turned story c.args.session o t c.turn_to-in-Abort.ensures.turned i.0 i.1 (λ (x : Opening) (xs : List Done). OnLine x xs) (λ (k : ℕ) (x : Opening) (xs : List Done). OnLine x xs) (λ x xs h. h) calls.Abort
+    faults 1 o.machine.work.session.workers c.abort.result n (may_more o.machine.work.session.workers c.abort.result.answer) c.abort.ensures.went)
+
+pub returns-in_default-clause-went : goal.returns-in_default-clause-went
+returns-in_default-clause-went g c =
+    let o = c.args.machine.now in
+    let t = c.turn_to-in_default.new.machine in
+    let n = c.row_call.new.machine in
+    let i = asker o.machine.work.session.workers c.args.session c.args.call.now c.in_default.not-Sync c.requires.asked in
+    went_turned g.D.Disk.story c.args.session o t c.turn_to-in_default.ensures.turned i.0 i.1 (λ (x : Opening) (xs : List Done). OnAsked c.args.session c.args.call.now c.args.is_long x xs) (λ (k : ℕ) (x : Opening) (xs : List Done). OnLine x xs)
+    (λ x xs h. on_line c.args.session c.args.call.now c.args.is_long x xs h) c.args.call.now
+    g.D.Disk.faults t.machine.work.session.workers o.machine.work.session.workers c.row_call.result n (λ may. subst (λ (k : ℕ). MayBe k c.row_call.result.answer) c.turn_to-in_default.ensures.turned.turned.workers may) c.row_call.ensures.went

@@ -1,0 +1,175 @@
+-- What a call says to a caller.
+use Rattle.std.specs.Prelude.{◌≡◌, ◌↔◌, ◌<◌, ◌≤◌, ℕ, Bool, true, false, not, List, ◌∷◌, Result, Ok, Err, IfOk, IfErr, IsErr, MatchOption, Option, Some, IfSome}
+use Rattle.map_model.specs.Journals.{Name}
+use Rattle.map_model.specs.declared.call.Answer.{Answer}
+use Rattle.map_model.specs.declared.call.Answer.TheVariants as answer
+use Rattle.map_model.specs.declared.call.Call.{Call}
+use Rattle.map_model.specs.declared.call.Call.TheVariants as call
+use Rattle.map_model.specs.declared.call.Refusal.{Refusal}
+use Rattle.map_model.specs.declared.call.Refusal.TheVariants as refusal
+use Rattle.core_state.specs.Openings.{Opening}
+use Rattle.core_calls.specs.Fronts.{Done}
+use Rattle.core_calls.specs.Steps.{hindered_in}
+use Rattle.lean_disk.specs.Faults.{HasCause}
+use Rattle.lean_disk.specs.Story.{Story}
+use Rattle.engine_trait.specs.Calls.{HasCome}
+use Rattle.call_parts.specs.Deeds.{Does, Fails}
+use Rattle.engine_front.specs.Stops.{StandsNot, StopsBy}
+use Rattle.engine_front.specs.Turns.{IsTaken, behind_answer, behind_durables, told_with}
+use Rattle.engine_front.specs.declared.calls.Durable.{Durable}
+use Rattle.engine_front.specs.declared.calls.Unanswered.{Unanswered}
+use Rattle.engine_front.specs.declared.calls.Unanswered.TheVariants as unanswered
+use Rattle.group_commit.specs.Queues.{queued}
+use Rattle.group_commit.specs.declared.receipts.Receipt.{Receipt}
+use Rattle.paged_desks.specs.Calls.{Comes, ends_work}
+use Rattle.buffered_engine.specs.States.{InRun, State, memory_in}
+use Rattle.buffered_engine.specs.declared.calls.Aborted.{Aborted}
+use Rattle.buffered_engine.specs.declared.calls.Began.{Began}
+use Rattle.buffered_engine.specs.declared.calls.Synced.{Synced}
+
+-- ## Answers
+
+-- the answer, or why there is none
+abbrev pub told : Answer → Result Answer Unanswered
+told (answer.Refused refusal.Broken) = Err unanswered.Broken
+told (answer.Refused refusal.DiskFault) = Err unanswered.DiskFault
+told (answer.Refused (refusal.Damaged area place)) = Err (unanswered.Damaged place)
+told a = Ok a
+
+-- behind it an engine works no longer
+abbrev pub is_stop : Answer → Bool
+is_stop (answer.Refused why) = ends_work why
+is_stop _ = false
+
+-- it is one that has come where there are so many sessions, or says that there is none
+abbrev pub MayBe : (sessions : ℕ) → Answer → Type 0
+MayBe sessions (answer.Refused refusal.Broken) = Unit {0}
+MayBe sessions (answer.Refused refusal.DiskFault) = Unit {0}
+MayBe sessions (answer.Refused (refusal.Damaged area place)) = Unit {0}
+MayBe sessions a = HasCome sessions a
+
+-- an answer to a call of its kind, which is not refused
+abbrev pub IsTo : Call → Answer → Type 0
+IsTo call.Begin (answer.Begun number) = Unit {0}
+IsTo (call.Get key) (answer.Value value) = Unit {0}
+IsTo (call.Put key value) (answer.Was was) = Unit {0}
+IsTo (call.Del key) (answer.Was was) = Unit {0}
+IsTo call.Commit (answer.Committed number at) = Unit {0}
+IsTo call.Abort (answer.Aborted number) = Unit {0}
+IsTo call.Sync (answer.Synced at) = Unit {0}
+IsTo c (answer.Refused why) = Unit {0}
+IsTo c a = ⊥
+
+-- ## Results as answers
+
+abbrev pub began_answer : Result Began Refusal → Answer
+began_answer (Ok began) = answer.Begun began.number
+began_answer (Err why) = answer.Refused why
+
+abbrev pub value_answer : Result (Option ℕ) Refusal → Answer
+value_answer (Ok value) = answer.Value value
+value_answer (Err why) = answer.Refused why
+
+abbrev pub was_answer : Result (Option ℕ) Refusal → Answer
+was_answer (Ok was) = answer.Was was
+was_answer (Err why) = answer.Refused why
+
+abbrev pub receipt_answer : Result Receipt Refusal → Answer
+receipt_answer (Ok receipt) = answer.Committed receipt.txn receipt.gsn
+receipt_answer (Err why) = answer.Refused why
+
+abbrev pub aborted_answer : Result Aborted Refusal → Answer
+aborted_answer (Ok aborted) = answer.Aborted aborted.number
+aborted_answer (Err why) = answer.Refused why
+
+abbrev pub synced_answer : Result Synced Refusal → Answer
+synced_answer (Ok synced) = answer.Synced synced.at
+synced_answer (Err why) = answer.Refused why
+
+-- ## A call
+
+-- It was answered so, and the engine stands in the run with one outcome more.
+pub record DoesIn {D : Type 0} (g : Opening) (xs : List Done) (names : List Name) (own : ℕ) (c : Call) (a : Answer) (was is : State D) (old new : Story) : Type 0 where
+  pub does : Does g was.group xs own c a (memory_in was) (memory_in is) old new
+  pub in_run : InRun is g (does.done ∷ xs) names
+
+-- so in each run, or its disk failed, or a page was damaged, and then the disk stood for no run of these outcomes
+abbrev pub DoesInRuns : {D : Type 0} → (own : ℕ) → Call → Answer → (was is : State D) → (old new : Story) → Type 0
+DoesInRuns own c a was is old new = (g : Opening) (xs : List Done) (names : List Name) → InRun was g xs names
+    → Comes a (DoesIn g xs names own c a was is old new) (Fails g was.group xs own c (memory_in was) old new) (StandsNot g was.group xs (memory_in was) old)
+
+-- an abort that is due behind the call of the newest outcome
+abbrev pub AbortsInRuns : {D : Type 0} → Answer → (was is : State D) → (old new : Story) → Type 0
+AbortsInRuns a was is old new = (g : Opening) (y : Done) (earlier : List Done) (names : List Name) → InRun was g (y ∷ earlier) names → (c : Call) → hindered_in y.outcome.deed ≡ Some c
+    → Comes a (DoesIn g (y ∷ earlier) names y.outcome.session c a was is old new) (Fails g was.group (y ∷ earlier) y.outcome.session c (memory_in was) old new) (StandsNot g was.group (y ∷ earlier) (memory_in was) old)
+
+-- One call, whatever it did, which took the engine from one state to another.
+pub record Went {D : Type 0} (Did : Type 0) (a : Answer) (was is : State D) : Type 0 where
+  pub does : was.works ≡ true → Did
+  pub may : MayBe was.sessions a
+  pub works : is.works ≡ not (is_stop a)
+  pub next : is.works ≡ true → is.next ≡ behind_answer a
+  pub waits : is.works ≡ false → is.next ≡ was.next
+  pub sessions : is.sessions ≡ was.sessions
+  pub group : is.group ≡ was.group
+  pub same : a ≡ answer.Refused refusal.Broken → is ≡ was
+  pub broken : (a ≡ answer.Refused refusal.Broken) ↔ (was.works ≡ false)
+
+-- session `own` asked it
+abbrev pub Asked : {D : Type 0} → (story : D → Story) → (own : ℕ) → Call → Answer → (was is : State D) → Type 0
+Asked story own c a was is = Went (DoesInRuns own c a was is (story was.disk) (story is.disk)) a was is
+
+-- an abort was due
+abbrev pub AskedAbort : {D : Type 0} → (story : D → Story) → Answer → (was is : State D) → Type 0
+AskedAbort story a was is = Went (AbortsInRuns a was is (story was.disk) (story is.disk)) a was is
+
+-- it was answered so, by one outcome more in each run
+abbrev pub Answered : {D : Type 0} → (story : D → Story) → (own : ℕ) → Call → (was is : State D) → Answer → Type 0
+Answered story own c was is a = (g : Opening) (xs : List Done) (names : List Name) → InRun was g xs names
+    → (d : Does g was.group xs own c a (memory_in was) (memory_in is) (story was.disk) (story is.disk)) × InRun is g (d.done ∷ xs) names
+
+-- it was not, for this reason, in each run
+abbrev pub Stopped : {D : Type 0} → (story : D → Story) → (own : ℕ) → Call → (was is : State D) → Unanswered → Type 0
+Stopped story own c was is why = (g : Opening) (xs : List Done) (names : List Name) → InRun was g xs names
+    → StopsBy why (Fails g was.group xs own c (memory_in was) (story was.disk) (story is.disk)) (StandsNot g was.group xs (memory_in was) (story was.disk))
+
+-- of an abort that is due
+abbrev pub AbortAnswered : {D : Type 0} → (story : D → Story) → (was is : State D) → Answer → Type 0
+AbortAnswered story was is a = (g : Opening) (y : Done) (earlier : List Done) (names : List Name) → InRun was g (y ∷ earlier) names → (c : Call) → hindered_in y.outcome.deed ≡ Some c
+    → (d : Does g was.group (y ∷ earlier) y.outcome.session c a (memory_in was) (memory_in is) (story was.disk) (story is.disk)) × InRun is g (d.done ∷ y ∷ earlier) names
+
+abbrev pub AbortStopped : {D : Type 0} → (story : D → Story) → (was is : State D) → Unanswered → Type 0
+AbortStopped story was is why = (g : Opening) (y : Done) (earlier : List Done) (names : List Name) → InRun was g (y ∷ earlier) names → (c : Call) → hindered_in y.outcome.deed ≡ Some c
+    → StopsBy why (Fails g was.group (y ∷ earlier) y.outcome.session c (memory_in was) (story was.disk) (story is.disk)) (StandsNot g was.group (y ∷ earlier) (memory_in was) (story was.disk))
+
+-- ## What is answered
+
+-- The engine answers, where so many sessions ask, and then this was done; or it is said why not; and where it worked no longer, nothing was.
+pub record EngineDoes {D : Type 0} (faults : D → ℕ) (many : ℕ) (Did : Answer → Type 0) (Stops : Unanswered → Type 0) (result : Result Answer Unanswered) (was is : State D) : Type 0 where
+  pub does : IfOk result Did
+  pub come : IfOk result (HasCome many)
+  pub next : IfOk result (λ a. is.next ≡ behind_answer a)
+  pub stops : IfErr result Stops
+  pub works : is.works ≡ true ↔ (IsErr result → ⊥)
+  pub sizes : (is.sessions ≡ was.sessions) × (is.group ≡ was.group)
+  pub same : result ≡ Err unanswered.Broken → is ≡ was
+  pub cause_broken : (result ≡ Err unanswered.Broken) ↔ (was.works ≡ false)
+  pub cause_disk_fault : HasCause (faults was.disk) (faults is.disk) (result ≡ Err unanswered.DiskFault)
+
+-- to what a line of session `own` asks
+abbrev pub LineDoes : {D : Type 0} → (story : D → Story) → (faults : D → ℕ) → (own : ℕ) → Call → Result Answer Unanswered → (was is : State D) → Type 0
+LineDoes story faults own c result was is = EngineDoes faults was.sessions (Answered story own c was is) (Stopped story own c was is) result was is
+
+-- to the abort of a call that met a conflict
+abbrev pub HinderedDoes : {D : Type 0} → (story : D → Story) → (faults : D → ℕ) → Result Answer Unanswered → (was is : State D) → Type 0
+HinderedDoes story faults result was is = EngineDoes faults 1 (AbortAnswered story was is) (AbortStopped story was is) result was is
+
+-- The durable line that is due first was taken, or none is due; then nothing else has changed but what may be asked next.
+pub record DurableDoes {D : Type 0} (result : Option Durable) (was is : State D) : Type 0 where
+  pub taken : (g : Opening) (xs : List Done) (names : List Name) → InRun was g xs names → IsTaken g xs names result × InRun is g xs (told_with result names)
+  pub next : MatchOption result (is.next ≡ behind_durables was.next) (λ d. is.next ≡ was.next)
+  pub session : IfSome result (λ d. (0 < d.session) × (d.session ≤ was.sessions))
+  -- so the lines of one call come to an end
+  pub fewer : IfSome result (λ d. queued is.ends < queued was.ends)
+  pub same : (memory_in is ≡ memory_in was) × (is.works ≡ was.works) × (is.disk ≡ was.disk)
+  pub sizes : (is.sessions ≡ was.sessions) × (is.group ≡ was.group)

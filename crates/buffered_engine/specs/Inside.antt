@@ -1,0 +1,4 @@
+-- Words of private functions: how an engine asks, what its machine is to it and what a call left of that, and when no end can be ripe.
+pub mod Asks
+pub mod Calm
+pub mod Parts

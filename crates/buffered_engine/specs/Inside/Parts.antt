@@ -1,0 +1,73 @@
+-- What a machine is to an engine, and what a call left of it.
+use Rattle.std.specs.Prelude.{◌≡◌, ◌≤◌, ℕ, List, not}
+use Rattle.page_model.specs.Limits.{most_sessions}
+use Rattle.map_model.specs.declared.call.Answer.TheVariants as answer
+use Rattle.map_model.specs.declared.call.Call.{Call}
+use Rattle.map_model.specs.declared.call.Refusal.TheVariants as refusal
+use Rattle.core_calls.specs.Fronts.{Done}
+use Rattle.core_state.specs.Openings.{Opening}
+use Rattle.lean_disk.specs.Faults.{HasCause}
+use Rattle.lean_disk.specs.Story.{Story}
+use Rattle.engine_front.specs.declared.calls.Next.{Next}
+use Rattle.group_commit.specs.declared.queue.End.{End}
+use Rattle.session_desks.specs.Parts.{AreAsMany, HasTurned, SeatFits, Works, here}
+use Rattle.paged_desks.specs.Calls.{CallDoes}
+use Rattle.paged_desks.specs.Machines.{IsReady, view_of}
+use Rattle.paged_desks.specs.declared.machine.PagedMachine.{PagedMachine}
+use Rattle.buffered_engine.specs.Calls.{IsTo, MayBe, is_stop}
+use Rattle.buffered_engine.specs.Inside.Asks.{IsEndOf}
+use Rattle.buffered_engine.specs.States.{HasRun, State}
+use Rattle.buffered_engine.specs.declared.ends.Response.{Response}
+
+-- ## Its parts
+
+-- the engine of this machine, as its callers see it
+abbrev pub state_by : {D : Type 0} → PagedMachine D → Next → List (List End) → State D
+state_by m next ends = record {
+  view = view_of m;
+  disk = m.machine.work.disk;
+  work = here m.machine;
+  desks = m.machine.desks.items;
+  master = m.machine.master;
+  slots = m.pager.slots;
+  works = m.machine.work.session.works;
+  next = next;
+  sessions = m.machine.work.session.workers;
+  turn = m.machine.work.session.own;
+  group = m.machine.work.session.group;
+  ends = ends;
+}
+
+-- ## What holds
+
+-- Its machine is as between two calls, and stands in a run, unless the engine works no longer: then its seat is still the rows'.
+pub record IsEngine {D : Type 0} (story : D → Story) (m : PagedMachine D) (next : Next) (ends : List (List End)) : Type 0 where
+  pub few : m.machine.work.session.workers ≤ most_sessions
+  pub fits : SeatFits m.machine
+  pub ready : Works m.machine → IsReady story m
+  pub run : Works m.machine → HasRun (state_by m next ends)
+
+-- ## Behind a call
+
+-- the session has the turn, and else all is as it was
+pub record IsTurned {D : Type 0} (session : ℕ) (m n : PagedMachine D) : Type 0 where
+  pub turned : HasTurned session m.machine n.machine
+  pub view : view_of n ≡ view_of m
+  pub disk : n.machine.work.disk ≡ m.machine.work.disk
+  pub master : n.machine.master ≡ m.machine.master
+  pub group : n.machine.work.session.group ≡ m.machine.work.session.group
+  pub pager : n.pager ≡ m.pager
+
+-- A call of session `own`, which may have come to so many sessions, was answered so and did this; and what is left of the machine, which works on but for an answer
+-- behind which none does.
+pub record MachineWent {D : Type 0} (story : D → Story) (faults : D → ℕ) (May : Opening → List Done → Type 0) (many own : ℕ) (c : Call) (r : Response) (m n : PagedMachine D) : Type 0 where
+  pub does : CallDoes story May own c r.answer m n
+  pub to : IsTo c r.answer
+  pub may : MayBe many r.answer
+  pub ends : IsEndOf own (view_of m) (view_of n) r.answer r.receipt
+  pub ready : Works n.machine → IsReady story n
+  pub fits : SeatFits n.machine
+  pub session : AreAsMany m.machine n.machine
+  pub works : n.machine.work.session.works ≡ not (is_stop r.answer)
+  pub not_broken : r.answer ≡ answer.Refused refusal.Broken → ⊥
+  pub cause_disk_fault : HasCause (faults m.machine.work.disk) (faults n.machine.work.disk) (r.answer ≡ answer.Refused refusal.DiskFault)

@@ -1,0 +1,92 @@
+-- An engine as its callers see it.
+use Rattle.std.specs.Prelude.{◌≡◌, ◌⊎◌, ◌≤◌, ◌<◌, ℕ, Bool, true, false, List, [], ◌∷◌, length}
+use Rattle.page_model.specs.Limits.{waiting_ends}
+use Rattle.map_model.specs.Journals.{Name}
+use Rattle.core_state.specs.Openings.{Opening}
+use Rattle.core_state.specs.Steps.{state_after}
+use Rattle.core_calls.specs.Durables.{due}
+use Rattle.core_calls.specs.Fronts.{Done, front}
+use Rattle.core_calls.specs.Refusals.{waiting}
+use Rattle.disk_slots.specs.declared.master.Master.{Master}
+use Rattle.page_calls.specs.declared.slots.Slot.{Slot}
+use Rattle.engine_trait.specs.Calls.{is_half_done}
+use Rattle.call_parts.specs.Memory.{Memory}
+use Rattle.engine_front.specs.Turns.{IsNext}
+use Rattle.engine_front.specs.declared.calls.Next.{Next}
+use Rattle.engine_front.specs.declared.calls.Next.TheVariants.{Abort, Durables}
+use Rattle.group_commit.specs.Queues.{queue_of}
+use Rattle.group_commit.specs.Tracks.{Tracks}
+use Rattle.group_commit.specs.declared.queue.End.{End}
+use Rattle.rows_trait.specs.declared.view.View.{View}
+use Rattle.session_desks.specs.Desks.{desk_of, log_of}
+use Rattle.session_desks.specs.declared.desk.Desk.{Desk}
+use Rattle.paged_desks.specs.Calls.{Tied}
+
+-- ## What it is
+
+-- What its seat has seen, its disk, the session in the store and those at their desks, with their logs, the master that counts, and the slots of the pages; whether
+-- no device has failed and no page was damaged; what may be asked next; how many sessions there are, whose turn it is, and how many commits of one are flushed at
+-- once; and of each session the ends that wait.
+pub record State (D : Type 0) : Type 0 where
+  pub view : View
+  pub disk : D
+  pub work : Desk
+  pub desks : List Desk
+  pub master : Master
+  pub slots : List Slot
+  pub works : Bool
+  pub next : Next
+  pub sessions : ℕ
+  pub turn : ℕ
+  pub group : ℕ
+  pub ends : List (List End)
+
+-- what it has in memory of its disk
+abbrev pub memory_in : {D : Type 0} → State D → Memory
+memory_in e = record { log = log_of e.work e.desks; master = e.master; slots = e.slots }
+
+-- ## Its run
+
+-- where no durable line is to be told
+abbrev pub IsSettled : Next → (settled : Type 0) → Type 0
+IsSettled (Durables hindered) settled = Unit {0}
+IsSettled n settled = settled
+
+-- the newest outcome is of this session
+abbrev pub IsOfTurn : (turn : ℕ) → List Done → Type 0
+IsOfTurn turn [] = ⊥
+IsOfTurn turn (y ∷ earlier) = y.outcome.session ≡ turn
+
+-- where an abort is due, this holds
+abbrev pub WhereDue : Next → (holds : Type 0) → Type 0
+WhereDue Abort holds = holds
+WhereDue (Durables true) holds = holds
+WhereDue n holds = Unit {0}
+
+-- It stands in this run, where these commits were told durable: it has seen just the events of the outcomes; they say what may be asked next, and an abort that is
+-- due is that of the session whose turn it is; its logs have their records; and its queues have the ends that wait, and where all durable lines are told no line is
+-- due, and the queues have no other ends.
+pub record InRun {D : Type 0} (e : State D) (g : Opening) (xs : List Done) (names : List Name) : Type 0 where
+  pub workers : g.workers ≡ e.sessions
+  pub next : IsNext e.next xs
+  pub turn : WhereDue e.next (IsOfTurn e.turn xs)
+  pub tied : Tied g e.group xs e.view (memory_in e)
+  pub tracks : Tracks g (state_after g (front xs)) names e.ends
+  pub told : IsSettled e.next (due g (state_after g (front xs)) names ≡ [])
+  pub settled : IsSettled e.next ((w : ℕ) → 0 < w → w ≤ g.workers → length (queue_of e.ends w) ≡ waiting g (state_after g (front xs)) w)
+
+-- few ends wait in a session's queue: a session in a transaction has room for one more, but where the ends are ripe and are still to be told
+abbrev pub HasRoom : Next → (is_open : Bool) → (queued waits : ℕ) → Type 0
+HasRoom (Durables hindered) true queued waits = (queued < waiting_ends) ⊎ ((queued ≤ waiting_ends) × (waits ≡ 0))
+HasRoom n true queued waits = queued < waiting_ends
+HasRoom n false queued waits = queued ≤ waiting_ends
+
+-- it stands in some run, in which the aborts are half done that its sessions say
+pub record HasRun {D : Type 0} (e : State D) : Type 0 where
+  pub opening : Opening
+  pub done : List Done
+  pub names : List Name
+  pub in_run : InRun e opening done names
+  pub is_half_aborted : (w : ℕ) → 0 < w → w ≤ opening.workers → is_half_done w done ≡ (desk_of e.work e.desks w).session.is_half_aborted
+  pub room : (w : ℕ) → 0 < w → w ≤ opening.workers → HasRoom e.next (desk_of e.work e.desks w).session.is_open (length (queue_of e.ends w)) (waiting opening (state_after opening (front done)) w)
+  pub is_open : WhereDue e.next (e.work.session.is_open ≡ true)

@@ -1,0 +1,140 @@
+// What a line is answered.
+ghost use Rattle.std.specs.Prelude.{◌≡◌, true};
+ghost use Rattle.engine_trait.specs.Calls.{IsAsked};
+ghost use Rattle.engine_front.specs.declared.calls.Next.{Next};
+ghost use Rattle.buffered_engine.specs.Calls.{DurableDoes, HinderedDoes, LineDoes, told};
+
+use crate::engine::Engine;
+use engine_front::calls::{Calls, Durable, Unanswered};
+use lean_disk::MemDisk;
+use lean_edge::{Put, Sink};
+use map_model::{Answer, Call, Refusal};
+use session_state::Stages;
+
+// The answer, or why there is none.
+fn told(answer: Answer) -> Result<Answer, Unanswered>
+    ensures { result ≡ told answer }
+{
+    match answer {
+        Answer::Refused(Refusal::Broken) => Err(Unanswered::Broken),
+        Answer::Refused(Refusal::DiskFault) => Err(Unanswered::DiskFault),
+        Answer::Refused(Refusal::Damaged { place, .. }) => Err(Unanswered::Damaged { place }),
+        answer => Ok(answer),
+    }
+}
+
+impl<D: Stages> Engine<D> {
+    /// What a line of a session asks; for a sync the session is 0.
+    pub fn answer(&mut self, session: u32, call: &Call) -> Result<Answer, Unanswered>
+        requires asked { IsAsked self.old.sessions session call.now }
+        requires next { self.old.next ≡ Next.Line }
+        ensures { LineDoes D.story D.faults session call.now result self.old self.new }
+    {
+        let answer = self.ask(session, call).answer;
+        told(answer)
+    }
+
+    /// The abort of a call that met a conflict.
+    pub fn answer_abort(&mut self) -> Result<Answer, Unanswered>
+        requires next { self.old.next ≡ Next.Abort }
+        ensures { HinderedDoes D.story D.faults result self.old self.new }
+    {
+        let answer = self.ask_abort();
+        told(answer)
+    }
+}
+
+/// A disk on which an engine runs. Each disk writes its methods as `engine.answer(session, call)`, `engine.answer_abort()`, `engine.next_durable()` and `engine.close()`: the
+/// method of an impl may not call what is generic over its disk.
+pub trait Hosts: Stages {
+    /// What a line of a session asks; for a sync the session is 0.
+    fn answer_on(engine: &mut Engine<Self>, session: u32, call: &Call) -> Result<Answer, Unanswered>
+        requires asked { IsAsked engine.old.sessions session call.now }
+        requires next { engine.old.next ≡ Next.Line }
+        ensures { LineDoes Self.story Self.faults session call.now result engine.old engine.new };
+
+    /// The abort of a call that met a conflict.
+    fn abort_on(engine: &mut Engine<Self>) -> Result<Answer, Unanswered>
+        requires next { engine.old.next ≡ Next.Abort }
+        ensures { HinderedDoes Self.story Self.faults result engine.old engine.new };
+
+    /// Its disk.
+    fn close_on(engine: Engine<Self>) -> Self
+        ensures { result ≡ engine.disk };
+
+    /// The commit that has become durable and was not told yet, if there is one.
+    fn durable_on(engine: &mut Engine<Self>) -> Option<Durable>
+        requires works { engine.old.works ≡ true }
+        ensures { DurableDoes result engine.old engine.new };
+}
+
+impl Hosts for MemDisk {
+    fn close_on(engine: Engine<MemDisk>) -> MemDisk
+        ensures { result ≡ engine.disk }
+    {
+        engine.close()
+    }
+
+    fn durable_on(engine: &mut Engine<MemDisk>) -> Option<Durable> {
+        engine.next_durable()
+    }
+
+    fn answer_on(
+        engine: &mut Engine<MemDisk>,
+        session: u32,
+        call: &Call,
+    ) -> Result<Answer, Unanswered> {
+        engine.answer(session, call)
+    }
+
+    fn abort_on(engine: &mut Engine<MemDisk>) -> Result<Answer, Unanswered> {
+        engine.answer_abort()
+    }
+}
+
+impl<D: Hosts> Calls<D> for Engine<D> {
+    ghost use Rattle.group_commit.specs.Queues.{queued};
+    ghost use Rattle.buffered_engine.specs.States.{InRun, memory_in};
+
+    ghost in_run = { λ e g xs names. InRun e g xs names };
+
+    ghost sessions = { λ e. e.sessions };
+
+    ghost group = { λ e. e.group };
+
+    ghost memory = { λ e. memory_in e };
+
+    ghost waiting = { λ e. queued e.ends };
+
+    ghost next = { λ e. e.next };
+
+    ghost works = { λ e. e.works };
+
+    ghost disk = { λ e. e.disk };
+
+    fn told(&self) {}
+
+    fn session_count(&self) -> u32 {
+        self.machine.machine.work.session.workers
+    }
+
+    fn call(&mut self, session: u32, call: &Call) -> Result<Answer, Unanswered> {
+        D::answer_on(self, session, call)
+    }
+
+    fn abort_hindered(&mut self) -> Result<Answer, Unanswered> {
+        D::abort_on(self)
+    }
+
+    fn next_durable(&mut self) -> Option<Durable> {
+        D::durable_on(self)
+    }
+
+    fn put_line<K: Sink<D>>(&mut self, sink: &mut K, line: &[u8]) -> Put {
+        sink.put(&mut self.machine.machine.work.disk, line)
+    }
+
+    fn close(self) -> D {
+        D::close_on(self)
+    }
+}

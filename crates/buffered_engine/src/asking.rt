@@ -1,0 +1,165 @@
+// What a session asks of an engine, whatever it is.
+ghost use Rattle.std.specs.Prelude.{◌≡◌, ◌<◌, ◌≤◌, IfSome, leb, length, true};
+ghost use Rattle.map_model.specs.declared.call.Call.TheVariants as calls;
+ghost use Rattle.map_model.specs.declared.call.Answer.TheVariants as answer;
+ghost use Rattle.map_model.specs.declared.call.Refusal.TheVariants as refusal;
+ghost use Rattle.page_model.specs.Limits.{waiting_ends};
+ghost use Rattle.group_commit.specs.Queues.{queue_of};
+ghost use Rattle.group_commit.specs.declared.queue.TheConstants.{ROOM};
+ghost use Rattle.lean_disk.specs.Faults.{HasCause};
+ghost use Rattle.engine_trait.specs.Calls.{IsAsked};
+ghost use Rattle.engine_front.specs.Turns.{is_conflict_in};
+ghost use Rattle.engine_front.specs.declared.calls.Next.{Next};
+ghost use Rattle.session_desks.specs.Parts.{Works};
+ghost use Rattle.paged_desks.specs.Machines.{IsReady};
+ghost use Rattle.buffered_engine.specs.Calls.{Asked, AskedAbort, IsTo, MayBe};
+ghost use Rattle.buffered_engine.specs.Inside.Asks.{IsEndOf, OnAsked, next_behind, put_ends};
+ghost use Rattle.buffered_engine.specs.Inside.Calm.{calm_behind};
+ghost use Rattle.buffered_engine.specs.Inside.Parts.{MachineWent};
+
+use crate::ends::Response;
+use crate::engine::Engine;
+use crate::machine::{abort, begin, row_call, sync, turn_to};
+use engine_front::calls::Next;
+use group_commit::{LOGS, Receipt, Unripe};
+use map_model::{Answer, Call, Refusal};
+use page_model::limits::WAITING_ENDS;
+use paged_desks::PagedMachine;
+use session_state::Stages;
+
+// A conflict is the answer.
+fn is_conflict(answer: &Answer) -> bool
+    ensures { result ≡ is_conflict_in answer.now }
+{
+    matches!(answer, Answer::Refused(Refusal::Conflict { .. }))
+}
+
+// So many ends of the session wait that its begin makes a sync first.
+fn is_long(unripe: &Unripe, session: u32, call: &Call) -> bool
+    requires asked { IsAsked (length unripe.now) session call.now }
+    ensures { call.now ≡ calls.Begin → result ≡ leb waiting_ends (length (queue_of unripe.now session)) }
+{
+    match call {
+        Call::Begin => unripe.waiting(session) >= WAITING_ENDS,
+        _ => false,
+    }
+}
+
+// The end, if it is one, is put behind those of its session.
+fn put_end(unripe: &mut Unripe, response: Response)
+    requires log { IfSome response.receipt (λ r. (0 < r.log) × (r.log ≤ length unripe.old)) }
+    requires room { IfSome response.receipt (λ r. length (queue_of unripe.old r.log) < ROOM) }
+    ensures { unripe.new ≡ put_ends response.receipt response.answer unripe.old }
+{
+    if let Some(receipt) = response.receipt {
+        let is_commit = matches!(response.answer, Answer::Committed { .. });
+        unripe.push(receipt, is_commit);
+    }
+}
+
+// What may be asked next behind an answer, unless the engine works no longer.
+fn next_behind(works: bool, next: Next, answer: &Answer) -> Next
+    ensures { result ≡ next_behind works next answer.now }
+{
+    if works {
+        Next::Durables {
+            hindered: is_conflict(answer),
+        }
+    } else {
+        next
+    }
+}
+
+// No end that waits was ripe by these numbers, and none is behind a call that ended nothing.
+fn calm_behind(calm: Option<[u64; LOGS]>, receipt: &Option<Receipt>) -> Option<[u64; LOGS]>
+    ensures { result ≡ calm_behind calm receipt.now }
+{
+    match receipt {
+        Some(_) => None,
+        None => calm,
+    }
+}
+
+// What a session asks, or for 0 nobody does.
+fn ask<D: Stages>(
+    machine: &mut PagedMachine<D>,
+    session: u32,
+    call: &Call,
+    is_long: bool,
+) -> Response
+    requires asked { IsAsked machine.old.machine.work.session.workers session call.now }
+    requires ready { IsReady D.story machine.old }
+    ensures went { MachineWent D.story D.faults (OnAsked session call.now is_long) machine.old.machine.work.session.workers session call.now result machine.old machine.new }
+    ensures turn { Works machine.new.machine → is_conflict_in result.answer ≡ true → machine.new.machine.work.session.own ≡ session }
+{
+    match call {
+        Call::Sync => sync(machine),
+        Call::Begin => {
+            turn_to(machine, session);
+            begin(machine, is_long)
+        }
+        Call::Abort => {
+            turn_to(machine, session);
+            abort(machine)
+        }
+        call => {
+            turn_to(machine, session);
+            row_call(machine, call)
+        }
+    }
+}
+
+impl<D: Stages> Engine<D> {
+    /// What a session asks, or for 0 nobody does.
+    pub(crate) fn ask(&mut self, session: u32, call: &Call) -> Response
+        requires asked { IsAsked self.old.sessions session call.now }
+        requires next { self.old.next ≡ Next.Line }
+        ensures asked { Asked D.story session call.now result.answer self.old self.new }
+        ensures to { IsTo call.now result.answer }
+        ensures ends { self.old.works ≡ true → IsEndOf session self.old.view self.new.view result.answer result.receipt }
+
+        ensures cause_disk_fault { HasCause (D.faults self.old.disk) (D.faults self.new.disk) (result.answer ≡ answer.Refused refusal.DiskFault) }
+    {
+        if !self.machine.machine.work.session.works {
+            return Response::only(Answer::Refused(Refusal::Broken));
+        }
+        row_opening::every_reached();
+        group_commit::every_outcome();
+        core_commit::every_rise();
+        let is_long = is_long(&self.unripe, session, call);
+        let response = ask(&mut self.machine, session, call, is_long);
+        put_end(&mut self.unripe, response);
+        self.calm = calm_behind(self.calm, &response.receipt);
+        self.next = next_behind(
+            self.machine.machine.work.session.works,
+            self.next,
+            &response.answer,
+        );
+        response
+    }
+
+    /// The transaction whose call met a conflict is aborted.
+    pub(crate) fn ask_abort(&mut self) -> Answer
+        requires next { self.old.next ≡ Next.Abort }
+        ensures went { AskedAbort D.story result self.old self.new }
+        ensures may { MayBe 1 result }
+
+        ensures cause_disk_fault { HasCause (D.faults self.old.disk) (D.faults self.new.disk) (result ≡ answer.Refused refusal.DiskFault) }
+    {
+        if !self.machine.machine.work.session.works {
+            return Answer::Refused(Refusal::Broken);
+        }
+        row_opening::every_reached();
+        group_commit::every_outcome();
+        core_commit::every_rise();
+        let response = abort(&mut self.machine);
+        put_end(&mut self.unripe, response);
+        self.calm = calm_behind(self.calm, &response.receipt);
+        self.next = next_behind(
+            self.machine.machine.work.session.works,
+            self.next,
+            &response.answer,
+        );
+        response.answer
+    }
+}

@@ -1,0 +1,113 @@
+// What a call came to, and the end that it may be.
+ghost use Rattle.std.specs.Prelude.{◌≡◌, None};
+ghost use Rattle.paged_calls.specs.Calls.{del_answer, get_answer, put_answer};
+ghost use Rattle.paged_ends.specs.Ends.{begin_answer, commit_answer, sync_answer};
+ghost use Rattle.paged_aborts.specs.Aborts.{abort_answer};
+ghost use Rattle.buffered_engine.specs.Inside.Asks.{receipt_in};
+
+use group_commit::Receipt;
+use map_model::{Answer, Refusal};
+use row_ends::Ended;
+
+/// What a call came to: its answer, and the receipt of the end, if it ended a transaction.
+#[derive(Clone, Copy)]
+pub(crate) struct Response {
+    pub answer: Answer,
+    pub receipt: Option<Receipt>,
+}
+
+impl Response {
+    /// It was answered so, and ended nothing.
+    pub(crate) fn only(answer: Answer) -> Response
+        ensures { result ≡ record { answer = answer; receipt = None } }
+    {
+        Response {
+            answer,
+            receipt: None,
+        }
+    }
+
+    /// That of a begin.
+    pub(crate) fn begun(begun: Result<u64, Refusal>) -> Response
+        ensures { result ≡ record { answer = begin_answer begun; receipt = None } }
+    {
+        Response::only(match begun {
+            Ok(number) => Answer::Begun { number },
+            Err(why) => Answer::Refused(why),
+        })
+    }
+
+    /// That of a get.
+    pub(crate) fn value(found: Result<Option<u64>, Refusal>) -> Response
+        ensures { result ≡ record { answer = get_answer found; receipt = None } }
+    {
+        Response::only(match found {
+            Ok(value) => Answer::Value(value),
+            Err(why) => Answer::Refused(why),
+        })
+    }
+
+    /// That of a put or a del.
+    pub(crate) fn was(was: Result<Option<u64>, Refusal>) -> Response
+        ensures put { result ≡ record { answer = put_answer was; receipt = None } }
+        ensures del { result ≡ record { answer = del_answer was; receipt = None } }
+    {
+        Response::only(match was {
+            Ok(was) => Answer::Was(was),
+            Err(why) => Answer::Refused(why),
+        })
+    }
+
+    /// That of a sync.
+    pub(crate) fn synced(synced: Result<u64, Refusal>) -> Response
+        ensures { result ≡ record { answer = sync_answer synced; receipt = None } }
+    {
+        Response::only(match synced {
+            Ok(at) => Answer::Synced { at },
+            Err(why) => Answer::Refused(why),
+        })
+    }
+
+    /// That of a commit of a session.
+    pub(crate) fn committed(own: u32, ended: Result<Ended, Refusal>) -> Response
+        ensures { result ≡ record { answer = commit_answer ended; receipt = receipt_in own ended } }
+    {
+        match ended {
+            Ok(ended) => Response {
+                answer: Answer::Committed {
+                    number: ended.number,
+                    at: ended.at,
+                },
+                receipt: Some(receipt_of(own, &ended)),
+            },
+            Err(why) => Response::only(Answer::Refused(why)),
+        }
+    }
+
+    /// That of an abort of a session.
+    pub(crate) fn aborted(own: u32, ended: Result<Ended, Refusal>) -> Response
+        ensures { result ≡ record { answer = abort_answer ended; receipt = receipt_in own ended } }
+    {
+        match ended {
+            Ok(ended) => Response {
+                answer: Answer::Aborted {
+                    number: ended.number,
+                },
+                receipt: Some(receipt_of(own, &ended)),
+            },
+            Err(why) => Response::only(Answer::Refused(why)),
+        }
+    }
+}
+
+// The receipt of an end of this log.
+fn receipt_of(own: u32, ended: &Ended) -> Receipt
+    ensures { result ≡ record { txn = ended.now.number; log = own; gsn = ended.now.at; need = ended.now.need } }
+{
+    Receipt {
+        txn: ended.number,
+        log: own,
+        gsn: ended.at,
+        need: ended.need,
+    }
+}

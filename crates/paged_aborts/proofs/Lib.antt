@@ -1,0 +1,15 @@
+pub mod BackEvents
+pub mod BackStands
+pub mod BackSteps
+pub mod LateLemmas
+pub mod FilledLemmas
+pub mod UndoneLemmas
+pub mod BackWarms
+pub mod CauseLemmas
+pub mod LoseLemmas
+pub mod AbortEvents
+pub mod AbortRuns
+pub mod CrampedLemmas
+pub mod EndStands
+pub mod EndRuns
+pub mod AbortCalls
