@@ -1,5 +1,5 @@
 -- What a caller is told of a call.
-use Rattle.std.proofs.Common.{◌≡◌, ◌⊎◌, inl, inr, ◌↔◌, ℕ, Bool, true, false, not, ◌∷◌, Err, IfErr, IfOk, IsErr, refl, sym, ap, ◌∙◌, true≢false}
+use Rattle.std.proofs.Common.{◌≡◌, inl, inr, ◌↔◌, ℕ, Bool, true, false, not, Err, IfErr, IfOk, IsErr, refl, sym, ap, ◌∙◌, true≢false}
 use Rattle.std.proofs.lemmas.Bool.{cases_Bool}
 use Rattle.map_model.specs.declared.call.Answer.{Answer}
 use Rattle.map_model.specs.declared.call.Answer.TheVariants as answer
@@ -9,7 +9,6 @@ use Rattle.lean_disk.specs.Faults.{HasCause}
 use Rattle.lean_disk.specs.Story.{Story}
 use Rattle.engine_trait.specs.Calls.{HasCome}
 use Rattle.engine_front.specs.Turns.{behind_answer}
-use Rattle.engine_front.specs.declared.calls.Unanswered.{Unanswered}
 use Rattle.engine_front.specs.declared.calls.Unanswered.TheVariants as unanswered
 use Rattle.paged_desks.specs.Calls.{Comes}
 use Rattle.buffered_engine.specs.Calls.{AbortAnswered, AbortStopped, AbortsInRuns, Answered, Asked, AskedAbort, DoesInRuns, HinderedDoes, LineDoes, MayBe, Stopped, Went, is_stop, told}

@@ -1,5 +1,5 @@
 -- What the answer of an outcome says: what may be asked next, whether a transaction was open, and whether it ended.
-use Rattle.std.proofs.Common.{◌≡◌, ◌^◌, inl, inr, ℕ, Bool, true, false, cond, List, [], ◌∷◌, ◌++◌, Option, Some, None, leb, refl, sym, ap, ◌∙◌, subst, true≢false}
+use Rattle.std.proofs.Common.{◌≡◌, ◌^◌, inl, inr, ℕ, Bool, true, false, cond, List, [], ◌∷◌, Option, Some, None, leb, refl, sym, ap, ◌∙◌, subst, true≢false}
 use Rattle.std.proofs.lemmas.Bool.{cases_Bool}
 use Rattle.map_model.specs.Pairings.{is_last}
 use Rattle.map_model.specs.declared.call.Answer.{Answer}

@@ -16,8 +16,6 @@ use Rattle.page_store.specs.Saved.{Reaches}
 use Rattle.paged_desks.specs.Machines.{IsReady, pages}
 use Rattle.paged_desks.specs.declared.machine.PagedMachine.{PagedMachine}
 use Rattle.paged_rows.specs.Paged.{IsFedIfFaithful, Paged}
-use Rattle.session_desks.specs.declared.machine.Machine.{Machine}
-use Rattle.session_state.specs.declared.work.Work.{Work}
 use Rattle.buffered_engine.specs.Inside.Parts.{IsEngine, state_by}
 use Rattle.buffered_engine.specs.States.{HasRun, InRun, State}
 

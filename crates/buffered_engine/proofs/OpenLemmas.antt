@@ -1,5 +1,5 @@
 -- An engine on a disk that was opened.
-use Rattle.std.proofs.Common.{◌≡◌, ◌≤◌, ◌<◌, ◌^◌, ℕ, Bool, false, List, [], length, refl, sym, ap, subst, arith}
+use Rattle.std.proofs.Common.{◌≡◌, ℕ, Bool, false, List, [], length, refl, sym, ap, subst, arith}
 use Rattle.core_state.specs.Openings.{Opening}
 use Rattle.core_state.specs.States.{start}
 use Rattle.core_calls.specs.Refusals.{waiting}

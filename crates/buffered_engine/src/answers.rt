@@ -4,7 +4,7 @@ ghost use Rattle.engine_trait.specs.Calls.{IsAsked};
 ghost use Rattle.engine_front.specs.declared.calls.Next.{Next};
 ghost use Rattle.buffered_engine.specs.Calls.{DurableDoes, HinderedDoes, LineDoes, told};
 
-use crate::engine::Engine;
+use crate::engine::{Engine, disk_of};
 use engine_front::calls::{Calls, Durable, Unanswered};
 use lean_disk::MemDisk;
 use lean_edge::{Put, Sink};
@@ -44,7 +44,7 @@ impl<D: Stages> Engine<D> {
     }
 }
 
-/// A disk on which an engine runs. Each disk writes its methods as `engine.answer(session, call)`, `engine.answer_abort()`, `engine.next_durable()` and `engine.close()`: the
+/// A disk on which an engine runs. Each disk writes its methods as `engine.answer(session, call)`, `engine.answer_abort()` and `engine.next_durable()`: the
 /// method of an impl may not call what is generic over its disk.
 pub trait Hosts: Stages {
     /// What a line of a session asks; for a sync the session is 0.
@@ -58,10 +58,6 @@ pub trait Hosts: Stages {
         requires next { engine.old.next ≡ Next.Abort }
         ensures { HinderedDoes Self.story Self.faults result engine.old engine.new };
 
-    /// Its disk.
-    fn close_on(engine: Engine<Self>) -> Self
-        ensures { result ≡ engine.disk };
-
     /// The commit that has become durable and was not told yet, if there is one.
     fn durable_on(engine: &mut Engine<Self>) -> Option<Durable>
         requires works { engine.old.works ≡ true }
@@ -69,12 +65,6 @@ pub trait Hosts: Stages {
 }
 
 impl Hosts for MemDisk {
-    fn close_on(engine: Engine<MemDisk>) -> MemDisk
-        ensures { result ≡ engine.disk }
-    {
-        engine.close()
-    }
-
     fn durable_on(engine: &mut Engine<MemDisk>) -> Option<Durable> {
         engine.next_durable()
     }
@@ -135,6 +125,12 @@ impl<D: Hosts> Calls<D> for Engine<D> {
     }
 
     fn close(self) -> D {
-        D::close_on(self)
+        let Engine {
+            machine,
+            unripe: _,
+            next: _,
+            calm: _,
+        } = self;
+        disk_of(machine)
     }
 }

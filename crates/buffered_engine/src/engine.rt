@@ -48,7 +48,7 @@ pub struct Opened<D: Disk> {
 }
 
 // The disk of a machine. What it has in memory is let go.
-fn disk_of<D>(machine: PagedMachine<D>) -> D
+pub(crate) fn disk_of<D>(machine: PagedMachine<D>) -> D
     ensures { result ≡ machine.machine.work.disk }
 {
     let PagedMachine { machine, pager: _ } = machine;

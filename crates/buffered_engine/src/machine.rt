@@ -2,7 +2,7 @@
 ghost use Rattle.std.specs.Prelude.{◌≡◌, ◌<◌, ◌≤◌, true};
 ghost use Rattle.map_model.specs.declared.call.Call.{Call};
 ghost use Rattle.map_model.specs.declared.call.Call.TheVariants as call;
-ghost use Rattle.session_desks.specs.Parts.{HasTurned, Works};
+ghost use Rattle.session_desks.specs.Parts.{Works};
 ghost use Rattle.paged_desks.specs.Calls.{CallDoes, OnLine};
 ghost use Rattle.paged_desks.specs.Machines.{IsReady};
 ghost use Rattle.paged_ends.specs.Ends.{OnBegin};

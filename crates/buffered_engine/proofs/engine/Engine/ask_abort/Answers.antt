@@ -1,4 +1,4 @@
-use Rattle.std.proofs.Common.{refl, sym, ap, ◌∙◌, subst, rules}
+use Rattle.std.proofs.Common.{refl, ap, ◌∙◌, subst, rules}
 use Rattle.buffered_engine.specs.Calls.{AskedAbort}
 use Rattle.buffered_engine.specs.Inside.Parts.{state_by}
 use Rattle.buffered_engine.specs.States.{State}

@@ -1,4 +1,4 @@
-use Rattle.std.proofs.Common.{◌≤◌, length, take, Some, None, refl, sym, ap, ◌∙◌, subst, arith, rules}
+use Rattle.std.proofs.Common.{◌≤◌, length, Some, None, refl, sym, ap, ◌∙◌, subst, arith, rules}
 use Rattle.buffered_engine.specs.Inside.Asks.{AreNumbers}
 use Rattle.buffered_engine.specs.States.{InRun, State, memory_in}
 use Rattle.buffered_engine.proofs.CalmLemmas.{calm_found}
