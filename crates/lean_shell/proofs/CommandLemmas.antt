@@ -59,7 +59,7 @@ same_shape : (words : List (List ℕ)) (x y : Shape) → AsksFormat words x → 
 same_shape words x y is other =
     let same : is.options ≡ other.options = (one_met words (codes "format") (codes "format") is.options other.options is.names other.names).1 in
     let workers : x.workers ≡ y.workers = one_number (codes "workers") 1 16 is.options other.options x.workers y.workers (omega arith) same is.workers other.workers in
-    let pages : x.pages ≡ y.pages = one_number (codes "pages") 16 4096 is.options other.options x.pages y.pages (omega arith) same is.pages other.pages in
+    let pages : x.pages ≡ y.pages = one_number (codes "pages") 16 65536 is.options other.options x.pages y.pages (omega arith) same is.pages other.pages in
     let blocks : x.blocks ≡ y.blocks = one_number (codes "blocks") 64 4096 is.options other.options x.blocks y.blocks (omega arith) same is.blocks other.blocks in
     ap (λ (w : ℕ). record x { workers = w }) workers ∙ (ap (λ (p : ℕ). let s : Shape = record { workers = y.workers; pages = p; blocks = x.blocks } in s) pages ∙ ap (λ (b : ℕ). record y { blocks = b }) blocks)
 
@@ -109,6 +109,7 @@ of_stop (stops.Refused line) n e = (inr (inr (inl e)), λ z. omega (arith, e, z)
 of_stop stops.ReadFault n e = (inr (inr (inr (inl e))), λ z. omega (arith, e, z))
 of_stop stops.WriteFault n e = (inr (inr (inr (inr (inl e)))), λ z. omega (arith, e, z))
 of_stop stops.DiskFault n e = (inr (inr (inr (inr (inr (inl e))))), λ z. omega (arith, e, z))
+of_stop (stops.Damaged place) n e = (inr (inr (inr (inr (inr (inr (inl e)))))), λ z. omega (arith, e, z))
 
 of_run_status : (size : Size) (n : ℕ) (s0 s1 : Story) (feed0 feed1 : Feed) (put : List ℕ) (sink0 sink1 : ℕ) → HowRun size n s0 s1 feed0 feed1 put sink0 sink1 → IsStatus n × (n ≡ 2 → ⊥)
 of_run_status size n s0 s1 feed0 feed1 put sink0 sink1 (OfReason x unread) = of_reason x.reason n x.status_is

@@ -76,7 +76,7 @@ pub record AsksFormat (words : List (List ℕ)) (shape : Shape) : Type 0 where
   pub options : List Row
   pub names : Names words (codes "format") options
   pub workers : Gives options (codes "workers") 1 16 shape.workers
-  pub pages : Gives options (codes "pages") 16 4096 shape.pages
+  pub pages : Gives options (codes "pages") 16 65536 shape.pages
   pub blocks : Gives options (codes "blocks") 64 4096 shape.blocks
 
 -- `run`, or `run --rows R --group C`, in any order, or with one of them

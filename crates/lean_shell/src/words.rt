@@ -75,7 +75,7 @@ fn read_shape(options: &ArgMatches) -> Option<Shape>
     ensures none { IfNone result ((s : Shape) → GivesShape (rows_of (found_of options.now)) s → ⊥) }
 {
     let workers = option_in(options, "workers", 1, SESSIONS)?;
-    let pages = option_in(options, "pages", 16, 4096)?;
+    let pages = option_in(options, "pages", 16, 65536)?;
     let blocks = option_in(options, "blocks", 64, 4096)?;
     Some(Shape {
         workers,

@@ -56,8 +56,6 @@ module _ {D : Type 0} (size : Size) (s0 sa : Story) (e : State D) (generation wo
   begins m tells clean = record {
     next = b.next;
     of_run = next_of_run m (memory_in e).master b.next.base b.next.is;
-    base = λ p low. subst (λ (n : Master). p < n.pages → base_of (shown_by n (areas_of sa)) p ≡ Some (start_page o.opening p)) (sym o.master) (page p) low;
-    settled = i.settled 1 (omega arith);
     starts = b.start;
     map = b.map;
     known = (b.begins (began s0) (record { image = λ a. refl; writes = λ a. refl })).known;
@@ -67,15 +65,6 @@ module _ {D : Type 0} (size : Size) (s0 sa : Story) (e : State D) (generation wo
     where
       b : BeginsOn o.opening (memory_in e) s0 sa m
       b = o.clean tells m clean
-
-      i : IsOpened m (areas_of s0) o.recovered sa
-      i = o.is.opened tells m clean
-
-      page : (p : ℕ) → p < o.recovered.master.pages → base_of (shown_by o.recovered.master (areas_of sa)) p ≡ Some (start_page o.opening p)
-      page p low =
-          let pages = ap (λ (y : Master). y.pages) (recovered tells m clean.master).master in
-          let own : p < m.pages = omega arith in
-          i.base p own ∙ ap (λ (v : Contents). Some v) (sym (b.start.pages p own))
 
   of_size : IsOfSize size o.opening
   of_size = let t = o.in_run.tied.ties 1 in record { few = few; changes = t.opens.changes; joined = t.opens.joined; rows = o.rows; frames = o.frames }

@@ -1,0 +1,21 @@
+-- Why a call was not answered.
+use Rattle.std.specs.Prelude.{ℕ, List}
+use Rattle.core_state.specs.Openings.{Opening}
+use Rattle.core_calls.specs.Fronts.{Done}
+use Rattle.disk_runs.specs.Stands.{Known}
+use Rattle.lean_disk.specs.Story.{Crash, Story}
+use Rattle.engine_calls.specs.Clauses.{Between}
+use Rattle.engine_trait.specs.Limits.{limits}
+use Rattle.call_parts.specs.Memory.{IsOf, Memory}
+use Rattle.engine_front.specs.declared.calls.Unanswered.{Unanswered}
+use Rattle.engine_front.specs.declared.calls.Unanswered.TheVariants.{Broken, Damaged, DiskFault}
+
+-- with this in memory, the disk stands for no run of these outcomes
+abbrev pub StandsNot : (g : Opening) (group : ℕ) → List Done → Memory → Story → Type 0
+StandsNot g group xs was old = (s0 : Crash) (k : Known) → Between limits g group xs s0 k old → IsOf g was k → ⊥
+
+-- where the disk failed this; where a page of it is damaged this too, and it stood for no run
+abbrev pub StopsBy : Unanswered → (fails never : Type 0) → Type 0
+StopsBy Broken fails never = Unit {0}
+StopsBy DiskFault fails never = fails
+StopsBy (Damaged place) fails never = fails × never
