@@ -3,9 +3,9 @@ ghost use Rattle.std.specs.Prelude.{◌≡◌};
 ghost use Rattle.disk_file.specs.Untold.{untold, untold_lawful, untold_whole};
 
 use crate::part::HostPart;
+use buffered_engine::{Durable, Engine, Hosts, Stages, Unanswered, stage_end};
 use disk_file::FileDisk;
 use lean_disk::{Did, Disk, Read};
-use lean_engine::{Durable, Engine, Hosts, Stages, Unanswered, stage_end};
 use log_record::Record;
 use map_model::{Answer, Call};
 use std::alloc::Global;
@@ -83,6 +83,10 @@ impl<'a> Hosts for HostDisk<'a> {
 
     fn abort_on(engine: &mut Engine<HostDisk<'a>>) -> Result<Answer, Unanswered> {
         engine.answer_abort()
+    }
+
+    fn close_on(engine: Engine<HostDisk<'a>>) -> HostDisk<'a> {
+        engine.close()
     }
 
     fn durable_on(engine: &mut Engine<HostDisk<'a>>) -> Option<Durable> {

@@ -23,7 +23,7 @@ use Rattle.lean_shell.specs.Inside.Openings.{Refuses}
 use Rattle.lean_shell.specs.Words.{AsksDump, AsksFormat, AsksNothing, AsksRun, Gives, Names}
 use Rattle.lean_shell.specs.declared.words.Command.TheVariants.{Dump, Format, Run}
 use Rattle.disk_format.specs.declared.shape.Shape.{Shape}
-use Rattle.lean_engine.specs.declared.engine.Size.{Size}
+use Rattle.paged_engine.specs.declared.opening.Size.{Size}
 use Rattle.clap.specs.Words.{Row, first_of}
 use Rattle.recovery.specs.Opened.{Keeps}
 use Rattle.transcripts.specs.Laws.{EveryNotice, EveryTail}
@@ -69,7 +69,9 @@ same_size words x y is other =
     let same : is.options ≡ other.options = (one_met words (codes "run") (codes "run") is.options other.options is.names other.names).1 in
     let rows : x.rows ≡ y.rows = one_number (codes "rows") 16 4096 is.options other.options x.rows y.rows (omega arith) same is.given.rows other.given.rows in
     let group : x.group ≡ y.group = one_number (codes "group") 1 64 is.options other.options x.group y.group (omega arith) same is.given.group other.given.group in
-    ap (λ (n : ℕ). record x { rows = n }) rows ∙ (ap (λ (n : ℕ). let s : Size = record { rows = y.rows; group = n; sessions = x.sessions } in s) group ∙ ap (λ (n : ℕ). record y { sessions = n }) (is.given.sessions ∙ sym other.given.sessions))
+    let frames : x.frames ≡ y.frames = one_number (codes "frames") 32 4096 is.options other.options x.frames y.frames (omega arith) same is.given.frames other.given.frames in
+    ap (λ (n : ℕ). record x { frames = n }) frames ∙ (ap (λ (n : ℕ). let s : Size = record { frames = y.frames; rows = n; group = x.group; sessions = x.sessions } in s) rows
+    ∙ (ap (λ (n : ℕ). let s : Size = record { frames = y.frames; rows = y.rows; group = n; sessions = x.sessions } in s) group ∙ ap (λ (n : ℕ). record y { sessions = n }) (is.given.sessions ∙ sym other.given.sessions)))
 
 -- words that ask for a new disk ask for no run
 pub not_both : (words : List (List ℕ)) (shape : Shape) (size : Size) → AsksFormat words shape → AsksRun words size → ⊥

@@ -41,8 +41,8 @@ use Rattle.script_run.specs.Texts.{LinesRead}
 use Rattle.script_run.specs.declared.stop.Stop.{Stop}
 use Rattle.script_run.specs.declared.stop.Stop.TheVariants as stops
 use Rattle.call_parts.specs.Memory.{Memory}
-use Rattle.lean_engine.specs.Openings.{Shows}
-use Rattle.lean_engine.specs.declared.engine.Size.{Size}
+use Rattle.paged_engine.specs.Openings.{Shows}
+use Rattle.paged_engine.specs.declared.opening.Size.{Size}
 use Rattle.lean_shell.specs.Crashes.{IsYoung, TellsCrashes, as_read}
 use Rattle.lean_shell.specs.Headline.{Survives}
 use Rattle.lean_shell.specs.Lines.{line_of, WentOut}

@@ -23,7 +23,7 @@ use Rattle.core_calls.specs.Steps.{call_behind, hindered_in}
 use Rattle.run_crashes.specs.Lines.{FellIn, NoneStopped}
 use Rattle.engine_trait.specs.Limits.{limits}
 use Rattle.call_parts.specs.Rooms.{IsRoomFor}
-use Rattle.lean_engine.specs.declared.engine.Size.{Size}
+use Rattle.paged_engine.specs.declared.opening.Size.{Size}
 use Rattle.map_model.specs.declared.call.Call.{Call}
 use Rattle.map_model.specs.Journals.{Name}
 use Rattle.map_model.specs.Lists.{Has}
@@ -36,13 +36,13 @@ use Rattle.transcripts.specs.Transcripts.{durables, first_lines, transcript}
 use Rattle.script_run.specs.Runs.{calls_of}
 
 -- An opening of an engine so large: at most how many sessions there are, how many changes a transaction makes, of how many pairs pages are joined, which lock row
--- a key has, and that each page has a frame.
+-- a key has, and how many frames there are.
 pub record IsOfSize (size : Size) (g : Opening) : Type 0 where
   pub few : g.workers ≤ size.sessions
   pub changes : g.changes ≡ 64
   pub joined : g.joined ≡ 45
   pub rows : (k : ℕ) → g.row_of k ≡ k % size.rows
-  pub frames : g.frames ≡ g.format.pages
+  pub frames : g.frames ≡ size.frames
 
 -- The master is the one that an opening of this disk writes, or one that the run writes behind it, by a sync among these events.
 pub record IsOfOpening (m : Master) (area : Areas) (n : Master) : Type 0 where

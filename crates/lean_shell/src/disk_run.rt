@@ -13,10 +13,10 @@ ghost use Rattle.lean_shell.specs.Runs.{ended, status_of};
 use crate::engine_lines::{put_last, put_opened};
 use crate::lines::put_reason;
 use crate::program::Ended;
+use buffered_engine::{Engine, Hosts, Opened, Size, Unopened};
 use engine_front::calls::Calls;
 use lean_disk::Disk;
 use lean_edge::{Put, Sink, Source};
-use lean_engine::{Engine, Hosts, Opened, Size, Unopened};
 use recovery::Unrecovered;
 use script_lang::LineReader;
 use script_run::{Stop, run_script};
@@ -79,6 +79,7 @@ pub fn run_disk<S: Source, K: Sink<D>, D: Hosts>(
     disk: D,
     size: Size,
 ) -> Ended<D>
+    requires frames { (32 ≤ size.frames) × (size.frames ≤ 4096) }
     requires rows { (1 ≤ size.rows) × (size.rows ≤ 65536) }
     requires group { 1 ≤ size.group }
     requires sessions { size.sessions ≤ 16 }

@@ -3,7 +3,7 @@ ghost use Rattle.std.specs.Prelude.{◌≡◌, ◌^◌, ◌<◌, ℕ, ◌↔◌,
 ghost use Rattle.std.specs.Fmt.{decimal};
 ghost use Rattle.clap.specs.Words.{found_of, rows_of, subcommand_rows_of};
 ghost use Rattle.disk_format.specs.declared.shape.Shape.{Shape};
-ghost use Rattle.lean_engine.specs.declared.engine.Size.{Size};
+ghost use Rattle.paged_engine.specs.declared.opening.Size.{Size};
 ghost use Rattle.lean_shell.specs.Inside.CommandLines.{AsksAs, AsksBy, GivesShape};
 ghost use Rattle.lean_shell.specs.Words.{Asks, AsksNothing, Gives, GivesSize, IsNumberIn, IsPlain, texts};
 ghost use Rattle.lean_shell.specs.declared.words.Command.{Command};
@@ -11,7 +11,7 @@ ghost use Rattle.lean_shell.specs.declared.words.Command.{Command};
 use crate::command_line::lean_line;
 use clap::ArgMatches;
 use clap::error::ErrorKind;
-use lean_engine::{Shape, Size};
+use buffered_engine::{Shape, Size};
 use page_model::limits::SESSIONS;
 use std::alloc::{AllocError, Global};
 
@@ -90,7 +90,9 @@ fn read_size(options: &ArgMatches) -> Option<Size>
 {
     let rows = option_in(options, "rows", 16, 4096)?;
     let group = option_in(options, "group", 1, 64)?;
+    let frames = option_in(options, "frames", 32, 4096)?;
     Some(Size {
+        frames,
         rows,
         group,
         sessions: SESSIONS,

@@ -3,7 +3,6 @@ use crate::cases::expect;
 use crate::commands::formatted;
 use lean_disk::MemDisk;
 use lean_edge::{MemSink, MemSource};
-use lean_engine::{Engine, Opened, Size, Unopened};
 use script_lang::LineReader;
 use script_run::{Stop, run_script};
 use std::alloc::{AllocError, Global};
@@ -77,6 +76,7 @@ fn sink_of(alloc: Global, case: &Case) -> Result<MemSink, AllocError> {
 }
 
 const SIZE: Size = Size {
+    frames: 32,
     rows: 64,
     group: 1,
     sessions: 16,

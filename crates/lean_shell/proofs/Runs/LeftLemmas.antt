@@ -46,7 +46,7 @@ use Rattle.disk_runs.proofs.LineLemmas.{every_master_count}
 use Rattle.run_crashes.specs.Lines.{FellIn, Between, InCall, Stopped, Recovers, RunLeft, next_of, outcome_of}
 use Rattle.call_parts.specs.Memory.{Memory}
 use Rattle.engine_trait.specs.Limits.{limits}
-use Rattle.lean_engine.specs.declared.engine.Size.{Size}
+use Rattle.paged_engine.specs.declared.opening.Size.{Size}
 use Rattle.script_lang.specs.Replies.{reply_line}
 use Rattle.script_lang.specs.Text.{script_lines}
 use Rattle.transcripts.specs.Told.{EachLineFits, IsOutput, asked_lines}

@@ -11,10 +11,11 @@ use Rattle.recovery.specs.Opened.{IsGreatest, IsOpened, IsRecovered}
 use Rattle.recovery.specs.Telling.{TellsAll}
 use Rattle.core_state.specs.Openings.{start_page}
 use Rattle.run_opening.specs.Starts.{empty_log}
-use Rattle.lean_engine.specs.Openings as engine
-use Rattle.lean_engine.specs.Openings.{BeginsOn, HasOpened}
-use Rattle.lean_engine.specs.States.{State, memory_in}
-use Rattle.lean_engine.specs.declared.engine.Size.{Size}
+use Rattle.paged_engine.specs.Openings as engine
+use Rattle.paged_engine.specs.Openings.{BeginsOn}
+use Rattle.buffered_engine.specs.Openings.{HasOpened}
+use Rattle.buffered_engine.specs.States.{State, memory_in}
+use Rattle.paged_engine.specs.declared.opening.Size.{Size}
 use Rattle.lean_shell.specs.Inside.Begins.{Begins, HasStarted, began}
 use Rattle.lean_shell.specs.Runs.{Counts, IsFrom, first_log}
 use Rattle.lean_shell.specs.Starts.{IsOfSize}
@@ -75,6 +76,6 @@ module _ {D : Type 0} (size : Size) (s0 sa : Story) (e : State D) (generation wo
     from = from;
     log = log_is;
     master = λ tells m there. o.master ∙ master_is tells m there;
-    untouched = o.is.logs;
+    untouched = λ a high. o.is.beyond a (let b = o.in_run.workers in let d = o.sessions in omega arith);
     begins = begins;
   }

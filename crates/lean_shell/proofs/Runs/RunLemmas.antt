@@ -49,7 +49,7 @@ use Rattle.engine_calls.specs.Clauses.{Between}
 use Rattle.call_parts.specs.Memory.{Memory}
 use Rattle.worker_log.specs.Logs.{Log}
 use Rattle.engine_trait.specs.Limits.{limits}
-use Rattle.lean_engine.specs.declared.engine.Size.{Size}
+use Rattle.paged_engine.specs.declared.opening.Size.{Size}
 use Rattle.run_crashes.specs.Lines.{NoneStopped, Recovers, RunLeft, next_of}
 use Rattle.transcripts.specs.Laws.{NextLaws}
 use Rattle.transcripts.specs.Told.{opened_line, text_of, EachReplyFits, IsOutput}
@@ -610,7 +610,7 @@ module _ (size : Size) (few : size.sessions ≤ 16) (laws : Laws) (s0 sa sb sc s
 
   -- behind the logs of the sessions nothing is written
   beside : (a : ℕ) → suc g.workers < a → IsUntouched (s0.area a) (s1.area a)
-  beside a high = subst (λ (x : Area). IsUntouched (s0.area a) x) (sym (l.notes.area a ∙ (r.others.area a high ∙ noted.area a))) (o.untouched a (omega (arith, high)))
+  beside a high = subst (λ (x : Area). IsUntouched (s0.area a) x) (sym (l.notes.area a ∙ (r.others.area a high ∙ (noted.area a ∙ o.untouched a high)))) (record { bytes = refl; writes = refl; first = refl })
 
   pub run_ends : (status : ℕ) → status ≡ ended stop → (sink0 : ℕ) → HasCause sink0 sink_c (stop ≡ stops.WriteFault) → ((a : ℕ) → 1 + size.sessions < a → sa.area a ≡ s0.area a) → IsClosed stop r.newer → RunEnds size status s0 s1 feed0 feed1 held0 held1 sink0 sink1
   run_ends status is sink0 sinks others closed = record {

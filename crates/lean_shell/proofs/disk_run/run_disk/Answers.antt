@@ -2,7 +2,7 @@ use Rattle.std.proofs.Common.{IsTrue, [], Some, refl, sym, ap, ◌∙◌, subst,
 use Rattle.lean_edge.specs.declared.sink.Put.{Put}
 use Rattle.lean_edge.specs.Outside.{added}
 use Rattle.recovery.specs.Telling.{TellsAll}
-use Rattle.lean_engine.specs.States.{InRun, memory_in}
+use Rattle.buffered_engine.specs.States.{InRun, memory_in}
 use Rattle.lean_shell.specs.Ends.{RunEnds}
 use Rattle.lean_shell.specs.Headline.{Headline}
 use Rattle.lean_shell.specs.Inside.Assembled.{RunSays}
