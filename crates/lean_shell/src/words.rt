@@ -9,9 +9,9 @@ ghost use Rattle.lean_shell.specs.Words.{Asks, AsksNothing, Gives, GivesSize, Is
 ghost use Rattle.lean_shell.specs.declared.words.Command.{Command};
 
 use crate::command_line::lean_line;
+use buffered_engine::{Shape, Size};
 use clap::ArgMatches;
 use clap::error::ErrorKind;
-use buffered_engine::{Shape, Size};
 use page_model::limits::SESSIONS;
 use std::alloc::{AllocError, Global};
 

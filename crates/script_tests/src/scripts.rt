@@ -1,6 +1,7 @@
 // Scripts on a fresh engine, over devices in memory. The expected lines were written down by hand.
 use crate::cases::expect;
 use crate::commands::formatted;
+use buffered_engine::{Engine, Opened, Size, Unopened};
 use lean_disk::MemDisk;
 use lean_edge::{MemSink, MemSource};
 use script_lang::LineReader;
