@@ -197,9 +197,9 @@ static CASES: [Case; 9] = [
             Step::Call(Asked::Get(59), VALUE_8),
             committed!(1, 65),
         ],
-        // 37 changes in the first block and 23 in the second one, which has no room for the 999 bytes of the lift.
+        // 37 changes in the first block and 23 in the second one, which has no room for the 999 bytes of the lift. The two pages that the tree takes are read.
         bytes: 6144,
-        moment: 4,
+        moment: 6,
     },
     Case {
         name: "the clock ends",
