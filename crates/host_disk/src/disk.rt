@@ -85,10 +85,6 @@ impl<'a> Hosts for HostDisk<'a> {
         engine.answer_abort()
     }
 
-    fn close_on(engine: Engine<HostDisk<'a>>) -> HostDisk<'a> {
-        engine.close()
-    }
-
     fn durable_on(engine: &mut Engine<HostDisk<'a>>) -> Option<Durable> {
         engine.next_durable()
     }
