@@ -240,7 +240,7 @@ module _ (notice_law : EveryNotice) (tail_law : EveryTail) (s0 s1 : Story) (law 
         Memory status eight (λ e. let n : number_of Memory ≡ number_of Usage = ap number_of e in omega (arith, n)) printed (λ e. absurd (let n : number_of Memory ≡ number_of AlreadyFormatted = ap number_of e in omega (arith, n))) (λ e a. refl)
         (record { later = omega (arith, calm); cause = λ e. absurd (let n : number_of Memory ≡ number_of DiskFault = ap number_of e in omega (arith, n)); calm = λ n. calm });
     run = λ size feed. refused_ends size notice_law tail_law status s0 s0 s1 law keeps (λ a lt. refl) (λ m tells clean. not_moved m s0 law) feed why.Memory eight tt (λ refused a. absurd refused) held0 held1 sink0 sink1 r;
-    headline = λ feed. refused_headline (record { rows = 16; group = 1; sessions = 16 }) notice_law tail_law s0 s0 s1 law keeps (λ m tells clean. not_moved m s0 law) feed why.Memory held0 held1 sink0 sink1 r;
+    headline = λ feed. refused_headline (record { frames = 32; rows = 16; group = 1; sessions = 16 }) notice_law tail_law s0 s0 s1 law keeps (λ m tells clean. not_moved m s0 law) feed why.Memory held0 held1 sink0 sink1 r;
     dump = dumps.refused s0 s0 s1 law (record { keeps = keeps; logs = λ a lt. record { bytes = refl; writes = refl; first = refl }; others = λ a lt. refl; any = λ m tells clean. not_moved m s0 law }) why.Memory tt (λ refused a. absurd refused) held0 held1 sink0 sink1 r.answer status eight r.line r.cause;
     none = record {
       failure = Memory;
