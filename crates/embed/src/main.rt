@@ -6,11 +6,11 @@
 
 ghost use Rattle.std.specs.Prelude.{◌≡◌, IfOk, true};
 ghost use Rattle.engine_trait.specs.Calls.{IsAsked};
-ghost use Rattle.engine_trait.specs.Turns.{behind_durables};
-ghost use Rattle.engine_trait.specs.declared.calls.Next.{Next};
+ghost use Rattle.engine_front.specs.Turns.{behind_durables};
+ghost use Rattle.engine_front.specs.declared.calls.Next.{Next};
 
+use buffered_engine::{Engine, Formatted, Opened, Shape, Size, Unopened, format};
 use host_disk::HostDisk;
-use lean_engine::{Engine, Formatted, Opened, Shape, Size, Unopened, format};
 use map_model::{Answer, Call, Refusal};
 use std::io;
 
@@ -21,6 +21,7 @@ const SHAPE: Shape = Shape {
 };
 
 const SIZE: Size = Size {
+    frames: 32,
     rows: 256,
     group: 1,
     sessions: 2,

@@ -3,12 +3,12 @@
 #![tactic(auto)]
 
 ghost use Rattle.std.specs.Prelude.{◌≡◌, ◌≤◌, ◌<◌, ◌^◌, IfOk, IsTrue};
-ghost use Rattle.engine_trait.specs.declared.calls.Next.{Next};
+ghost use Rattle.engine_front.specs.declared.calls.Next.{Next};
 
+use buffered_engine::{Engine, Opened, Size, Unopened};
 use disk_format::{Formatted, Shape, format};
-use engine_trait::calls::Next;
+use engine_front::calls::Next;
 use lean_disk::MemDisk;
-use lean_engine::{Engine, Opened, Size, Unopened};
 use std::alloc::Global;
 use std::time::Instant;
 use std::{env, io};
@@ -20,6 +20,7 @@ const SHAPE: Shape = Shape {
 };
 
 const SIZE: Size = Size {
+    frames: 1024,
     rows: 256,
     group: 1,
     sessions: 1,

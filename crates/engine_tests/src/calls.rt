@@ -1,14 +1,14 @@
 // An engine on a formatted disk in memory. The expected answers were written down by hand.
 ghost use Rattle.std.specs.Prelude.{◌≡◌, ◌<◌, ◌≤◌, ℕ, true};
 ghost use Rattle.engine_trait.specs.Calls.{IsAsked};
-ghost use Rattle.engine_trait.specs.declared.calls.Next.{Next};
+ghost use Rattle.engine_front.specs.declared.calls.Next.{Next};
 
 use crate::cases::expect;
 use crate::disks::formatted;
 use crate::sessions::take_rest;
-use engine_trait::calls::{Next, Unanswered};
+use buffered_engine::{Engine, Opened, Size, Unopened};
+use engine_front::calls::{Next, Unanswered};
 use lean_disk::MemDisk;
-use lean_engine::{Engine, Opened, Size, Unopened};
 use map_model::{Answer, Call, Refusal};
 use std::alloc::{AllocError, Global};
 
@@ -197,9 +197,9 @@ static CASES: [Case; 9] = [
             Step::Call(Asked::Get(59), VALUE_8),
             committed!(1, 65),
         ],
-        // 37 changes in the first block and 23 in the second one, which has no room for the 999 bytes of the lift.
+        // 37 changes in the first block and 23 in the second one, which has no room for the 999 bytes of the lift. The two pages that the tree takes are read.
         bytes: 6144,
-        moment: 4,
+        moment: 6,
     },
     Case {
         name: "the clock ends",
@@ -308,6 +308,7 @@ fn are_done(engine: &mut Engine<MemDisk>, steps: &[Step]) -> bool {
 }
 
 const SIZE: Size = Size {
+    frames: 32,
     rows: 64,
     group: 1,
     sessions: 1,

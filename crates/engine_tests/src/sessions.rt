@@ -1,12 +1,12 @@
 // An engine's calls by their types, on a disk in memory that `format` made. The expected results were written down by hand.
 use crate::cases::expect;
 use crate::disks::unused;
-use engine_trait::calls::Next;
-use lean_disk::{AreaOf, MemDisk};
-use lean_engine::{
+use buffered_engine::{
     Aborted, Began, Broken, Engine, Formatted, Opened, Receipt, Ripeness, Shape, Size, Synced,
     Unopened, format,
 };
+use engine_front::calls::Next;
+use lean_disk::{AreaOf, MemDisk};
 use map_model::{Answer, Refusal};
 use master_store::choose;
 use std::alloc::{AllocError, Global};
@@ -414,6 +414,7 @@ fn is_met(alloc: Global, case: &Case) -> Result<bool, AllocError> {
     let mut disk = new_disk(alloc, case.sessions)?;
     disk.fail_at(2, Vec::from_slice(alloc, case.failing)?);
     let size = Size {
+        frames: 32,
         rows: 64,
         group: case.group.max(1),
         sessions: 16,

@@ -3,9 +3,9 @@ ghost use Rattle.std.specs.Prelude.{◌≡◌};
 ghost use Rattle.disk_file.specs.Untold.{untold, untold_lawful, untold_whole};
 
 use crate::part::HostPart;
+use buffered_engine::{Durable, Engine, Hosts, Stages, Unanswered, stage_end};
 use disk_file::FileDisk;
 use lean_disk::{Did, Disk, Read};
-use lean_engine::{Durable, Engine, Hosts, Stages, Unanswered, stage_end};
 use log_record::Record;
 use map_model::{Answer, Call};
 use std::alloc::Global;

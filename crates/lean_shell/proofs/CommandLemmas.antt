@@ -23,7 +23,7 @@ use Rattle.lean_shell.specs.Inside.Openings.{Refuses}
 use Rattle.lean_shell.specs.Words.{AsksDump, AsksFormat, AsksNothing, AsksRun, Gives, Names}
 use Rattle.lean_shell.specs.declared.words.Command.TheVariants.{Dump, Format, Run}
 use Rattle.disk_format.specs.declared.shape.Shape.{Shape}
-use Rattle.lean_engine.specs.declared.engine.Size.{Size}
+use Rattle.paged_engine.specs.declared.opening.Size.{Size}
 use Rattle.clap.specs.Words.{Row, first_of}
 use Rattle.recovery.specs.Opened.{Keeps}
 use Rattle.transcripts.specs.Laws.{EveryNotice, EveryTail}
@@ -59,7 +59,7 @@ same_shape : (words : List (List ℕ)) (x y : Shape) → AsksFormat words x → 
 same_shape words x y is other =
     let same : is.options ≡ other.options = (one_met words (codes "format") (codes "format") is.options other.options is.names other.names).1 in
     let workers : x.workers ≡ y.workers = one_number (codes "workers") 1 16 is.options other.options x.workers y.workers (omega arith) same is.workers other.workers in
-    let pages : x.pages ≡ y.pages = one_number (codes "pages") 16 4096 is.options other.options x.pages y.pages (omega arith) same is.pages other.pages in
+    let pages : x.pages ≡ y.pages = one_number (codes "pages") 16 65536 is.options other.options x.pages y.pages (omega arith) same is.pages other.pages in
     let blocks : x.blocks ≡ y.blocks = one_number (codes "blocks") 64 4096 is.options other.options x.blocks y.blocks (omega arith) same is.blocks other.blocks in
     ap (λ (w : ℕ). record x { workers = w }) workers ∙ (ap (λ (p : ℕ). let s : Shape = record { workers = y.workers; pages = p; blocks = x.blocks } in s) pages ∙ ap (λ (b : ℕ). record y { blocks = b }) blocks)
 
@@ -69,7 +69,9 @@ same_size words x y is other =
     let same : is.options ≡ other.options = (one_met words (codes "run") (codes "run") is.options other.options is.names other.names).1 in
     let rows : x.rows ≡ y.rows = one_number (codes "rows") 16 4096 is.options other.options x.rows y.rows (omega arith) same is.given.rows other.given.rows in
     let group : x.group ≡ y.group = one_number (codes "group") 1 64 is.options other.options x.group y.group (omega arith) same is.given.group other.given.group in
-    ap (λ (n : ℕ). record x { rows = n }) rows ∙ (ap (λ (n : ℕ). let s : Size = record { rows = y.rows; group = n; sessions = x.sessions } in s) group ∙ ap (λ (n : ℕ). record y { sessions = n }) (is.given.sessions ∙ sym other.given.sessions))
+    let frames : x.frames ≡ y.frames = one_number (codes "frames") 32 4096 is.options other.options x.frames y.frames (omega arith) same is.given.frames other.given.frames in
+    ap (λ (n : ℕ). record x { frames = n }) frames ∙ (ap (λ (n : ℕ). let s : Size = record { frames = y.frames; rows = n; group = x.group; sessions = x.sessions } in s) rows
+    ∙ (ap (λ (n : ℕ). let s : Size = record { frames = y.frames; rows = y.rows; group = n; sessions = x.sessions } in s) group ∙ ap (λ (n : ℕ). record y { sessions = n }) (is.given.sessions ∙ sym other.given.sessions)))
 
 -- words that ask for a new disk ask for no run
 pub not_both : (words : List (List ℕ)) (shape : Shape) (size : Size) → AsksFormat words shape → AsksRun words size → ⊥
@@ -109,6 +111,7 @@ of_stop (stops.Refused line) n e = (inr (inr (inl e)), λ z. omega (arith, e, z)
 of_stop stops.ReadFault n e = (inr (inr (inr (inl e))), λ z. omega (arith, e, z))
 of_stop stops.WriteFault n e = (inr (inr (inr (inr (inl e)))), λ z. omega (arith, e, z))
 of_stop stops.DiskFault n e = (inr (inr (inr (inr (inr (inl e))))), λ z. omega (arith, e, z))
+of_stop (stops.Damaged place) n e = (inr (inr (inr (inr (inr (inr (inl e)))))), λ z. omega (arith, e, z))
 
 of_run_status : (size : Size) (n : ℕ) (s0 s1 : Story) (feed0 feed1 : Feed) (put : List ℕ) (sink0 sink1 : ℕ) → HowRun size n s0 s1 feed0 feed1 put sink0 sink1 → IsStatus n × (n ≡ 2 → ⊥)
 of_run_status size n s0 s1 feed0 feed1 put sink0 sink1 (OfReason x unread) = of_reason x.reason n x.status_is
@@ -237,7 +240,7 @@ module _ (notice_law : EveryNotice) (tail_law : EveryTail) (s0 s1 : Story) (law 
         Memory status eight (λ e. let n : number_of Memory ≡ number_of Usage = ap number_of e in omega (arith, n)) printed (λ e. absurd (let n : number_of Memory ≡ number_of AlreadyFormatted = ap number_of e in omega (arith, n))) (λ e a. refl)
         (record { later = omega (arith, calm); cause = λ e. absurd (let n : number_of Memory ≡ number_of DiskFault = ap number_of e in omega (arith, n)); calm = λ n. calm });
     run = λ size feed. refused_ends size notice_law tail_law status s0 s0 s1 law keeps (λ a lt. refl) (λ m tells clean. not_moved m s0 law) feed why.Memory eight tt (λ refused a. absurd refused) held0 held1 sink0 sink1 r;
-    headline = λ feed. refused_headline (record { rows = 16; group = 1; sessions = 16 }) notice_law tail_law s0 s0 s1 law keeps (λ m tells clean. not_moved m s0 law) feed why.Memory held0 held1 sink0 sink1 r;
+    headline = λ feed. refused_headline (record { frames = 32; rows = 16; group = 1; sessions = 16 }) notice_law tail_law s0 s0 s1 law keeps (λ m tells clean. not_moved m s0 law) feed why.Memory held0 held1 sink0 sink1 r;
     dump = dumps.refused s0 s0 s1 law (record { keeps = keeps; logs = λ a lt. record { bytes = refl; writes = refl; first = refl }; others = λ a lt. refl; any = λ m tells clean. not_moved m s0 law }) why.Memory tt (λ refused a. absurd refused) held0 held1 sink0 sink1 r.answer status eight r.line r.cause;
     none = record {
       failure = Memory;

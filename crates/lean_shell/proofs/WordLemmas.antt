@@ -6,7 +6,7 @@ use Rattle.clap.specs.declared.error.Error.{Error}
 use Rattle.clap.specs.declared.error.ErrorKind.TheVariants.{OutOfMemory}
 use Rattle.clap.proofs.OnLiterals.{clap_on_literals}
 use Rattle.disk_format.specs.declared.shape.Shape.{Shape}
-use Rattle.lean_engine.specs.declared.engine.Size.{Size}
+use Rattle.paged_engine.specs.declared.opening.Size.{Size}
 use Rattle.lean_shell.specs.Inside.CommandLines.{AsksAs, AsksBy, GivesShape}
 use Rattle.lean_shell.specs.Words.{Asks, AsksNothing, Gives, GivesSize, IsNumberIn, lean_words}
 use Rattle.lean_shell.specs.declared.words.Command.{Command}

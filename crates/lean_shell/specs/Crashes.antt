@@ -10,7 +10,7 @@ use Rattle.recovery.specs.Opened.{IsGreatest}
 use Rattle.recovery.specs.Crashes.{ShowsStill}
 use Rattle.recovery.specs.Telling.{TellsAll}
 use Rattle.transcripts.specs.Transcripts.{IsQuiet, first_lines}
-use Rattle.lean_engine.specs.declared.engine.Size.{Size}
+use Rattle.paged_engine.specs.declared.opening.Size.{Size}
 use Rattle.core_calls.specs.Fronts.{Done}
 use Rattle.core_state.specs.Openings.{Opening}
 use Rattle.lean_shell.specs.Starts.{IsLeft, IsOfOpening, IsRoomOfNext}

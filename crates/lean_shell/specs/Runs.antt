@@ -36,13 +36,13 @@ use Rattle.map_model.specs.declared.call.Refusal.TheVariants.{RowSpent}
 use Rattle.map_model.specs.Pairings.{counted, in_turn, is_open_line, script_of}
 use Rattle.transcripts.specs.Told.{opened_line, text_of}
 use Rattle.transcripts.specs.Transcripts.{transcript}
-use Rattle.script_run.specs.Runs.{Executes, IsLastCut, PrintsTo, calls_of}
+use Rattle.script_run.specs.Runs.{Executes, IsLastCut, PrintsTo, calls_of, works_on}
 use Rattle.script_run.specs.Texts.{LinesRead}
 use Rattle.script_run.specs.declared.stop.Stop.{Stop}
 use Rattle.script_run.specs.declared.stop.Stop.TheVariants as stops
-use Rattle.engine_trait.specs.Calls.{Memory}
-use Rattle.lean_engine.specs.Openings.{Shows}
-use Rattle.lean_engine.specs.declared.engine.Size.{Size}
+use Rattle.call_parts.specs.Memory.{Memory}
+use Rattle.paged_engine.specs.Openings.{Shows}
+use Rattle.paged_engine.specs.declared.opening.Size.{Size}
 use Rattle.lean_shell.specs.Crashes.{IsYoung, TellsCrashes, as_read}
 use Rattle.lean_shell.specs.Headline.{Survives}
 use Rattle.lean_shell.specs.Lines.{line_of, WentOut}
@@ -133,6 +133,7 @@ ended (stops.Refused line) = 3
 ended stops.ReadFault = 4
 ended stops.WriteFault = 5
 ended stops.DiskFault = 6
+ended (stops.Damaged place) = 7
 
 abbrev pub last_line : Stop → List ℕ
 last_line stops.End = []
@@ -140,6 +141,7 @@ last_line (stops.Refused line) = line_of (Notice.Refused line)
 last_line stops.ReadFault = line_of Notice.ReadFault
 last_line stops.WriteFault = []
 last_line stops.DiskFault = line_of Notice.DiskFault
+last_line (stops.Damaged place) = line_of (Notice.Damaged 1 place)
 
 -- what was put behind the replies, and how often the sink failed in the run
 abbrev pub WentLast : Stop → (put : List ℕ) (before now : ℕ) → Type 0
@@ -204,9 +206,9 @@ pub record IsOnDisk (g : Opening) (calls : List Done) (memory : Memory) (area : 
 
 -- ## All of it
 
--- No answer stands of which a further one is due, unless the sink failed or the disk.
+-- No answer stands of which a further one is due, unless the sink failed or the engine works no longer.
 abbrev pub IsClosed : Stop → List Done → Type 0
-IsClosed stop calls = (stop ≡ stops.WriteFault → ⊥) → (stop ≡ stops.DiskFault → ⊥) → is_open_line (calls_of calls) ≡ false
+IsClosed stop calls = (stop ≡ stops.WriteFault → ⊥) → works_on stop ≡ true → is_open_line (calls_of calls) ≡ false
 
 -- The script was executed, line by line, and what came of it was put.
 pub record Ran (size : Size) (status : ℕ) (s0 s1 : Story) (feed0 feed1 : Feed) (put : List ℕ) (sink0 sink1 : ℕ) : Type 0 where
@@ -220,7 +222,7 @@ pub record Ran (size : Size) (status : ℕ) (s0 s1 : Story) (feed0 feed1 : Feed)
   pub executed : Executed size s0 counts calls
   -- too few for a latch to be spent
   pub none_spent : (x : Done) → Has x calls → answered x.outcome.deed ≡ answer.Refused RowSpent → ⊥
-  -- behind a conflict the abort was executed, unless the sink or the disk failed there
+  -- behind a conflict the abort was executed, unless the sink or the engine stopped there
   pub closed : IsClosed stop calls
   -- the script begins with the lines that ask them, and why no more were executed
   pub read : IsTrue feed0.tells → LinesRead stop executed.opening.workers (calls_of calls) feed0.left
@@ -228,6 +230,8 @@ pub record Ran (size : Size) (status : ℕ) (s0 s1 : Story) (feed0 feed1 : Feed)
   pub told : IsTrue feed0.tells → AreTold executed.opening.workers stop calls feed0.left put
   -- nothing was written behind the logs of its sessions
   pub beside : (a : ℕ) → suc executed.opening.workers < a → IsUntouched (s0.area a) (s1.area a)
+  -- on a disk that stood for a map no page is damaged
+  pub undamaged : IsTrue feed0.tells → (m : Master) → TellsCrashes size.sessions s0 → IsCleanDisk m (areas_of s0) → IsYoung m s0 → (place : ℕ) → stop ≡ stops.Damaged place → ⊥
   -- unless the disk failed, it stands as a crash would have left it
   pub stands : (stop ≡ stops.DiskFault → ⊥) → IsTrue feed0.tells → (m : Master) → TellsCrashes size.sessions s0 → IsCleanDisk m (areas_of s0) → IsYoung m s0 → Survives m s0 feed0.left put (as_read s1)
   pub left : (stop ≡ stops.DiskFault → ⊥) → IsTrue feed0.tells → (m : Master) → TellsCrashes size.sessions s0 → IsCleanDisk m (areas_of s0) → IsYoung m s0 → IsLeft size AllAnswered (AreAllOf executed.opening stop calls) m s0 feed0.left put (as_read s1)

@@ -1,16 +1,17 @@
 -- What stands of a run's calls on the disk that it leaves.
 use Rattle.std.specs.Prelude.{◌≡◌, ◌≤◌, ◌++◌, ◌+◌, ◌<◌, ◌%◌, ℕ, List, ◌∷◌, length, Option, Some}
-use Rattle.image_model.specs.Entries.{Entry}
+use Rattle.image_model.specs.Entries.{Contents, Entry}
 use Rattle.image_model.specs.Slots.{base_of}
 use Rattle.lean_disk.specs.Story.{Crash, Story, areas_of}
 use Rattle.disk_slots.specs.declared.master.Master.{Master}
 use Rattle.disk_image.specs.MasterSlots.{master_on}
 use Rattle.disk_image.specs.Shown.{Areas, image_by, shown_by}
+use Rattle.core_disk.specs.Held.{IsVersion}
 use Rattle.core_disk.specs.MasterFloors.{IsFloorOf}
 use Rattle.disk_runs.specs.Masters.{IsNoEarlier}
 use Rattle.recovery.specs.Crashes.{IsNextOf}
 use Rattle.recovery.specs.Starts.{IsStartOf}
-use Rattle.core_state.specs.Openings.{Opening, start_page}
+use Rattle.core_state.specs.Openings.{Opening}
 use Rattle.core_state.specs.Events.{Event}
 use Rattle.core_state.specs.States.{State}
 use Rattle.core_state.specs.Steps.{state_after}
@@ -18,12 +19,11 @@ use Rattle.core_crash.specs.Crashes.{from_head, log_of}
 use Rattle.core_calls.specs.Fronts.{Done, front, outcomes}
 use Rattle.core_calls.specs.Printed.{durable_lines, printed}
 use Rattle.core_calls.specs.Runs.{EachTells, Tells}
-use Rattle.core_calls.specs.Steps.{hindered_in}
+use Rattle.core_calls.specs.Steps.{call_behind, hindered_in}
 use Rattle.run_crashes.specs.Lines.{FellIn, NoneStopped}
-use Rattle.engine_trait.specs.Calls.{call_behind}
 use Rattle.engine_trait.specs.Limits.{limits}
-use Rattle.engine_trait.specs.Rooms.{IsRoomFor}
-use Rattle.lean_engine.specs.declared.engine.Size.{Size}
+use Rattle.call_parts.specs.Rooms.{IsRoomFor}
+use Rattle.paged_engine.specs.declared.opening.Size.{Size}
 use Rattle.map_model.specs.declared.call.Call.{Call}
 use Rattle.map_model.specs.Journals.{Name}
 use Rattle.map_model.specs.Lists.{Has}
@@ -36,13 +36,13 @@ use Rattle.transcripts.specs.Transcripts.{durables, first_lines, transcript}
 use Rattle.script_run.specs.Runs.{calls_of}
 
 -- An opening of an engine so large: at most how many sessions there are, how many changes a transaction makes, of how many pairs pages are joined, which lock row
--- a key has, and that each page has a frame.
+-- a key has, and how many frames there are.
 pub record IsOfSize (size : Size) (g : Opening) : Type 0 where
   pub few : g.workers ≤ size.sessions
   pub changes : g.changes ≡ 64
   pub joined : g.joined ≡ 45
   pub rows : (k : ℕ) → g.row_of k ≡ k % size.rows
-  pub frames : g.frames ≡ g.format.pages
+  pub frames : g.frames ≡ size.frames
 
 -- The master is the one that an opening of this disk writes, or one that the run writes behind it, by a sync among these events.
 pub record IsOfOpening (m : Master) (area : Areas) (n : Master) : Type 0 where
@@ -71,8 +71,8 @@ pub data IsAskedNext (sessions : ℕ) (input : List ℕ) (heard : List Done) (se
   OfLine : LineFits sessions session c → ComesNext (script_of (calls_of heard)) (ask session c) input → IsAskedNext sessions input heard session c
   OfAbort : (y : Done) → (earlier : List Done) → heard ≡ y ∷ earlier → y.outcome.session ≡ session → hindered_in y.outcome.deed ≡ Some c → IsAskedNext sessions input heard session c
 
--- Events of a call behind these that was not answered: they are what such a call may have done by then. A put made room for its key, a del took its key's
--- row, an abort put changes back, a sync flushed logs, and any other call loaded pages.
+-- Events of a call behind these that was not answered: they are what such a call may have done by then. A put made room for its key, a get and a del took
+-- their key's row, an abort put changes back, each with the pages that were moved for it; a sync flushed logs, and any other call did nothing.
 pub record IsRoomOfNext (input : List ℕ) (g : Opening) (heard : List Done) (es : List Event) : Type 0 where
   pub session : ℕ
   pub call : Call
@@ -87,7 +87,13 @@ pub record IsOldestOf (s : State) (w : ℕ) (records : List Entry) : Type 0 wher
   pub flushed : (r : Entry) → Has r (log_of w s.entries) → r.number ≤ s.flushed w → Has r left
   pub are : records ≡ from_head (s.head w) left
 
--- By a master of the opening each page's base is the start's, and the records of each log are the oldest of those that a run of the core logs there: of the calls
+-- A page's base is a version that the run gave it, with a number up to the least flushed one: the start's, or one that was saved.
+pub record IsBaseOf (opening : Opening) (es : List Event) (p : ℕ) (base : Option Contents) : Type 0 where
+  pub page : Contents
+  pub is : base ≡ Some page
+  pub version : IsVersion opening es p page
+
+-- By a master of the opening each page's base is one that the run gave it, and the records of each log are the oldest of those that a run of the core logs there: of the calls
 -- of which the lines that were out tell, and of the first events of at most one more; or of such events of a call that was not answered. Those are
 -- calls of this run.
 pub record IsLeft (size : Size) (Such : Opening → List Done → List Event → Type 0) (AreIts : Opening → List Done → Option Done → Type 0) (m : Master) (s : Story) (input output : List ℕ) (c : Crash) : Type 0 where
@@ -99,7 +105,6 @@ pub record IsLeft (size : Size) (Such : Opening → List Done → List Event →
   pub opening : Opening
   pub starts : IsStartOf m (areas_of s) opening
   pub of_size : IsOfSize size opening
-  pub base : (p : ℕ) → p < n.pages → base_of (shown_by n c.image) p ≡ Some (start_page opening p)
   pub heard : List Done
   pub each : EachTells limits opening size.group heard
   pub told : transcript (length m.heads) input (first_lines lines output) ≡ counted (in_turn (calls_of heard))
@@ -117,4 +122,5 @@ pub record IsLeft (size : Size) (Such : Opening → List Done → List Event →
   -- so its sequence number is above that of the opening by no more than the syncs and cuts among these, and its floor is one of the core's state then
   pub written : of_opening.events ≡ front heard ++ behind
   pub floor : IsFloorOf opening (state_after opening (front heard ++ behind)) n.floor
+  pub bases : (p : ℕ) → p < n.pages → IsBaseOf opening (front heard ++ behind) p (base_of (shown_by n c.image) p)
   pub logs : (w : ℕ) → 0 < w → w ≤ length m.heads → IsOldestOf (state_after opening (front heard ++ behind)) w ((image_by n c.image).log w)

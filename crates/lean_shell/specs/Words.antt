@@ -4,7 +4,7 @@ use Rattle.std.specs.declared.alloc.Global.{Global}
 use Rattle.std.specs.Fmt.{decimal}
 use Rattle.clap.specs.Words.{App, Row, Rule, fault_of, first_of, new_app, new_rule, subcommand_of, with_rule, with_subcommand}
 use Rattle.disk_format.specs.declared.shape.Shape.{Shape}
-use Rattle.lean_engine.specs.declared.engine.Size.{Size}
+use Rattle.paged_engine.specs.declared.opening.Size.{Size}
 use Rattle.lean_shell.specs.declared.words.Command.{Command}
 use Rattle.lean_shell.specs.declared.words.Command.TheVariants.{Dump, Format, Run}
 
@@ -39,7 +39,7 @@ abbrev pub format_words : App
 format_words = with_rule (with_rule (with_rule (new_app (codes "format")) (wanted (codes "workers"))) (wanted (codes "pages"))) (wanted (codes "blocks"))
 
 abbrev pub run_words : App
-run_words = with_rule (with_rule (new_app (codes "run")) (with_default (codes "rows") (codes "256"))) (with_default (codes "group") (codes "1"))
+run_words = with_rule (with_rule (with_rule (new_app (codes "run")) (with_default (codes "rows") (codes "256"))) (with_default (codes "group") (codes "1"))) (with_default (codes "frames") (codes "256"))
 
 abbrev pub dump_words : App
 dump_words = new_app (codes "dump")
@@ -65,10 +65,11 @@ pub record Gives (options : List Row) (name : List ℕ) (from to n : ℕ) : Type
   pub value : first_of name options ≡ Some text
   pub number : IsNumberIn from to text n
 
--- so do those of lock rows and of how many commits are flushed at once; there may be sixteen sessions
+-- so do those of lock rows, of how many commits are flushed at once, and of frames; there may be sixteen sessions
 pub record GivesSize (options : List Row) (size : Size) : Type 0 where
   pub rows : Gives options (codes "rows") 16 4096 size.rows
   pub group : Gives options (codes "group") 1 64 size.group
+  pub frames : Gives options (codes "frames") 32 4096 size.frames
   pub sessions : size.sessions ≡ 16
 
 -- `format --workers W --pages P --blocks N`, in any order
@@ -76,10 +77,10 @@ pub record AsksFormat (words : List (List ℕ)) (shape : Shape) : Type 0 where
   pub options : List Row
   pub names : Names words (codes "format") options
   pub workers : Gives options (codes "workers") 1 16 shape.workers
-  pub pages : Gives options (codes "pages") 16 4096 shape.pages
+  pub pages : Gives options (codes "pages") 16 65536 shape.pages
   pub blocks : Gives options (codes "blocks") 64 4096 shape.blocks
 
--- `run`, or `run --rows R --group C`, in any order, or with one of them
+-- `run`, or `run --rows R --group C --frames F`, in any order, or with some of them
 pub record AsksRun (words : List (List ℕ)) (size : Size) : Type 0 where
   pub options : List Row
   pub names : Names words (codes "run") options

@@ -37,7 +37,8 @@ fn run_line<'a>(alloc: Global) -> Result<Line<'a>, AllocError>
 {
     Line::new(alloc, "run")
         .arg(with_default(alloc, "rows", "256"))?
-        .arg(with_default(alloc, "group", "1"))
+        .arg(with_default(alloc, "group", "1"))?
+        .arg(with_default(alloc, "frames", "256"))
 }
 
 fn dump_line<'a>(alloc: Global) -> Line<'a>

@@ -13,9 +13,10 @@ ghost use Rattle.lean_shell.specs.Runs.{ended, status_of};
 use crate::engine_lines::{put_last, put_opened};
 use crate::lines::put_reason;
 use crate::program::Ended;
+use buffered_engine::{Engine, Hosts, Opened, Size, Unopened};
+use engine_front::calls::Calls;
 use lean_disk::Disk;
 use lean_edge::{Put, Sink, Source};
-use lean_engine::{Engine, Hosts, Opened, Size, Unopened};
 use recovery::Unrecovered;
 use script_lang::LineReader;
 use script_run::{Stop, run_script};
@@ -42,6 +43,7 @@ fn ended(stop: Stop) -> u8
         Stop::ReadFault => 4,
         Stop::WriteFault => 5,
         Stop::DiskFault => 6,
+        Stop::Damaged { .. } => 7,
     }
 }
 
@@ -69,7 +71,7 @@ pub(crate) fn unread<K: Sink<D>, D: Disk>(sink: &mut K, disk: D) -> Ended<D>
 
 /// Opens the disk, executes a script on it, by an engine so large, and puts what comes of it, the last line included. The status is 0 where the script
 /// has ended, 3 at a line that is refused, 4 where the source failed, 5 where the sink did, 6 where the disk did, 7 where
-/// the disk has no master or is damaged, 8 where memory was refused.
+/// the disk has no master or is damaged, also where that is met in the script, 8 where memory was refused.
 pub fn run_disk<S: Source, K: Sink<D>, D: Hosts>(
     alloc: Global,
     source: &mut S,
@@ -77,6 +79,7 @@ pub fn run_disk<S: Source, K: Sink<D>, D: Hosts>(
     disk: D,
     size: Size,
 ) -> Ended<D>
+    requires frames { (32 ≤ size.frames) × (size.frames ≤ 4096) }
     requires rows { (1 ≤ size.rows) × (size.rows ≤ 65536) }
     requires group { 1 ≤ size.group }
     requires sessions { size.sessions ≤ 16 }
@@ -110,6 +113,8 @@ pub fn run_disk<S: Source, K: Sink<D>, D: Hosts>(
         };
     };
     let stop = run_script(&mut engine, &mut reader, source, sink);
+    // What may be asked next, by the run in which it stands.
+    engine.told();
     put_last(stop, sink, &mut engine);
     Ended {
         status: ended(stop),
@@ -127,6 +132,7 @@ fn laws()
     core_calls::every_told();
     core_calls::every_run_crash();
     core_disk::every_shown();
+    core_disk::every_version();
     script_lang::replies_are_read_back();
     script_lang::notices_are_no_replies();
     transcripts::every_moment();

@@ -11,11 +11,12 @@ ghost use Rattle.lean_shell.specs.Lines.{IsPut, line_of};
 ghost use Rattle.lean_shell.specs.Inside.Openings.{EndsWith};
 ghost use Rattle.lean_shell.specs.Runs.{Counts, first_line, last_line};
 
-use engine_trait::calls::Calls;
+use engine_front::calls::Calls;
 use lean_disk::Disk;
 use lean_edge::{Put, Sink};
 use script_lang::{
-    DISK_FAULT, READ_FAULT, REPLY, fixed_lines, notices_are_no_replies, opened_bytes, refused_bytes,
+    DISK_FAULT, READ_FAULT, REPLY, damaged_bytes, fixed_lines, notices_are_no_replies,
+    opened_bytes, refused_bytes,
 };
 use script_run::Stop;
 
@@ -68,6 +69,21 @@ fn put_refused<K: Sink<D>, D: Disk, E: Calls<D>>(number: u64, sink: &mut K, engi
     put_line(&line[..end], sink, engine)
 }
 
+fn put_damaged<K: Sink<D>, D: Disk, E: Calls<D>>(place: u64, sink: &mut K, engine: &mut E) -> Put
+    ensures put { IsPut (line_of (Notice.Damaged 1 place)) result (K.held sink.old) (K.held sink.new) (D.story (E.disk engine.old)) (D.story (E.disk engine.new)) }
+    ensures same { (E.memory engine.new ≡ E.memory engine.old) × (E.works engine.new ≡ E.works engine.old) × (D.faults (E.disk engine.new) ≡ D.faults (E.disk engine.old)) × (E.next engine.new ≡ E.next engine.old) }
+    ensures sizes { (E.sessions engine.new ≡ E.sessions engine.old) × (E.group engine.new ≡ E.group engine.old) }
+    ensures in_run { (g : Opening) (xs : List Done) (names : List Name) → E.in_run engine.old g xs names → E.in_run engine.new g xs names }
+
+    ensures cause { HasCause (K.faults sink.old) (K.faults sink.new) (result ≡ Put.Failed) }
+{
+    notices_are_no_replies();
+    let mut line = [0; REPLY];
+    // Pages stand in area 1.
+    let end = damaged_bytes(1, place, &mut line);
+    put_line(&line[..end], sink, engine)
+}
+
 // Puts the last line of a script that stopped, if it has one.
 pub(crate) fn put_last<K: Sink<D>, D: Disk, E: Calls<D>>(stop: Stop, sink: &mut K, engine: &mut E)
     ensures put { EndsWith stop (K.held sink.old) (K.held sink.new) (K.faults sink.old) (K.faults sink.new) (D.story (E.disk engine.old)) (D.story (E.disk engine.new)) }
@@ -89,6 +105,9 @@ pub(crate) fn put_last<K: Sink<D>, D: Disk, E: Calls<D>>(stop: Stop, sink: &mut 
         }
         Stop::DiskFault => {
             put_line(DISK_FAULT, sink, engine);
+        }
+        Stop::Damaged { place } => {
+            put_damaged(place, sink, engine);
         }
     }
 }

@@ -12,16 +12,16 @@ ghost use Rattle.lean_shell.specs.Inside.Commands.{CommandEnds};
 ghost use Rattle.lean_shell.specs.Words.{Asks, AsksNothing, texts};
 ghost use Rattle.lean_shell.specs.declared.words.Command.TheVariants.{Dump, Format, Run};
 ghost use Rattle.disk_format.specs.declared.shape.Shape.{Shape};
-ghost use Rattle.lean_engine.specs.declared.engine.Size.{Size};
+ghost use Rattle.paged_engine.specs.declared.opening.Size.{Size};
 
 use crate::Gate;
 use crate::disk_run::{run_disk, unread};
 use crate::dump::dump_disk;
 use crate::failure::Failure;
 use crate::words::{Command, read_words};
+use buffered_engine::{Formatted, Hosts, Shape, format};
 use lean_disk::Disk;
 use lean_edge::{Put, Sink, Source};
-use lean_engine::{Formatted, Hosts, Shape, format};
 use script_lang::{REPLY, formatted_bytes, notices_are_no_replies};
 use std::alloc::Global;
 use std::sync::Wait;

@@ -3,15 +3,15 @@ ghost use Rattle.std.specs.Prelude.{◌≡◌, ◌^◌, ◌<◌, ℕ, ◌↔◌,
 ghost use Rattle.std.specs.Fmt.{decimal};
 ghost use Rattle.clap.specs.Words.{found_of, rows_of, subcommand_rows_of};
 ghost use Rattle.disk_format.specs.declared.shape.Shape.{Shape};
-ghost use Rattle.lean_engine.specs.declared.engine.Size.{Size};
+ghost use Rattle.paged_engine.specs.declared.opening.Size.{Size};
 ghost use Rattle.lean_shell.specs.Inside.CommandLines.{AsksAs, AsksBy, GivesShape};
 ghost use Rattle.lean_shell.specs.Words.{Asks, AsksNothing, Gives, GivesSize, IsNumberIn, IsPlain, texts};
 ghost use Rattle.lean_shell.specs.declared.words.Command.{Command};
 
 use crate::command_line::lean_line;
+use buffered_engine::{Shape, Size};
 use clap::ArgMatches;
 use clap::error::ErrorKind;
-use lean_engine::{Shape, Size};
 use page_model::limits::SESSIONS;
 use std::alloc::{AllocError, Global};
 
@@ -75,7 +75,7 @@ fn read_shape(options: &ArgMatches) -> Option<Shape>
     ensures none { IfNone result ((s : Shape) → GivesShape (rows_of (found_of options.now)) s → ⊥) }
 {
     let workers = option_in(options, "workers", 1, SESSIONS)?;
-    let pages = option_in(options, "pages", 16, 4096)?;
+    let pages = option_in(options, "pages", 16, 65536)?;
     let blocks = option_in(options, "blocks", 64, 4096)?;
     Some(Shape {
         workers,
@@ -90,7 +90,9 @@ fn read_size(options: &ArgMatches) -> Option<Size>
 {
     let rows = option_in(options, "rows", 16, 4096)?;
     let group = option_in(options, "group", 1, 64)?;
+    let frames = option_in(options, "frames", 32, 4096)?;
     Some(Size {
+        frames,
         rows,
         group,
         sessions: SESSIONS,

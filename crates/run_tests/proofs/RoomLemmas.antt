@@ -1,24 +1,23 @@
 -- What a crash may find of a call that was not answered, by the lines of the script.
-use Rattle.std.proofs.Common.{◌≡◌, ◌⊎◌, ◌++◌, inl, inr, ◌||◌, ℕ, Bool, true, false, List, [], ◌∷◌, Option, Some, None, refl, sym, ap, subst, true≢false}
-use Rattle.std.proofs.lemmas.Bool.{and_parts}
+use Rattle.std.proofs.Common.{◌≡◌, ◌⊎◌, ◌++◌, inl, inr, ◌||◌, ◌&&◌, ℕ, Bool, true, false, List, [], ◌∷◌, Option, Some, None, refl, sym, ap, subst, true≢false}
+use Rattle.std.proofs.lemmas.Bool.{and_parts, or_parts}
 use Rattle.map_model.specs.declared.call.Call.{Call}
 use Rattle.map_model.specs.declared.call.Call.TheVariants as call
 use Rattle.map_model.specs.Lists.{Has, all, any}
 use Rattle.map_model.specs.Pairings.{script_of}
-use Rattle.core_state.specs.Events.{Event}
+use Rattle.core_state.specs.Events.{Event, Mode}
 use Rattle.core_state.specs.Openings.{Opening}
 use Rattle.core_calls.specs.Fronts.{Done, outcomes}
-use Rattle.core_calls.specs.Steps.{hindered_in, is_structure}
-use Rattle.engine_trait.specs.Calls.{call_behind, due_call}
-use Rattle.engine_trait.specs.Limits.{AreLoads}
-use Rattle.engine_trait.specs.Rooms.{AreForSync, AreReady, HasDoneFor, IsRoomFor, makes_room, makes_sync, needs_sync, puts_back}
-use Rattle.engine_trait.specs.Turns.{IsHindered}
+use Rattle.core_calls.specs.Steps.{call_behind, due_call, hindered_in, is_structure}
+use Rattle.engine_trait.specs.Rooms.{needs_sync}
+use Rattle.call_parts.specs.Rooms.{AreReady, HasDoneFor, IsRoomFor, gives_room, is_paging, makes_sync, puts_back, takes_row}
+use Rattle.engine_front.specs.Turns.{IsHindered}
 use Rattle.script_run.specs.Runs.{calls_of}
 use Rattle.transcripts.specs.Laws.{ComesNext}
 use Rattle.transcripts.specs.Told.{ask, asked_lines, LineFits}
 use Rattle.lean_shell.specs.Starts.{IsAskedNext}
 use Rattle.lean_shell.specs.Starts.IsAskedNext.{OfAbort, OfLine}
-use Rattle.run_tests.specs.RuledOut.{Asks, EveryStoppedCall, IsAbort, IsDel, IsPut, StoppedLaws, is_back}
+use Rattle.run_tests.specs.RuledOut.{Asks, EveryStoppedCall, IsAbort, IsDel, IsGet, IsPut, StoppedLaws, is_back, is_look}
 
 has_behind : (xs : List (List ℕ)) (y : List ℕ) (ys : List (List ℕ)) → Has y (xs ++ y ∷ ys)
 has_behind [] y ys = inl refl
@@ -31,7 +30,7 @@ each_none p q so (e ∷ es) h =
     subst (λ (b : Bool). (b || any q es) ≡ false) (sym (so e a.0)) (each_none p q so es a.1)
 
 -- the events of each kind change no tree, or put nothing back
-back_grows_none : (own : ℕ) (e : Event) → puts_back own e ≡ true → is_structure e ≡ false
+back_grows_none : (own : ℕ) (e : Event) → (puts_back own e || is_paging e) ≡ true → is_structure e ≡ false
 back_grows_none own (Event.Split w l r q i) back = absurd (true≢false (sym back))
 back_grows_none own (Event.Lift w c) back = absurd (true≢false (sym back))
 back_grows_none own (Event.Join w l r q) back = absurd (true≢false (sym back))
@@ -39,9 +38,13 @@ back_grows_none own (Event.Drop w c) back = absurd (true≢false (sym back))
 back_grows_none own (Event.Purge w p keys) back = absurd (true≢false (sym back))
 back_grows_none own _ back = refl
 
-room_backs_none : (own row : ℕ) (e : Event) → makes_room own row e ≡ true → is_back e ≡ false
-room_backs_none own row (Event.Put_back w p) room = absurd (true≢false (sym room))
-room_backs_none own row _ room = refl
+abbrev in_room : (own row : ℕ) → Mode → Event → Bool
+in_room own row mode e = takes_row own row mode e || (gives_room own e || is_paging e)
+
+room_backs_none : (own row : ℕ) (mode : Mode) (e : Event) → in_room own row mode e ≡ true → is_back e ≡ false
+room_backs_none own row Mode.Alone (Event.Put_back w p) room = absurd (true≢false (sym room))
+room_backs_none own row Mode.Shared (Event.Put_back w p) room = absurd (true≢false (sym room))
+room_backs_none own row mode _ room = refl
 
 sync_grows_none : (e : Event) → makes_sync e ≡ true → is_structure e ≡ false
 sync_grows_none (Event.Split w l r q i) sync = absurd (true≢false (sym sync))
@@ -55,15 +58,36 @@ sync_backs_none : (e : Event) → makes_sync e ≡ true → is_back e ≡ false
 sync_backs_none (Event.Put_back w p) sync = absurd (true≢false (sym sync))
 sync_backs_none _ sync = refl
 
--- pages that are loaded may be loaded for a sync
-loads_for_sync : (es : List Event) → AreLoads es → AreForSync es
-loads_for_sync [] loads = refl
-loads_for_sync (Event.Load p f ∷ es) loads = loads_for_sync es loads
-loads_for_sync (_ ∷ es) loads = absurd loads
+-- a row that is taken with others, and pages that are moved for it
+look_of : (own row : ℕ) (e : Event) → in_room own row Mode.Shared e ≡ true → is_structure e ≡ false → is_look e ≡ true
+look_of own row (Event.Split w l r q i) room still = absurd (true≢false still)
+look_of own row (Event.Lift w c) room still = absurd (true≢false still)
+look_of own row (Event.Lock w i Mode.Shared) room still = refl
+look_of own row (Event.Lock w i Mode.Alone) room still = absurd (true≢false (sym room))
+look_of own row (Event.Miss w) room still = refl
+look_of own row _ room still = room
 
-ready_for_sync : (b : Bool) (es : List Event) → AreReady b es → AreForSync es
+sync_looks : (e : Event) → makes_sync e ≡ true → is_look e ≡ true
+sync_looks (Event.Flush w n) sync = refl
+sync_looks (Event.Sync n) sync = refl
+sync_looks _ sync = absurd (true≢false (sym sync))
+
+each_looks : (own row : ℕ) (es : List Event) → all (in_room own row Mode.Shared) es ≡ true → any is_structure es ≡ false → all is_look es ≡ true
+each_looks own row [] room still = refl
+each_looks own row (e ∷ es) room still =
+    let a = and_parts (in_room own row Mode.Shared e) (all (in_room own row Mode.Shared) es) room in
+    let b = or_parts (is_structure e) (any is_structure es) still in
+    subst (λ (c : Bool). (c && all is_look es) ≡ true) (sym (look_of own row e a.0 b.0)) (each_looks own row es a.1 b.1)
+
+each_so : (p q : Event → Bool) → ((e : Event) → p e ≡ true → q e ≡ true) → (es : List Event) → all p es ≡ true → all q es ≡ true
+each_so p q so [] h = refl
+each_so p q so (e ∷ es) h =
+    let a = and_parts (p e) (all p es) h in
+    subst (λ (b : Bool). (b && all q es) ≡ true) (sym (so e a.0)) (each_so p q so es a.1)
+
+ready_for_sync : (b : Bool) (es : List Event) → AreReady b es → all makes_sync es ≡ true
 ready_for_sync true es ready = ready
-ready_for_sync false es ready = loads_for_sync es ready
+ready_for_sync false es ready = ap (all makes_sync) ready
 
 -- ## What may be asked next
 
@@ -104,35 +128,47 @@ module _ (sessions : ℕ) (input : List ℕ) (g : Opening) (heard : List Done) (
 
   structure : (c : Call) → IsLine c → HasDoneFor g heard session c es → (Asks sessions IsPut input → ⊥) → any is_structure es ≡ false
   structure (call.Put key value) line room none = absurd (none (asks (call.Put key value) line IsPut tt))
+  structure (call.Get key) line room none = room.1
   structure (call.Del key) line room none = room.1
-  structure call.Abort line backs none = each_none (puts_back session) is_structure (back_grows_none session) es backs
+  structure call.Abort line backs none = each_none (λ e. puts_back session e || is_paging e) is_structure (back_grows_none session) es backs
   structure c line ready none = each_none makes_sync is_structure sync_grows_none es (ready_for_sync (needs_sync g heard session c) es ready)
 
   backs : (c : Call) → IsLine c → HasDoneFor g heard session c es → (Asks sessions IsAbort input → ⊥) → any is_back es ≡ false
-  backs (call.Put key value) line room none = each_none (makes_room session (g.row_of key)) is_back (room_backs_none session (g.row_of key)) es room.0
-  backs (call.Del key) line room none = each_none (makes_room session (g.row_of key)) is_back (room_backs_none session (g.row_of key)) es room.0
+  backs (call.Put key value) line room none = each_none (in_room session (g.row_of key) Mode.Alone) is_back (room_backs_none session (g.row_of key) Mode.Alone) es room.0
+  backs (call.Get key) line room none = each_none (in_room session (g.row_of key) Mode.Shared) is_back (room_backs_none session (g.row_of key) Mode.Shared) es room.0
+  backs (call.Del key) line room none = each_none (in_room session (g.row_of key) Mode.Alone) is_back (room_backs_none session (g.row_of key) Mode.Alone) es room.0
   backs call.Abort line room none = absurd (none (asks call.Abort line IsAbort tt))
   backs c line ready none = each_none makes_sync is_back sync_backs_none es (ready_for_sync (needs_sync g heard session c) es ready)
 
-  for_sync : (c : Call) → IsLine c → HasDoneFor g heard session c es → (Asks sessions IsPut input → ⊥) → (Asks sessions IsDel input → ⊥) → (Asks sessions IsAbort input → ⊥) → AreForSync es
-  for_sync (call.Put key value) line room put del abort = absurd (put (asks (call.Put key value) line IsPut tt))
-  for_sync (call.Del key) line room put del abort = absurd (del (asks (call.Del key) line IsDel tt))
-  for_sync call.Abort line room put del abort = absurd (abort (asks call.Abort line IsAbort tt))
-  for_sync c line ready put del abort = ready_for_sync (needs_sync g heard session c) es ready
+  looks : (c : Call) → IsLine c → HasDoneFor g heard session c es → (Asks sessions IsPut input → ⊥) → (Asks sessions IsDel input → ⊥) → (Asks sessions IsAbort input → ⊥) → all is_look es ≡ true
+  looks (call.Put key value) line room put del abort = absurd (put (asks (call.Put key value) line IsPut tt))
+  looks (call.Get key) line room put del abort = each_looks session (g.row_of key) es room.0 room.1
+  looks (call.Del key) line room put del abort = absurd (del (asks (call.Del key) line IsDel tt))
+  looks call.Abort line room put del abort = absurd (abort (asks call.Abort line IsAbort tt))
+  looks c line ready put del abort = each_so makes_sync is_look sync_looks es (ready_for_sync (needs_sync g heard session c) es ready)
+
+  for_sync : (c : Call) → IsLine c → HasDoneFor g heard session c es → (Asks sessions IsPut input → ⊥) → (Asks sessions IsGet input → ⊥) → (Asks sessions IsDel input → ⊥) → (Asks sessions IsAbort input → ⊥) → all makes_sync es ≡ true
+  for_sync (call.Put key value) line room put get del abort = absurd (put (asks (call.Put key value) line IsPut tt))
+  for_sync (call.Get key) line room put get del abort = absurd (get (asks (call.Get key) line IsGet tt))
+  for_sync (call.Del key) line room put get del abort = absurd (del (asks (call.Del key) line IsDel tt))
+  for_sync call.Abort line room put get del abort = absurd (abort (asks call.Abort line IsAbort tt))
+  for_sync c line ready put get del abort = ready_for_sync (needs_sync g heard session c) es ready
 
   pub stopped : (c : Call) → IsAskedNext sessions input heard session c → IsRoomFor g heard session (call_behind (outcomes heard) c) es → StoppedLaws sessions input heard es
   stopped c asked room = elim (turn c asked) [
     | inl due ↦
         let back : HasDoneFor g heard session call.Abort es = subst (λ (d : Call). HasDoneFor g heard session d es) due.1 room.0 in record {
-          structure = λ none. each_none (puts_back session) is_structure (back_grows_none session) es back;
+          structure = λ none. each_none (λ e. puts_back session e || is_paging e) is_structure (back_grows_none session) es back;
           backs = λ none calm. absurd (calm due.0);
-          for_sync = λ put del abort calm. absurd (calm due.0);
+          looks = λ put del abort calm. absurd (calm due.0);
+          for_sync = λ put get del abort calm. absurd (calm due.0);
         }
     | inr own ↦
         let there : HasDoneFor g heard session c es = subst (λ (d : Call). HasDoneFor g heard session d es) own.0 room.0 in record {
           structure = structure c own.1 there;
           backs = λ none calm. backs c own.1 there none;
-          for_sync = λ put del abort calm. for_sync c own.1 there put del abort;
+          looks = λ put del abort calm. looks c own.1 there put del abort;
+          for_sync = λ put get del abort calm. for_sync c own.1 there put get del abort;
         }
   ]
 

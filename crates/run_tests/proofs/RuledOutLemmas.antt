@@ -32,14 +32,16 @@ use Rattle.core_calls.specs.Fronts.{Done, front, outcomes}
 use Rattle.core_calls.specs.LogEvents.{behind}
 use Rattle.core_calls.specs.Marks.{Mark, Began, Ended, is_half}
 use Rattle.core_calls.specs.Runs.{IsRefused, Tells}
-use Rattle.core_calls.specs.Steps.{IsBehind, hindered_in, is_structure}
-use Rattle.engine_trait.specs.Calls.{Answers, Memory, call_behind, due_call, is_half_done}
+use Rattle.core_calls.specs.Steps.{IsBehind, call_behind, due_call, hindered_in, is_structure}
+use Rattle.call_parts.specs.Deeds.{Answers}
+use Rattle.call_parts.specs.Memory.{Memory}
+use Rattle.engine_trait.specs.Calls.{is_half_done}
 use Rattle.engine_trait.specs.Limits.{limits}
 use Rattle.engine_trait.specs.Refusals.{in_transaction, log_refusal, refusal_in}
 use Rattle.worker_log.specs.Logs.{Log}
 use Rattle.transcripts.specs.Transcripts.{first_lines}
 use Rattle.script_run.specs.Runs.{Executes}
-use Rattle.lean_engine.specs.declared.engine.Size.{Size}
+use Rattle.paged_engine.specs.declared.opening.Size.{Size}
 use Rattle.lean_shell.specs.Headline.{Survives}
 use Rattle.lean_shell.specs.Runs.{Counts, Executed, IsFrom, first_log}
 use Rattle.run_tests.specs.RuledOut.{BeginsAt, EveryDurableIsFound, EveryFirstBegin, EveryFirstCommit, EveryKeyStands, EveryOtherKeyStands, HasItsCommit, IsOneOf, NoneWrites}
@@ -175,9 +177,9 @@ not_spent g own xs c why backs us es few before refused spent =
     absurd (omega (arith, e, f, h, few, before, late))
 
 -- Where the tests refuse nothing behind its events, and it asks what its line does, no refusal is answered.
-not_refused : (g : Opening) (group own : ℕ) (xs : List Done) (was is : Log) (c : Call) (why : Refusal) (backs : List Step) (us : List Unsaid) (es : List Event) → let x : Done = by own (Refused c why backs) us es in
-    Answers g xs x was is → Tells limits g group xs x → call_behind (outcomes xs) c ≡ c → length (front xs) ≤ 2 ^ 18 → refusal_in g (state_after g (front xs ++ es)) own (is_half_done own xs) was c ≡ None → ⊥
-not_refused g group own xs was is c why backs us es a t asks few none = elim (a.refused why refl) [
+not_refused : (g : Opening) (group own : ℕ) (xs : List Done) (was : Log) (c : Call) (why : Refusal) (backs : List Step) (us : List Unsaid) (es : List Event) → let x : Done = by own (Refused c why backs) us es in
+    Answers g xs x was → Tells limits g group xs x → call_behind (outcomes xs) c ≡ c → length (front xs) ≤ 2 ^ 18 → refusal_in g (state_after g (front xs ++ es)) own (is_half_done own xs) was c ≡ None → ⊥
+not_refused g group own xs was c why backs us es a t asks few none = elim (a.refused why refl) [
   | inl there ↦ let clash : None ≡ Some why = sym none ∙ (ap (refusal_in g (state_after g (front xs ++ es)) own (is_half_done own xs) was) (sym asks) ∙ there) in absurd (cc)
   | inr spent ↦ not_spent g own xs c why backs us es a.few few t.refused spent
 ]
@@ -244,24 +246,24 @@ module _ (master : EveryMasterIn) (s : Story) (size : Size) (base : ℕ) (at : B
         ap (λ (r : ℕ → Worker). cond (r own).is_open (Some InTransaction) (log_refusal (r own).clock log None)) same ∙ (ap (λ (l : Log). log_refusal g.base l None) is ∙ open_log)
 
     -- as they do behind a begin that is refused
-    begin_refused : (d : Call) (why : Refusal) (backs : List Step) (us : List Unsaid) (es : List Event) (before after : Log) → d ≡ call.Begin → Tells limits g size.group [] (by own (Refused d why backs) us es) → Answers g [] (by own (Refused d why backs) us es) before after →
+    begin_refused : (d : Call) (why : Refusal) (backs : List Step) (us : List Unsaid) (es : List Event) (before : Log) → d ≡ call.Begin → Tells limits g size.group [] (by own (Refused d why backs) us es) → Answers g [] (by own (Refused d why backs) us es) before →
         before ≡ y.first.log own → refusal_in g (state_after g es) own false before d ≡ None
-    begin_refused d why backs us es before after c t a log =
+    begin_refused d why backs us es before c t a log =
         let none = begin_none g size.group own d why backs us es c t in
         let quiet = still es none.structure none.logs in
         ap (refusal_in g (state_after g es) own false before) c ∙ begin_open es before (same_run g own (start g) es quiet none.steps) log
 
-    begins : (d : Deed) (us : List Unsaid) (es : List Event) (before after : Log) → asked d ≡ call.Begin → Tells limits g size.group [] (by own d us es) → Answers g [] (by own d us es) before after → before ≡ y.first.log own →
+    begins : (d : Deed) (us : List Unsaid) (es : List Event) (before : Log) → asked d ≡ call.Begin → Tells limits g size.group [] (by own d us es) → Answers g [] (by own d us es) before → before ≡ y.first.log own →
         HasBegun g own d es
-    begins (Begun n) us es before after c t a log =
+    begins (Begun n) us es before c t a log =
         let calm = still es (t.structure refl) t.logs.3 in
         let tells = begin_tells g own (start g) es t.steps.1 t.met calm t.steps.2 in
         let said = t.told own ∙ own_marks own (marks_for (by own (Begun n) us es).outcome) in
         record { deed = ap as_begun (sym said ∙ tells); floor = t.steps.1; session = begun_at g own (start g) es t.steps.1 t.met calm t.steps.2 }
-    begins (Aborted d n at backs) us es before after c t a log = let abort : d ≡ call.Abort = t.hindered in absurd (cc)
-    begins (Refused d why backs) us es before after c t a log =
-        absurd (not_refused g size.group own [] before after d why backs us es a t refl (omega arith) (begin_refused d why backs us es before after c t a log))
-    begins _ us es before after c t a log = absurd (cc)
+    begins (Aborted d n at backs) us es before c t a log = let abort : d ≡ call.Abort = t.hindered in absurd (cc)
+    begins (Refused d why backs) us es before c t a log =
+        absurd (not_refused g size.group own [] before d why backs us es a t refl (omega arith) (begin_refused d why backs us es before c t a log))
+    begins _ us es before c t a log = absurd (cc)
 
     module _ (x : Done) (few : length x.events ≤ 2 ^ 18) (b : HasBegun g own x.outcome.deed x.events) where
       -- behind a commit that is refused the transaction is open as before
@@ -276,24 +278,24 @@ module _ (master : EveryMasterIn) (s : Story) (size : Size) (base : ℕ) (at : B
           ∙ (ap (λ (z : State). cond (z.worker own).is_open None (Some NoTransaction)) (run_more g (start g) x.events es)
           ∙ ap (λ (o : Bool). cond o None (Some NoTransaction)) stays))
 
-      commits : (d : Deed) (us : List Unsaid) (es : List Event) (was is : Log) → asked d ≡ call.Commit → Tells limits g size.group (x ∷ []) (by own d us es) → Answers g (x ∷ []) (by own d us es) was is → d ≡ Committed 1 (suc base)
-      commits (Committed n at) us es was is c t a =
+      commits : (d : Deed) (us : List Unsaid) (es : List Event) (was : Log) → asked d ≡ call.Commit → Tells limits g size.group (x ∷ []) (by own d us es) → Answers g (x ∷ []) (by own d us es) was → d ≡ Committed 1 (suc base)
+      commits (Committed n at) us es was c t a =
           let due : Bool = leb size.group (behind (run g (state_after g x.events) t.logs.before) own) in
           let calm = subst AreStill (sym t.logs.is) (still_flush t.logs.before due own at (subst (λ (l : List Event). any is_structure l ≡ false) t.logs.is (t.structure refl)) t.logs.else_none) in
           let tells = commit_tells g own (state_after g x.events) es t.steps.2 t.steps.1 t.met calm t.steps.3 t.steps.4 in
           let said = t.told own ∙ own_marks own (marks_for (by own (Committed n at) us es).outcome) in
           ap as_committed (sym said ∙ tells) ∙ (ap (λ (w : Worker). Committed w.txn (suc w.clock)) b.session ∙ ap (λ (n : ℕ). Committed 1 (suc n)) base_is)
-      commits (Aborted d n at backs) us es was is c t a =
+      commits (Aborted d n at backs) us es was c t a =
           let abort : d ≡ call.Abort = subst (λ (e : Deed). IsBehind (hindered_in e) x.outcome.session (by own (Aborted d n at backs) us es).outcome) b.deed t.hindered in
           absurd (cc)
-      commits (Refused d why backs) us es was is c t a =
-          absurd (not_refused g size.group own (x ∷ []) was is d why backs us es a t (ap (λ (e : Deed). due_call (hindered_in e) d) b.deed) few (commit_open d why backs us es was c t))
-      commits _ us es was is c t a = absurd (cc)
+      commits (Refused d why backs) us es was c t a =
+          absurd (not_refused g size.group own (x ∷ []) was d why backs us es a t (ap (λ (e : Deed). due_call (hindered_in e) d) b.deed) few (commit_open d why backs us es was c t))
+      commits _ us es was c t a = absurd (cc)
 
   -- the oldest call is a begin
   begins_first : (x : Done) (m : Memory) → IsOneOf (length at.m.heads) x.outcome.session → asked x.outcome.deed ≡ call.Begin → Executes g size.group [] y.first (x ∷ []) m → HasBegun g x.outcome.session x.outcome.deed x.events
   begins_first x m one asks h =
-      begins x.outcome.session one x.outcome.deed x.outcome.unsaid x.events (h.0.log x.outcome.session) (m.log x.outcome.session) asks h.2.tells h.2.how (ap (λ (k : Memory). k.log x.outcome.session) h.1)
+      begins x.outcome.session one x.outcome.deed x.outcome.unsaid x.events (h.0.log x.outcome.session) asks h.2.tells h.2.how (ap (λ (k : Memory). k.log x.outcome.session) h.1)
 
 pub every_first_begin : EveryMasterIn → (s : Story) → EveryFirstBegin s
 every_first_begin master s size base counts later x at y one begin =
@@ -308,7 +310,6 @@ every_first_commit master s size base counts later z x at y one same begin commi
     let own : ℕ = x.outcome.session in
     let is = is_by own z same in
     let was : Log = h.1.0.log z.outcome.session in
-    let now : Log = h.0.log z.outcome.session in
     let began = begins_first master s size base at counts calls y x h.1.0 one begin first in
-    ap answered (commits master s size base at counts calls y own one x first.2.how.few began z.outcome.deed z.outcome.unsaid z.events was now commit
-    (subst (Tells limits y.opening size.group (x ∷ [])) is h.1.2.tells) (subst (λ (d : Done). Answers y.opening (x ∷ []) d was now) is h.1.2.how))
+    ap answered (commits master s size base at counts calls y own one x first.2.how.few began z.outcome.deed z.outcome.unsaid z.events was commit
+    (subst (Tells limits y.opening size.group (x ∷ [])) is h.1.2.tells) (subst (λ (d : Done). Answers y.opening (x ∷ []) d was) is h.1.2.how))

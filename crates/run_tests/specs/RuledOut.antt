@@ -1,9 +1,9 @@
 -- What a run can't have done, by what its records say of the disk that it began on.
-use Rattle.std.specs.Prelude.{◌≡◌, ◌⊎◌, ◌<◌, ◌≤◌, ◌+◌, ◌^◌, ◌++◌, ℕ, suc, Bool, true, false, List, [], ◌∷◌, length, Some}
+use Rattle.std.specs.Prelude.{◌≡◌, ◌⊎◌, ◌<◌, ◌≤◌, ◌+◌, ◌^◌, ◌++◌, ◌||◌, ℕ, suc, Bool, true, false, List, [], ◌∷◌, length, Some}
 use Rattle.map_model.specs.declared.call.Call.{Call}
 use Rattle.map_model.specs.declared.call.Call.TheVariants as call
 use Rattle.map_model.specs.declared.call.Answer.TheVariants as answer
-use Rattle.map_model.specs.Lists.{Has, any}
+use Rattle.map_model.specs.Lists.{Has, all, any}
 use Rattle.map_model.specs.Journals.{Journal, Name, Txn, Wrote}
 use Rattle.core_calls.specs.Deeds.{answered, asked}
 use Rattle.core_calls.specs.Fronts.{Done}
@@ -17,16 +17,16 @@ use Rattle.disk_slots.specs.declared.master.Master.{Master}
 use Rattle.disk_image.specs.MasterSlots.{master_on}
 use Rattle.disk_image.specs.Shown.{Areas, image_by}
 use Rattle.core_state.specs.Openings.{Opening}
-use Rattle.core_state.specs.Events.{Event}
-use Rattle.engine_trait.specs.Rooms.{AreForSync}
-use Rattle.engine_trait.specs.Turns.{IsHindered}
+use Rattle.core_state.specs.Events.{Event, Mode}
+use Rattle.call_parts.specs.Rooms.{is_paging, makes_sync}
+use Rattle.engine_front.specs.Turns.{IsHindered}
 use Rattle.recovery.specs.Opened.{IsGreatest}
 use Rattle.recovery.specs.Telling.{TellsAll}
 use Rattle.script_lang.specs.Lines.{Spells, line_of}
 use Rattle.script_lang.specs.Text.{script_lines}
 use Rattle.script_lang.specs.declared.line.Line.{Line}
 use Rattle.transcripts.specs.Transcripts.{durables, first_lines}
-use Rattle.lean_engine.specs.declared.engine.Size.{Size}
+use Rattle.paged_engine.specs.declared.opening.Size.{Size}
 use Rattle.lean_shell.specs.Headline.{Survives}
 use Rattle.lean_shell.specs.Runs.{Counts, Executed}
 use Rattle.lean_shell.specs.Starts.{IsRoomOfNext}
@@ -123,6 +123,10 @@ abbrev pub IsPut : Call → Type 0
 IsPut (call.Put key value) = Unit {0}
 IsPut _ = ⊥
 
+abbrev pub IsGet : Call → Type 0
+IsGet (call.Get key) = Unit {0}
+IsGet _ = ⊥
+
 abbrev pub IsDel : Call → Type 0
 IsDel (call.Del key) = Unit {0}
 IsDel _ = ⊥
@@ -136,12 +140,22 @@ abbrev pub is_back : Event → Bool
 is_back (Event.Put_back w p) = true
 is_back _ = false
 
--- Where no line is a put, it leaves no change of the tree; where none is an abort and the newest call met no conflict, nothing that is put back; and where
--- none is a put, a del or an abort and it met none, it loaded pages and flushed logs.
+-- a lock row is taken with others
+abbrev pub takes_shared : Event → Bool
+takes_shared (Event.Lock w i Mode.Shared) = true
+takes_shared _ = false
+
+-- so it may be where a key is looked for: a page may be moved for that, and logs be flushed
+abbrev pub is_look : Event → Bool
+is_look e = takes_shared e || is_paging e
+
+-- Where no line is a put, it leaves no change of the tree; where none is an abort and the newest call met no conflict, nothing that is put back; where none is
+-- a put, a del or an abort and it met none, what may be where a key is looked for; and where none is a get either, logs were flushed alone.
 pub record StoppedLaws (sessions : ℕ) (input : List ℕ) (heard : List Done) (es : List Event) : Type 0 where
   pub structure : (Asks sessions IsPut input → ⊥) → any is_structure es ≡ false
   pub backs : (Asks sessions IsAbort input → ⊥) → (IsHindered heard → ⊥) → any is_back es ≡ false
-  pub for_sync : (Asks sessions IsPut input → ⊥) → (Asks sessions IsDel input → ⊥) → (Asks sessions IsAbort input → ⊥) → (IsHindered heard → ⊥) → AreForSync es
+  pub looks : (Asks sessions IsPut input → ⊥) → (Asks sessions IsDel input → ⊥) → (Asks sessions IsAbort input → ⊥) → (IsHindered heard → ⊥) → all is_look es ≡ true
+  pub for_sync : (Asks sessions IsPut input → ⊥) → (Asks sessions IsGet input → ⊥) → (Asks sessions IsDel input → ⊥) → (Asks sessions IsAbort input → ⊥) → (IsHindered heard → ⊥) → all makes_sync es ≡ true
 
 abbrev pub EveryStoppedCall : Type 0
 EveryStoppedCall = (input : List ℕ) (g : Opening) (heard : List Done) (es : List Event) → IsRoomOfNext input g heard es → StoppedLaws g.workers input heard es

@@ -1,5 +1,5 @@
 -- What ties a run's records to each other: its calls, its script, its disk and the engine's memory.
-use Rattle.std.specs.Prelude.{◌≡◌, ◌<◌, ◌≤◌, ◌+◌, ◌++◌, ℕ, suc, false, leb, List, ◌∷◌, length, IsTrue, Some}
+use Rattle.std.specs.Prelude.{◌≡◌, ◌<◌, ◌≤◌, ◌+◌, ◌++◌, ℕ, suc, true, false, leb, List, ◌∷◌, length, IsTrue, Some}
 use Rattle.map_model.specs.declared.call.Answered.{Answered}
 use Rattle.map_model.specs.declared.call.Call.{Call}
 use Rattle.map_model.specs.declared.call.Call.TheVariants.{Commit}
@@ -16,9 +16,10 @@ use Rattle.disk_slots.specs.declared.master.Master.{Master}
 use Rattle.image_model.specs.Entries.{Entry}
 use Rattle.lean_disk.specs.Story.{Story, areas_of}
 use Rattle.lean_edge.specs.Outside.{Feed}
-use Rattle.lean_engine.specs.declared.engine.Size.{Size}
+use Rattle.paged_engine.specs.declared.opening.Size.{Size}
 use Rattle.log_record.specs.declared.record.Record.{Record}
 use Rattle.script_lang.specs.Text.{script_lines}
+use Rattle.script_run.specs.Runs.{works_on}
 use Rattle.script_run.specs.declared.stop.Stop.TheVariants as stops
 use Rattle.transcripts.specs.Transcripts.{asked, transcript}
 use Rattle.worker_log.specs.Accounts.{spelled_from}
@@ -30,10 +31,10 @@ use Rattle.lean_shell.specs.Starts.{IsOldestOf}
 
 -- ## The abort behind a conflict
 
--- The last call of a run met no conflict, unless the sink failed or the disk: behind one its abort was executed.
+-- The last call of a run met no conflict, unless the sink failed or the engine works no longer: behind one its abort was executed.
 abbrev pub EveryConflictIsAborted : (s0 s1 : Story) → Type 0
 EveryConflictIsAborted s0 s1 = (size : Size) (status : ℕ) (feed0 feed1 : Feed) (put : List ℕ) (sink0 sink1 : ℕ) (x : Ran size status s0 s1 feed0 feed1 put sink0 sink1) (newest : Done) (earlier : List Done) (c : Call) →
-    x.calls ≡ newest ∷ earlier → (x.stop ≡ stops.WriteFault → ⊥) → (x.stop ≡ stops.DiskFault → ⊥) → hindered_in newest.outcome.deed ≡ Some c → ⊥
+    x.calls ≡ newest ∷ earlier → (x.stop ≡ stops.WriteFault → ⊥) → works_on x.stop ≡ true → hindered_in newest.outcome.deed ≡ Some c → ⊥
 
 -- ## The commit in hand
 

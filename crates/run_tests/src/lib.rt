@@ -59,7 +59,7 @@ pub fn every_read_is_fair()
     ensures log { EveryReadIsFair 2048 blocks.IsSealed }
 {}
 
-/// Behind a conflict the abort was executed.
+/// Behind a conflict the abort was executed, where the engine works on.
 pub fn every_conflict_is_aborted<D: Disk>(old: &D, new: &D)
     ensures { EveryConflictIsAborted (D.story old.now) (D.story new.now) }
 {}

@@ -1,5 +1,5 @@
 -- What the disk stands for, and what a crash at any moment leaves.
-use Rattle.std.proofs.Common.{◌≡◌, inl, inr, ◌++◌, ◌∷◌, [], ◌≤◌, ◌<◌, ◌+◌, ◌^◌, ℕ, Bool, true, List, Option, Some, None, IsTrue, length, refl, sym, ap, ◌∙◌, subst, arith, true≢false}
+use Rattle.std.proofs.Common.{◌≡◌, inl, inr, ◌++◌, ◌∷◌, [], ◌≤◌, ◌<◌, ◌+◌, ◌^◌, ℕ, suc, Bool, List, Option, Some, None, IsTrue, length, refl, sym, ap, ◌∙◌, subst, arith}
 use Rattle.std.proofs.lemmas.List.{length-append}
 use mathlib.Core.List.{append_assoc}
 use Rattle.lean_disk.specs.Area.{Area, Leaves}
@@ -26,13 +26,15 @@ use Rattle.engine_calls.specs.Clauses.{Between}
 use Rattle.engine_calls.specs.Runs.{LineCrash, LinesOut, Runs}
 use Rattle.engine_calls.proofs.MomentLemmas.{still}
 use Rattle.engine_calls.proofs.RunLemmas.{every_run_for, line}
-use Rattle.engine_trait.specs.Areas.{Around, Beside, IsAside}
-use Rattle.engine_trait.specs.Calls.{IsOf, Keeps, Memory, Stops, Stops as stops, call_behind}
+use Rattle.core_calls.specs.Steps.{call_behind}
 use Rattle.engine_trait.specs.Limits.{limits}
+use Rattle.call_parts.specs.Areas.{Around, Beside, IsAside}
+use Rattle.call_parts.specs.Deeds.{Keeps, Stops, Stops as stops}
+use Rattle.call_parts.specs.Memory.{IsOf, Memory}
 use Rattle.script_run.specs.Runs.{CallMissing, DiskTo, Hand, LinesMissing, OthersStand, PrintsTo, RunStands, StaysAside, StoppedIn, CallMissing as missing}
 use Rattle.script_run.specs.Inside.{IsOfPutting, IsOfReading, Laws, OnlyNotes, PutLeaves}
 use Rattle.script_run.specs.declared.stop.Stop.{Stop}
-use Rattle.script_run.specs.declared.stop.Stop.TheVariants.{End, Refused, ReadFault, WriteFault, DiskFault}
+use Rattle.script_run.specs.declared.stop.Stop.TheVariants.{End, Refused, ReadFault, WriteFault, DiskFault, Damaged}
 use Rattle.script_run.proofs.DueLemmas.{printed_more}
 use Rattle.script_run.proofs.EventLemmas.{room_commits_none, stopped_of_each_first}
 use Rattle.script_run.proofs.StopLemmas.{FirstOf, first_of}
@@ -46,11 +48,9 @@ no_earlier xs ys n m k p q = let laws = every_master_line n m k in laws.further 
 
 -- ## Other areas
 
--- an area in which nothing is done even by a sync
-aside : (logs : ℕ) (syncs : Bool) (a : ℕ) → IsAside logs true a → IsAside logs syncs a
-aside logs syncs a (inl pages) = inl pages
-aside logs syncs a (inr (inl behind)) = inr (inl behind)
-aside logs syncs a (inr (inr masters)) = absurd (true≢false masters.1)
+-- an area behind those of the logs, in which no call does anything
+aside : (logs : ℕ) (saves syncs : Bool) (a : ℕ) → suc logs < a → IsAside logs saves syncs a
+aside logs saves syncs a behind = inr (inl behind)
 
 module _ (logs : ℕ) where
   pub stays_none : (count : ℕ) (s : Story) → IsLawful s → LeavesOnly s s (StaysAside logs count s)
@@ -61,16 +61,16 @@ module _ (logs : ℕ) where
         leaves = λ a other. now.leaves a;
       })
 
-  pub stays_call : (count : ℕ) (syncs : Bool) (old new : Story) → LeavesOnly old new (Beside logs syncs old) → LeavesOnly old new (StaysAside logs count old)
-  stays_call count syncs old new run = weaker old new (Beside logs syncs old) (StaysAside logs count old)
-      (λ c h. record { notes = let n : c.notes ≡ old.notes = h.notes in omega arith; writes = λ a other. h.writes a (aside logs syncs a other); leaves = λ a other. h.leaves a (aside logs syncs a other) }) run
+  pub stays_call : (count : ℕ) (saves syncs : Bool) (old new : Story) → LeavesOnly old new (Beside logs saves syncs old) → LeavesOnly old new (StaysAside logs count old)
+  stays_call count saves syncs old new run = weaker old new (Beside logs saves syncs old) (StaysAside logs count old)
+      (λ c h. record { notes = let n : c.notes ≡ old.notes = h.notes in omega arith; writes = λ a other. h.writes a (aside logs saves syncs a other); leaves = λ a other. h.leaves a (aside logs saves syncs a other) }) run
 
   pub stays_more : (count more : ℕ) (s old new : Story) → count ≤ more → LeavesOnly old new (StaysAside logs count s) → LeavesOnly old new (StaysAside logs more s)
   stays_more count more s old new le run = weaker old new (StaysAside logs count s) (StaysAside logs more s) (λ c h. record { notes = let n : c.notes ≤ s.notes + count = h.notes in omega arith; writes = h.writes; leaves = h.leaves }) run
 
   -- while lines are put, behind a call
-  pub stays_put : (told : List Reply) (syncs : Bool) (old mid new : Story) → Around logs syncs old mid → IsTrue old.counts → old.notes + length told < 2 ^ 64 → LeavesOnly mid new (PutLeaves told mid) → LeavesOnly mid new (StaysAside logs (length told) old)
-  stays_put told syncs old mid new frame counts room run = weaker mid new (PutLeaves told mid) (StaysAside logs (length told) old)
+  pub stays_put : (told : List Reply) (saves syncs : Bool) (old mid new : Story) → Around logs saves syncs old mid → IsTrue old.counts → old.notes + length told < 2 ^ 64 → LeavesOnly mid new (PutLeaves told mid) → LeavesOnly mid new (StaysAside logs (length told) old)
+  stays_put told saves syncs old mid new frame counts room run = weaker mid new (PutLeaves told mid) (StaysAside logs (length told) old)
       (λ c p. record {
         notes =
             let size : length (p.later ++ p.first) ≡ length p.later + length p.first = length-append p.later p.first in
@@ -78,8 +78,8 @@ module _ (logs : ℕ) where
             let same : mid.notes ≡ old.notes = frame.notes in
             let now : c.notes ≡ mid.notes + length p.first = p.notes (frame.counts ∙ counts) (omega arith) in
             omega (arith, size, whole, same, now);
-        writes = λ b other tell. p.writes b (frame.tells b ∙ tell) ∙ ap (λ (u : Area). u.writes) (frame.aside b (aside logs syncs b other));
-        leaves = λ b other tell. subst (λ (u : Area). Leaves u (c.image b)) (frame.aside b (aside logs syncs b other)) (p.leaves b (frame.tells b ∙ tell));
+        writes = λ b other tell. p.writes b (frame.tells b ∙ tell) ∙ ap (λ (u : Area). u.writes) (frame.aside b (aside logs saves syncs b other));
+        leaves = λ b other tell. subst (λ (u : Area). Leaves u (c.image b)) (frame.aside b (aside logs saves syncs b other)) (p.leaves b (frame.tells b ∙ tell));
       }) run
 
   -- behind a run
@@ -98,23 +98,23 @@ module _ (logs : ℕ) where
   others_same s = record { later = omega arith; counts = refl; tells = λ a. refl; areas = refl; area = λ a other. refl; notes = λ counts fits. omega arith }
 
   -- a call, and then its lines
-  pub others_call : (told : List Reply) (syncs : Bool) (old mid new : Story) → Around logs syncs old mid → OnlyNotes told mid new → OthersStand logs told old new
-  others_call told syncs old mid new frame notes = record {
+  pub others_call : (told : List Reply) (saves syncs : Bool) (old mid new : Story) → Around logs saves syncs old mid → OnlyNotes told mid new → OthersStand logs told old new
+  others_call told saves syncs old mid new frame notes = record {
     later = let p : old.moment ≤ mid.moment = frame.later in let q : mid.moment ≤ new.moment = notes.later in omega arith;
     counts = notes.counts ∙ frame.counts;
     tells = λ b. notes.tells b ∙ frame.tells b;
     areas = notes.areas ∙ frame.areas;
-    area = λ b other. notes.area b ∙ frame.aside b (aside logs syncs b other);
+    area = λ b other. notes.area b ∙ frame.aside b (aside logs saves syncs b other);
     notes = λ counts room. let n : mid.notes ≡ old.notes = frame.notes in let m : new.notes ≡ mid.notes + length told = notes.notes (frame.counts ∙ counts) (omega arith) in omega arith;
   }
 
-  pub others_fault : (syncs : Bool) (old new : Story) → Around logs syncs old new → OthersStand logs [] old new
-  others_fault syncs old new frame = record {
+  pub others_fault : (saves syncs : Bool) (old new : Story) → Around logs saves syncs old new → OthersStand logs [] old new
+  others_fault saves syncs old new frame = record {
     later = frame.later;
     counts = frame.counts;
     tells = frame.tells;
     areas = frame.areas;
-    area = λ b other. frame.aside b (aside logs syncs b other);
+    area = λ b other. frame.aside b (aside logs saves syncs b other);
     notes = λ counts room. let n : new.notes ≡ old.notes = frame.notes in omega arith;
   }
 
@@ -146,6 +146,7 @@ calm (Some (Refused line)) hand g group calls last s0 m k from now memory of sta
 calm (Some ReadFault) hand g group calls last s0 m k from now memory of stands = stands
 calm (Some WriteFault) hand g group calls last s0 m k from now memory of stands = absurd of
 calm (Some DiskFault) hand g group calls last s0 m k from now memory of stands = absurd of
+calm (Some (Damaged place)) hand g group calls last s0 m k from now memory of stands = absurd of
 
 -- ## One run behind another
 
@@ -194,6 +195,7 @@ module _ (shown : EveryShown) (crashes : EveryRunCrash) (agrees : EveryAgreement
       disk_later (Some ReadFault) hand d = runs_later d
       disk_later (Some WriteFault) hand d = missing_later d
       disk_later (Some DiskFault) hand d = call_later hand d
+      disk_later (Some (Damaged place)) hand d = absurd d
 
 -- ## One call
 
@@ -221,7 +223,7 @@ module _ (laws : Laws) (g : Opening) (group : ℕ) (s0 : Crash) (m : Master) whe
         missing.Part x asks session tells few ((every_stop_for laws.shown laws.crashes laws.agrees NoneStopped old old mid limits g group s0 m k.master xs).part x (between.told, tells) of_run rests.any_moment l)
 
     -- it was answered, and these lines of it were put
-    module _ (x : Done) (syncs : Bool) (memory : Memory) (mid new : Story) (frame : Around g.workers syncs old mid) (kept : Keeps g group xs x s0 k memory old mid) (told : List Reply) (notes : OnlyNotes told mid new) (puts : LeavesOnly mid new (PutLeaves told mid)) (few : old.notes + length told < 2 ^ 64) where
+    module _ (x : Done) (saves syncs : Bool) (memory : Memory) (mid new : Story) (frame : Around g.workers saves syncs old mid) (kept : Keeps g group xs x s0 k memory old mid) (told : List Reply) (notes : OnlyNotes told mid new) (puts : LeavesOnly mid new (PutLeaves told mid)) (few : old.notes + length told < 2 ^ 64) where
       count : IsTrue mid.counts
       count = frame.counts ∙ between.counts
 

@@ -1,5 +1,5 @@
 -- Events of a call that was not answered: they end nothing, and the first of them are such events too.
-use Rattle.std.proofs.Common.{◌≡◌, ◌++◌, ◌∷◌, [], ℕ, arith, Bool, true, false, cond, ◌||◌, List, Option, Some, None, refl, sym, ◌∙◌, subst, true≢false}
+use Rattle.std.proofs.Common.{◌≡◌, ◌++◌, ◌∷◌, [], ℕ, arith, Bool, true, false, cond, ◌||◌, List, Option, Some, None, refl, sym, ap, ◌∙◌, subst, true≢false}
 use Rattle.std.proofs.lemmas.List.{length-append}
 use Rattle.std.proofs.lemmas.Bool.{and_parts, and_from}
 use Rattle.map_model.specs.declared.call.Call.{Call}
@@ -7,7 +7,7 @@ use Rattle.map_model.specs.declared.call.Call.TheVariants as call
 use Rattle.map_model.specs.Lists.{all, any}
 use Rattle.map_model.specs.Maps.{MapAnswer}
 use Rattle.image_model.specs.Entries.{Entry}
-use Rattle.core_state.specs.Events.{Event}
+use Rattle.core_state.specs.Events.{Event, Mode}
 use Rattle.core_state.specs.Openings.{Opening}
 use Rattle.core_state.specs.States.{State}
 use Rattle.core_state.specs.Local.{is_of}
@@ -16,12 +16,11 @@ use Rattle.core_state.specs.Steps.{state_after, step}
 use Rattle.core_calls.specs.Deeds.{commits}
 use Rattle.core_calls.specs.Fronts.{Done, front, outcomes}
 use Rattle.core_calls.specs.Marks.{Ended, Mark, back_in, mark, marks, met_in, onto}
-use Rattle.core_calls.specs.Steps.{is_structure}
+use Rattle.core_calls.specs.Steps.{call_behind, is_structure}
 use Rattle.run_crashes.specs.Laws.{CommitsNone, OfEachFirst}
 use Rattle.engine_calls.proofs.MarkLemmas.{either_false}
-use Rattle.engine_trait.specs.Calls.{call_behind}
-use Rattle.engine_trait.specs.Limits.{AreLoads}
-use Rattle.engine_trait.specs.Rooms.{AreReady, HasDoneFor, IsRoomFor, MakesRoom, makes_room, makes_sync, needs_sync, puts_back}
+use Rattle.engine_trait.specs.Rooms.{MakesRoom, needs_sync}
+use Rattle.call_parts.specs.Rooms.{AreReady, HasDoneFor, IsRoomFor, gives_room, is_paging, makes_sync, puts_back, takes_row}
 use Rattle.script_run.specs.Runs.{Hand, StoppedIn}
 
 neither : (p q : Bool) → (p || q) ≡ false → (p ≡ false) × (q ≡ false)
@@ -72,11 +71,19 @@ each_none p q so (e ∷ es) each =
     let parts = and_parts (p e) (all p es) each in
     either_false (q e) (any q es) (so e parts.0) (each_none p q so es parts.1)
 
-room_ends_none : (own row : ℕ) (e : Event) → makes_room own row e ≡ true → ends e ≡ false
-room_ends_none own row (Event.End w commit f) room = absurd (true≢false (sym room))
-room_ends_none own row _ room = refl
+-- what a call may have done behind which its disk failed
+abbrev for_room : (own row : ℕ) → Mode → Event → Bool
+for_room own row mode e = takes_row own row mode e || (gives_room own e || is_paging e)
 
-back_ends_none : (own : ℕ) (e : Event) → puts_back own e ≡ true → ends e ≡ false
+abbrev for_back : (own : ℕ) → Event → Bool
+for_back own e = puts_back own e || is_paging e
+
+room_ends_none : (own row : ℕ) (mode : Mode) (e : Event) → for_room own row mode e ≡ true → ends e ≡ false
+room_ends_none own row Mode.Alone (Event.End w commit f) room = absurd (true≢false (sym room))
+room_ends_none own row Mode.Shared (Event.End w commit f) room = absurd (true≢false (sym room))
+room_ends_none own row mode _ room = refl
+
+back_ends_none : (own : ℕ) (e : Event) → for_back own e ≡ true → ends e ≡ false
 back_ends_none own (Event.End w commit f) back = absurd (true≢false (sym back))
 back_ends_none own _ back = refl
 
@@ -84,26 +91,22 @@ sync_ends_none : (e : Event) → makes_sync e ≡ true → ends e ≡ false
 sync_ends_none (Event.End w commit f) sync = absurd (true≢false (sym sync))
 sync_ends_none _ sync = refl
 
-loads_end_none : (es : List Event) → AreLoads es → any ends es ≡ false
-loads_end_none [] loads = refl
-loads_end_none (Event.Load p f ∷ es) loads = loads_end_none es loads
-loads_end_none (_ ∷ es) loads = absurd loads
-
 ready_end_none : (syncs : Bool) (es : List Event) → AreReady syncs es → any ends es ≡ false
 ready_end_none true es ready = each_none makes_sync ends sync_ends_none es ready
-ready_end_none false es ready = loads_end_none es ready
+ready_end_none false es ready = ap (any ends) ready
 
 ends_none : (g : Opening) (xs : List Done) (own : ℕ) (c : Call) (es : List Event) → HasDoneFor g xs own c es → any ends es ≡ false
-ends_none g xs own (call.Put key value) es room = each_none (makes_room own (g.row_of key)) ends (room_ends_none own (g.row_of key)) es room.0
-ends_none g xs own (call.Del key) es room = each_none (makes_room own (g.row_of key)) ends (room_ends_none own (g.row_of key)) es room.0
-ends_none g xs own call.Abort es backs = each_none (puts_back own) ends (back_ends_none own) es backs
+ends_none g xs own (call.Put key value) es room = each_none (for_room own (g.row_of key) Mode.Alone) ends (room_ends_none own (g.row_of key) Mode.Alone) es room.0
+ends_none g xs own (call.Get key) es room = each_none (for_room own (g.row_of key) Mode.Shared) ends (room_ends_none own (g.row_of key) Mode.Shared) es room.0
+ends_none g xs own (call.Del key) es room = each_none (for_room own (g.row_of key) Mode.Alone) ends (room_ends_none own (g.row_of key) Mode.Alone) es room.0
+ends_none g xs own call.Abort es backs = each_none (for_back own) ends (back_ends_none own) es backs
 ends_none g xs own c es ready = ready_end_none (needs_sync g xs own c) es ready
 
 -- such events commit nothing
 pub room_commits_none : (g : Opening) (xs : List Done) (own : ℕ) (c : Call) (es : List Event) → IsRoomFor g xs own c es → CommitsNone g xs es
 room_commits_none g xs own c es room w = marks_no_end g (state_after g (front xs)) es w [] (ends_none g xs own c es room.0)
 
--- the first events of those that each pass a test, of those of which none does, of loads, and of those that make room
+-- the first events of those that each pass a test, of those of which none does, of none, and of those that make room
 front_of_all : (p : Event → Bool) (first rest : List Event) → all p (first ++ rest) ≡ true → all p first ≡ true
 front_of_all p [] rest each = refl
 front_of_all p (e ∷ first) rest each =
@@ -116,10 +119,9 @@ front_of_none q (e ∷ first) rest none =
     let parts = neither (q e) (any q (first ++ rest)) none in
     either_false (q e) (any q first) parts.0 (front_of_none q first rest parts.1)
 
-front_of_loads : (first rest : List Event) → AreLoads (first ++ rest) → AreLoads first
-front_of_loads [] rest loads = tt
-front_of_loads (Event.Load p f ∷ first) rest loads = front_of_loads first rest loads
-front_of_loads (_ ∷ first) rest loads = absurd loads
+front_of_nothing : (first rest : List Event) → first ++ rest ≡ [] → first ≡ []
+front_of_nothing [] rest none = refl
+front_of_nothing (e ∷ first) rest none = let clash : e ∷ (first ++ rest) ≡ [] = none in cc
 
 front_makes : (own : ℕ) (g : Opening) (s : State) (key : ℕ) (first rest : List Event) → MakesRoom own g s key (first ++ rest) → MakesRoom own g s key first
 front_makes own g s key [] rest makes = tt
@@ -127,12 +129,13 @@ front_makes own g s key (e ∷ first) rest makes = (makes.0, front_makes own g (
 
 front_ready : (syncs : Bool) (first rest : List Event) → AreReady syncs (first ++ rest) → AreReady syncs first
 front_ready true first rest ready = front_of_all makes_sync first rest ready
-front_ready false first rest ready = front_of_loads first rest ready
+front_ready false first rest ready = front_of_nothing first rest ready
 
 front_done : (g : Opening) (xs : List Done) (own : ℕ) (c : Call) (first rest : List Event) → HasDoneFor g xs own c (first ++ rest) → HasDoneFor g xs own c first
-front_done g xs own (call.Put key value) first rest room = (front_of_all (makes_room own (g.row_of key)) first rest room.0, front_makes own g (state_after g (front xs)) key first rest room.1)
-front_done g xs own (call.Del key) first rest room = (front_of_all (makes_room own (g.row_of key)) first rest room.0, front_of_none is_structure first rest room.1)
-front_done g xs own call.Abort first rest backs = front_of_all (puts_back own) first rest backs
+front_done g xs own (call.Put key value) first rest room = (front_of_all (for_room own (g.row_of key) Mode.Alone) first rest room.0, front_makes own g (state_after g (front xs)) key first rest room.1)
+front_done g xs own (call.Get key) first rest room = (front_of_all (for_room own (g.row_of key) Mode.Shared) first rest room.0, front_of_none is_structure first rest room.1)
+front_done g xs own (call.Del key) first rest room = (front_of_all (for_room own (g.row_of key) Mode.Alone) first rest room.0, front_of_none is_structure first rest room.1)
+front_done g xs own call.Abort first rest backs = front_of_all (for_back own) first rest backs
 front_done g xs own c first rest ready = front_ready (needs_sync g xs own c) first rest ready
 
 front_for : (g : Opening) (xs : List Done) (own : ℕ) (c : Call) (first rest : List Event) → IsRoomFor g xs own c (first ++ rest) → IsRoomFor g xs own c first

@@ -24,7 +24,7 @@ use Rattle.core_calls.specs.Printed.{durable_lines, printed}
 use Rattle.core_calls.specs.Steps.{FollowsConflict, IsAbortOf, hindered_in}
 use Rattle.core_calls.proofs.CommitLemmas.{up_to_moments}
 use Rattle.core_calls.proofs.DurableLemmas.{has_names}
-use Rattle.engine_trait.specs.Calls.{Memory}
+use Rattle.call_parts.specs.Memory.{Memory}
 use Rattle.lean_edge.specs.Outside.{Feed, Held}
 use Rattle.lean_disk.specs.Story.{Story}
 use Rattle.script_lang.specs.Lines.{CallFits}

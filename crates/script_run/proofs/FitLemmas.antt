@@ -11,7 +11,7 @@ use Rattle.map_model.specs.Pairings.{is_last}
 use Rattle.core_calls.specs.Deeds.{Deed, Outcome, Begun, Got, Changed, Deleted, Absent, Met, Paused, Over, Committed, Aborted, Refused, Synced, Checkpointed, answered, asked}
 use Rattle.core_calls.specs.Steps.{IsAbortOf, IsBehind, hindered_in}
 use Rattle.engine_trait.specs.Calls.{IsAsked}
-use Rattle.engine_trait.specs.Turns.{is_conflict_in}
+use Rattle.engine_front.specs.Turns.{is_conflict_in}
 use Rattle.script_lang.specs.Replies.{AnswerFits, Fits, SessionFits, reply_text}
 use Rattle.script_lang.specs.Text.{IsLine}
 use Rattle.transcripts.specs.Told.{LineFits}

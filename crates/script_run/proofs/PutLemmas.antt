@@ -16,7 +16,7 @@ use Rattle.transcripts.proofs.AskedLemmas.{text_append}
 use Rattle.script_run.specs.Runs.{Holds, IsWhole, PrintsTo}
 use Rattle.script_run.specs.Inside.{OnlyNotes, PutLeaves, Says}
 use Rattle.script_run.specs.declared.stop.Stop.{Stop}
-use Rattle.script_run.specs.declared.stop.Stop.TheVariants.{End, Refused, ReadFault, WriteFault, DiskFault}
+use Rattle.script_run.specs.declared.stop.Stop.TheVariants.{End, Refused, ReadFault, WriteFault, DiskFault, Damaged}
 
 -- ## Notes
 
@@ -157,6 +157,7 @@ prints_more stop all told earlier tail is = go stop is
       prefix = cut.prefix;
     }
     go (Some DiskFault) w = whole w
+    go (Some (Damaged place)) w = whole w
 
 -- ## Some replies, one after another
 

@@ -1,5 +1,5 @@
 -- One line: it asks nothing, or its call is answered, and maybe the abort behind it, or the disk fails.
-use Rattle.std.proofs.Common.{◌≡◌, ◌++◌, ◌∷◌, [], ◌<◌, ◌+◌, ◌^◌, ℕ, suc, Bool, true, false, cond, List, Option, Some, None, length, refl, sym, ap, ◌∙◌, subst, arith}
+use Rattle.std.proofs.Common.{◌≡◌, ◌++◌, ◌∷◌, [], ◌<◌, ◌+◌, ◌^◌, ℕ, suc, Bool, true, false, cond, List, Option, Some, None, length, refl, sym, ap, ◌∙◌, subst, arith, true≢false}
 use Rattle.std.proofs.lemmas.List.{append-nil}
 use mathlib.Core.List.{append_assoc}
 use Rattle.lean_edge.specs.Outside.{Feed, Held}
@@ -15,20 +15,22 @@ use Rattle.core_calls.specs.Durables.{durables, moments}
 use Rattle.core_calls.specs.Fronts.{Done}
 use Rattle.core_calls.specs.Steps.{hindered_in}
 use Rattle.run_crashes.specs.Lines.{lines_of}
-use Rattle.engine_trait.specs.Calls.{Does, Fails, Memory}
-use Rattle.engine_trait.specs.Turns.{IsNext, behind_answer, behind_durables, behind_lines, is_conflict_in}
-use Rattle.engine_trait.specs.declared.calls.Next.{Next}
-use Rattle.engine_trait.specs.declared.calls.Next.TheVariants.{Durables}
+use Rattle.call_parts.specs.Deeds.{Does, Fails}
+use Rattle.call_parts.specs.Memory.{Memory}
+use Rattle.engine_front.specs.Stops.{StandsNot}
+use Rattle.engine_front.specs.Turns.{IsNext, behind_answer, behind_durables, behind_lines, is_conflict_in}
+use Rattle.engine_front.specs.declared.calls.Next.{Next}
+use Rattle.engine_front.specs.declared.calls.Next.TheVariants.{Durables}
 use Rattle.script_lang.specs.Reading.{Unread, Reading}
 use Rattle.transcripts.specs.Told.{ask, asked_text, EachLineFits, LineFits}
-use Rattle.script_run.specs.Runs.{Hand, ReadsTo, ScriptRuns, calls_of}
+use Rattle.script_run.specs.Runs.{EngineStands, Hand, ReadsTo, ScriptRuns, calls_of, works_behind, works_on}
 use Rattle.script_run.specs.Runs.InHand.{OfLine, OfAbort}
-use Rattle.script_run.specs.Inside.{AbortRuns, CallsRun, EngineGoes, HasTold, IsLastOne, IsOfPutting, IsOfReading, IsOfRunning, Laws, MayRun, Says, Stepped}
+use Rattle.script_run.specs.Inside.{AbortRuns, CallsRun, EngineGoes, HasTold, IsLastOne, IsOfEngine, IsOfPutting, IsOfReading, IsOfRunning, Laws, MayRun, Says, Stepped, StopsFor}
 use Rattle.script_run.specs.declared.stop.Stop.{Stop}
-use Rattle.script_run.specs.declared.stop.Stop.TheVariants.{WriteFault, DiskFault}
+use Rattle.script_run.specs.declared.stop.Stop.TheVariants.{WriteFault, DiskFault, Damaged}
 use Rattle.script_run.proofs.CallLemmas.{answer_call, calls_then, fault_call, no_call}
 use Rattle.script_run.proofs.FitLemmas.{hindered_open}
-use Rattle.script_run.proofs.StopLemmas.{of_no_sink, prints_none, putting_goes, putting_no_disk, reading_stands, reads_putting}
+use Rattle.script_run.proofs.StopLemmas.{engine_ends, of_no_sink, prints_none, putting_goes, putting_works, reading_stands, reads_putting}
 
 -- a run of calls that asked these lines
 module _ (stop : Option Stop) (sessions group : ℕ) (g : Opening) (xs : List Done) (m0 m1 : Memory) (h0 h1 : Held) (old new : Story) (newer : List Done) (hand : Hand) (calls : CallsRun newer stop hand group g xs m0 m1 h0 h1 old new) where
@@ -126,10 +128,22 @@ next_of a b m n is more met = more ∙ (ap behind_durables is ∙ ap behind_line
 
 -- where the reader stands behind a line whose call was hindered
 reads_running : (stop : Stop) (sessions : ℕ) (newer : List Done) (hand : Hand) (n : ℕ) (start now : Feed) (r : Unread) (seen : List ℕ) → IsOfRunning stop → Reading start now r seen
-    → (y : Done) (earlier : List Done) → (stop ≡ DiskFault → newer ≡ y ∷ earlier) → y.outcome.session ≡ hand.session → hindered_in y.outcome.deed ≡ Some hand.call → ReadsTo (Some stop) sessions newer hand n start now r seen
+    → (y : Done) (earlier : List Done) → (works_on stop ≡ false → newer ≡ y ∷ earlier) → y.outcome.session ≡ hand.session → hindered_in y.outcome.deed ≡ Some hand.call → ReadsTo (Some stop) sessions newer hand n start now r seen
 reads_running WriteFault sessions newer hand n start now r seen of is y earlier are session hindered = is
 reads_running DiskFault sessions newer hand n start now r seen of is y earlier are session hindered = OfAbort y earlier (are refl) session hindered is
+reads_running (Damaged place) sessions newer hand n start now r seen of is y earlier are session hindered = OfAbort y earlier (are refl) session hindered is
 reads_running _ sessions newer hand n start now r seen of is y earlier are session hindered = absurd of
+
+-- and behind one whose call was not answered
+line_in_hand : (stop : Stop) (sessions : ℕ) (hand : Hand) (n : ℕ) (start now : Feed) (r : Unread) (seen : List ℕ) → IsOfEngine stop → LineFits sessions hand.session hand.call → Reading start now r (seen ++ (ask hand.session hand.call ++ 10 ∷ [])) → ReadsTo (Some stop) sessions [] hand n start now r seen
+line_in_hand DiskFault sessions hand n start now r seen of fits is = OfLine fits is
+line_in_hand (Damaged place) sessions hand n start now r seen of fits is = OfLine fits is
+line_in_hand _ sessions hand n start now r seen of fits is = absurd of
+
+engine_stands : (stop : Stop) (Stands : List Name → Type 0) (g : Opening) (calls : List Done) → IsOfEngine stop → EngineStands stop Stands g calls
+engine_stands DiskFault Stands g calls of = tt
+engine_stands (Damaged place) Stands g calls of = tt
+engine_stands _ Stands g calls of = absurd of
 
 -- a hand that counts for nothing
 abbrev nobody : Hand
@@ -154,11 +168,17 @@ module _ (laws : Laws) (sessions group : ℕ) (g : Opening) (xs : List Done) (be
     abbrev hand : Hand
     hand = record { session = session; call = asks }
 
-    -- the disk failed in its call
-    pub fault_step : (m1 : Memory) → before < 2 ^ 40 → Fails g group xs session asks m0 old mid → Stepped Stands 1 (Some DiskFault) sessions group g xs before start seen m0 m1 reader feed h0 h0 old mid
-    fault_step m1 few fails =
-        none_step (Some DiskFault) sessions group g xs m0 m1 h0 h0 old mid [] hand (fault_call laws group g xs m0 old law hand m1 mid h0 fails) Stands tt
-        before start feed seen reader refl few (OfLine fits reading) 1 (λ none. let clash : Some DiskFault ≡ None = none in cc)
+    abbrev Failed : Type 0
+    Failed = Fails g group xs session asks m0 old mid
+
+    abbrev Never : Type 0
+    Never = StandsNot g group xs m0 old
+
+    -- the disk failed in its call, or a page of it was damaged
+    pub fault_step : (stop : Stop) (m1 : Memory) → before < 2 ^ 40 → IsOfEngine stop → StopsFor stop Failed Never → Stepped Stands 1 (Some stop) sessions group g xs before start seen m0 m1 reader feed h0 h0 old mid
+    fault_step stop m1 few of stops =
+        none_step (Some stop) sessions group g xs m0 m1 h0 h0 old mid [] hand (fault_call laws group g xs m0 old law hand m1 mid h0 stop of stops) Stands (engine_stands stop (Stands xs) g xs of)
+        before start feed seen reader refl few (line_in_hand stop sessions hand (suc before) start feed reader seen of fits reading) 1 (λ none. let clash : Some stop ≡ None = none in cc)
 
     -- it was answered
     module _ (a : Answer) (m1 m2 : Memory) (does : Does g group xs session asks a m0 m1 old mid) (few : before + 1 < 2 ^ 40) (h1 : Held) (new : Story) (same : m2 ≡ m1) where
@@ -181,25 +201,25 @@ module _ (laws : Laws) (sessions group : ℕ) (g : Opening) (xs : List Done) (be
           let one = answer_call laws group g xs m0 old law session asks a m1 m2 mid new does None nobody h0 h1 said same in
           one_step stop sessions group g xs m0 m3 h0 h2 old last (b.newer ++ x ∷ []) hand (calls_then laws group g xs m0 m2 m3 h0 h1 h2 old new last (x ∷ []) b.newer stop nobody hand one b.calls) Stands
           (subst (λ (ys : List Done). EngineGoes stop (Stands ys) g ys) (sym (append_assoc b.newer (x ∷ []) xs)) b.stands) before start feed seen reader session asks fits
-          (line_of_both x session asks does.session does.asked_is hindered b.newer b.last) few (λ none. closed_both x session asks does.session does.asked_is hindered b.newer b.last (b.some (λ e. let clash : None ≡ Some DiskFault = sym none ∙ e in cc)))
+          (line_of_both x session asks does.session does.asked_is hindered b.newer b.last) few (λ none. closed_both x session asks does.session does.asked_is hindered b.newer b.last (b.some (ap works_behind none)))
           (reads stop may b.none)
         where
-          reads : (stop : Option Stop) → MayRun stop → (stop ≡ Some DiskFault → b.newer ≡ []) → ReadsTo stop sessions (b.newer ++ does.done ∷ []) hand (suc (before + 1)) start feed reader (seen ++ (ask session asks ++ 10 ∷ []))
+          reads : (stop : Option Stop) → MayRun stop → (works_behind stop ≡ false → b.newer ≡ []) → ReadsTo stop sessions (b.newer ++ does.done ∷ []) hand (suc (before + 1)) start feed reader (seen ++ (ask session asks ++ 10 ∷ []))
           reads None may none = reading
           reads (Some stop) may none = reads_running stop sessions (b.newer ++ does.done ∷ []) hand (suc (before + 1)) start feed reader (seen ++ (ask session asks ++ 10 ∷ [])) may reading does.done []
-              (λ e. ap (λ (ys : List Done). ys ++ does.done ∷ []) (none (ap (λ (s : Stop). Some s) e))) does.session hindered
+              (λ e. ap (λ (ys : List Done). ys ++ does.done ∷ []) (none e)) does.session hindered
 
 -- ## What an abort did
 
 module _ (laws : Laws) (group : ℕ) (g : Opening) (xs : List Done) (m0 : Memory) (h0 : Held) (old : Story) (law : IsLawful old) (Stands : List Done → List Name → Type 0) (hand : Hand) (mid : Story) where
-  pub abort_fault : (m1 : Memory) → Fails g group xs hand.session hand.call m0 old mid → AbortRuns Stands (Some DiskFault) hand group g xs m0 m1 h0 h0 old mid
-  abort_fault m1 fails = record {
+  pub abort_fault : (stop : Stop) (m1 : Memory) → IsOfEngine stop → StopsFor stop (Fails g group xs hand.session hand.call m0 old mid) (StandsNot g group xs m0 old) → AbortRuns Stands (Some stop) hand group g xs m0 m1 h0 h0 old mid
+  abort_fault stop m1 of stops = record {
     newer = [];
     last = tt;
-    some = λ other e. other refl;
-    none = λ e. refl;
-    calls = fault_call laws group g xs m0 old law hand m1 mid h0 fails;
-    stands = tt;
+    some = λ works e. true≢false (sym works ∙ engine_ends stop of);
+    none = λ ends. refl;
+    calls = fault_call laws group g xs m0 old law hand m1 mid h0 stop of stops;
+    stands = engine_stands stop (Stands xs) g xs of;
   }
 
   pub abort_answer : (own : ℕ) (a : Answer) (m1 m2 : Memory) (does : Does g group xs own hand.call a m0 m1 old mid) (h1 : Held) (new : Story) → m2 ≡ m1 → is_last a ≡ true → (stop : Option Stop) → IsOfPutting stop → Says (lines_of g xs does.done) stop h0 h1 mid new
@@ -207,8 +227,8 @@ module _ (laws : Laws) (group : ℕ) (g : Opening) (xs : List Done) (m0 : Memory
   abort_answer own a m1 m2 does h1 new same last stop of said told = record {
     newer = does.done ∷ [];
     last = ap is_last does.answer_is ∙ last;
-    some = λ other e. let clash : does.done ∷ [] ≡ [] = e in cc;
-    none = λ e. absurd (putting_no_disk stop of e);
+    some = λ works e. let clash : does.done ∷ [] ≡ [] = e in cc;
+    none = λ ends. absurd (true≢false (sym (putting_works stop of) ∙ ends));
     calls = answer_call laws group g xs m0 old law own hand.call a m1 m2 mid new does stop hand h0 h1 said same;
     stands = putting_goes stop (Stands (does.done ∷ xs)) g (does.done ∷ xs) of told;
   }

@@ -1,26 +1,27 @@
 -- Why a run stops, where the reader stands then, and how the engine.
-use Rattle.std.proofs.Common.{◌≡◌, ◌++◌, ◌∷◌, [], ℕ, List, false, Option, Some, None, Result, Ok, Err, refl, sym, ap, ◌∙◌, subst, arith}
+use Rattle.std.proofs.Common.{◌≡◌, ◌++◌, ◌∷◌, [], ℕ, Bool, List, true, false, Option, Some, None, Result, Ok, Err, refl, sym, ap, ◌∙◌, subst, arith, true≢false}
 use mathlib.Core.List.{append_assoc}
 use Rattle.lean_disk.specs.Faults.{HasCause}
 use Rattle.lean_edge.specs.Outside.{Feed}
 use Rattle.script_lang.specs.Reading.{Unread, Reading}
 use Rattle.map_model.specs.Journals.{Name}
 use Rattle.map_model.specs.Outputs.{Reply}
-use Rattle.map_model.specs.declared.call.Answer.{Answer}
 use Rattle.map_model.specs.declared.call.Answered.{Answered}
 use Rattle.map_model.specs.Pairings.{is_open_line, script_of}
 use Rattle.core_state.specs.Openings.{Opening}
 use Rattle.core_calls.specs.Durables.{durables, moments}
 use Rattle.core_calls.specs.Fronts.{Done}
-use Rattle.script_lang.specs.declared.line.Line.{Line}
 use Rattle.transcripts.specs.Told.{ask, asked_text}
 use Rattle.transcripts.proofs.AskedLemmas.{asked_append}
 use Rattle.transcripts.proofs.TranscriptLemmas.{script_append}
-use Rattle.script_run.specs.Runs.{EngineStands, Hand, InHand, IsRefusedLine, ReadsTo, PrintsTo, IsWhole}
+use Rattle.script_run.specs.Runs.{EngineStands, Hand, InHand, IsRefusedLine, ReadsTo, PrintsTo, IsWhole, works_behind, works_on}
 use Rattle.script_run.specs.Runs.InHand.{OfLine, OfAbort}
-use Rattle.script_run.specs.Inside.{EngineGoes, HasTold, IsOfPutting, IsOfReading, IsOfRunning, MayRun}
+use Rattle.script_run.specs.Inside.{EngineGoes, HasTold, IsOfEngine, IsOfPutting, IsOfReading, IsOfRunning, MayRun, StopsFor}
+use Rattle.engine_front.specs.Stops.{StopsBy}
+use Rattle.engine_front.specs.declared.calls.Unanswered.{Unanswered}
+use Rattle.engine_front.specs.declared.calls.Unanswered.TheVariants as unanswered
 use Rattle.script_run.specs.declared.stop.Stop.{Stop}
-use Rattle.script_run.specs.declared.stop.Stop.TheVariants.{End, Refused, ReadFault, WriteFault, DiskFault}
+use Rattle.script_run.specs.declared.stop.Stop.TheVariants.{End, Refused, ReadFault, WriteFault, DiskFault, Damaged}
 
 -- ## The reader
 
@@ -40,6 +41,7 @@ reads_more (Some (Refused line)) sessions newer more hand m n start now r seen o
 reads_more (Some ReadFault) sessions newer more hand m n start now r seen other number bytes is = subst (λ (t : List ℕ). Reading start now r t) bytes is
 reads_more (Some WriteFault) sessions newer more hand m n start now r seen other number bytes is = subst (λ (t : List ℕ). Reading start now r t) bytes is
 reads_more (Some DiskFault) sessions newer more hand m n start now r seen other number bytes is = hand_more sessions newer more hand start now r seen other bytes is
+reads_more (Some (Damaged place)) sessions newer more hand m n start now r seen other number bytes is = hand_more sessions newer more hand start now r seen other bytes is
 
 -- the lines of calls behind those that were answered in full
 pub seen_more : (seen : List ℕ) (xs ys : List Answered) → is_open_line xs ≡ false → (seen ++ asked_text (script_of xs)) ++ asked_text (script_of ys) ≡ seen ++ asked_text (script_of (ys ++ xs))
@@ -60,6 +62,7 @@ prints_none (Refused line) of = record { told_is = refl; none = refl }
 prints_none ReadFault of = record { told_is = refl; none = refl }
 prints_none WriteFault of = absurd of
 prints_none DiskFault of = absurd of
+prints_none (Damaged place) of = absurd of
 
 -- what was told is the first of all
 pub record FirstOf (all told : List Reply) : Type 0 where
@@ -79,6 +82,7 @@ first_of stop all told tail is = go stop is
     go (Some ReadFault) w = whole w
     go (Some WriteFault) cut = record { later = cut.later ++ cut.next ∷ []; is = append_assoc cut.later (cut.next ∷ []) told ∙ cut.split }
     go (Some DiskFault) w = whole w
+    go (Some (Damaged place)) w = whole w
 
 -- ## The engine
 
@@ -88,6 +92,7 @@ reading_stands (Refused line) Stands g calls of stands = stands
 reading_stands ReadFault Stands g calls of stands = stands
 reading_stands WriteFault Stands g calls of stands = absurd of
 reading_stands DiskFault Stands g calls of stands = absurd of
+reading_stands (Damaged place) Stands g calls of stands = absurd of
 
 pub putting_goes : (stop : Option Stop) (Stands : List Name → Type 0) (g : Opening) (calls : List Done) → IsOfPutting stop → HasTold stop Stands (durables g (moments calls)) → EngineGoes stop Stands g calls
 putting_goes None Stands g calls of told = told
@@ -111,17 +116,54 @@ putting_no_read (Some stop) of e = let is : stop ≡ WriteFault = of in let same
 pub running_no_read : (stop : Option Stop) → MayRun stop → stop ≡ Some ReadFault → ⊥
 running_no_read stop may e = subst MayRun e may
 
-pub running_goes : (stop : Option Stop) → MayRun stop → (stop ≡ Some WriteFault → ⊥) → (stop ≡ Some DiskFault → ⊥) → stop ≡ None
-running_goes None may sink disk = refl
-running_goes (Some WriteFault) may sink disk = absurd (sink refl)
-running_goes (Some DiskFault) may sink disk = absurd (disk refl)
-running_goes (Some _) may sink disk = absurd may
+pub running_goes : (stop : Option Stop) → MayRun stop → (stop ≡ Some WriteFault → ⊥) → works_behind stop ≡ true → stop ≡ None
+running_goes None may sink works = refl
+running_goes (Some WriteFault) may sink works = absurd (sink refl)
+running_goes (Some DiskFault) may sink works = absurd (true≢false (sym works))
+running_goes (Some (Damaged place)) may sink works = absurd (true≢false (sym works))
+running_goes (Some _) may sink works = absurd may
 
-pub ok_no_err : (r : Result Line Stop) (line : Line) (stop : Stop) → r ≡ Ok line → r ≡ Err stop → ⊥
-ok_no_err r line stop ok err = let clash : Ok line ≡ Err stop = sym ok ∙ err in cc
+pub putting_works : (stop : Option Stop) → IsOfPutting stop → works_behind stop ≡ true
+putting_works None of = refl
+putting_works (Some stop) of = ap works_on of
 
-pub some_no_none : (r : Option Answer) (a : Answer) → r ≡ Some a → r ≡ None → ⊥
-some_no_none r a some none = let clash : Some a ≡ None = sym some ∙ none in cc
+-- the engine's
+pub engine_ends : (stop : Stop) → IsOfEngine stop → works_on stop ≡ false
+engine_ends DiskFault of = refl
+engine_ends (Damaged place) of = refl
+engine_ends _ of = absurd of
+
+pub engine_runs : (stop : Stop) → IsOfEngine stop → IsOfRunning stop
+engine_runs DiskFault of = tt
+engine_runs (Damaged place) of = tt
+engine_runs _ of = absurd of
+
+pub engine_no_sink : (stop : Stop) → IsOfEngine stop → Some stop ≡ Some WriteFault → ⊥
+engine_no_sink stop of e = let is : stop ≡ WriteFault = cc in subst IsOfEngine is of
+
+pub engine_no_read : (stop : Stop) → IsOfEngine stop → Some stop ≡ Some ReadFault → ⊥
+engine_no_read stop of e = let is : stop ≡ ReadFault = cc in subst IsOfEngine is of
+
+-- behind an error it works no longer
+pub not_works : (works : Bool) → (works ≡ true → ⊥) → works ≡ false
+not_works true never = absurd (never refl)
+not_works false never = refl
+
+-- why it did not answer
+pub by_fault : {fails : Type 0} (never : Type 0) {why : Unanswered} → why ≡ unanswered.DiskFault → StopsBy why fails never → fails
+by_fault {fails} never is stops = subst (λ (u : Unanswered). StopsBy u fails never) is stops
+
+pub by_damage : {fails never : Type 0} {why : Unanswered} {place : ℕ} → why ≡ unanswered.Damaged place → StopsBy why fails never → fails × never
+by_damage {fails} {never} is stops = subst (λ (u : Unanswered). StopsBy u fails never) is stops
+
+-- whatever stopped the engine, its call has failed
+pub failed_of : (stop : Stop) (fails never : Type 0) → StopsFor stop fails never → fails
+failed_of DiskFault fails never stops = stops
+failed_of (Damaged place) fails never stops = stops.0
+failed_of _ fails never stops = absurd stops
+
+pub ok_no_err : {A : Type 0} → (r : Result A Stop) (a : A) (stop : Stop) → r ≡ Ok a → r ≡ Err stop → ⊥
+ok_no_err r a stop ok err = let clash : Ok a ≡ Err stop = sym ok ∙ err in cc
 
 -- a fault that did not come
 pub no_cause : (before now : ℕ) (failed : Type 0) → now ≡ before → (failed → ⊥) → HasCause before now failed
@@ -134,6 +176,12 @@ cause_behind before mid now failed same h = subst (λ (n : ℕ). HasCause n now 
 -- a reader stops for no other's fault
 pub of_no_sink : (stop : Stop) → IsOfReading stop → Some stop ≡ Some WriteFault → ⊥
 of_no_sink stop of e = let is : stop ≡ WriteFault = cc in subst IsOfReading is of
+
+pub reading_works : (stop : Stop) → IsOfReading stop → works_on stop ≡ true
+reading_works End of = refl
+reading_works (Refused line) of = refl
+reading_works ReadFault of = refl
+reading_works _ of = absurd of
 
 pub of_no_disk : (stop : Stop) → IsOfReading stop → Some stop ≡ Some DiskFault → ⊥
 of_no_disk stop of e = let is : stop ≡ DiskFault = cc in subst IsOfReading is of

@@ -18,9 +18,9 @@ use Rattle.transcripts.proofs.NextLemmas.{next_laws, part}
 use Rattle.script_run.specs.Runs.{Hand, Holds, InHand, IsRefusedLine, ReadsTo, PrintsTo, IsCutOff, calls_of}
 use Rattle.script_run.specs.Runs.InHand.{OfLine, OfAbort}
 use Rattle.script_run.specs.Runs.IsRefusedLine.{NoLine, TooLong, TooMany}
-use Rattle.script_run.specs.Texts.{IsTailOf, IsUnanswered as unanswered, LinesRead, ScriptText}
+use Rattle.script_run.specs.Texts.{IsTailOf, IsUnanswered, IsUnanswered as unanswered, LinesRead, ScriptText, Stopped}
 use Rattle.script_run.specs.declared.stop.Stop.{Stop}
-use Rattle.script_run.specs.declared.stop.Stop.TheVariants.{End, Refused, ReadFault, WriteFault, DiskFault}
+use Rattle.script_run.specs.declared.stop.Stop.TheVariants.{End, Refused, ReadFault, WriteFault, DiskFault, Damaged}
 use Rattle.script_run.proofs.FitLemmas.{hindered_open}
 
 -- ## The script
@@ -45,14 +45,14 @@ module _ (sessions : ℕ) (few : sessions < 2 ^ 32) (start feed : Feed) (reader 
   open_line : (y : Done) (earlier : List Done) → newer ≡ y ∷ earlier → is_open_line (calls_of (y ∷ earlier)) ≡ true → is_open_line xs ≡ true
   open_line y earlier are is = ap (λ (ds : List Done). is_open_line (calls_of ds)) are ∙ is
 
-  in_hand : (hand : Hand) → InHand sessions newer hand start feed reader (asked_text (script_of xs)) → LinesRead DiskFault sessions xs start.left
-  in_hand hand (OfLine fits r) =
+  in_hand : (stop : Stop) → ((others : List (List ℕ)) → IsUnanswered sessions xs others → Stopped stop sessions xs (length (script_of xs)) others) → (hand : Hand) → InHand sessions newer hand start feed reader (asked_text (script_of xs)) → LinesRead stop sessions xs start.left
+  in_hand stop is hand (OfLine fits r) =
       let n = laws.asks hand.session hand.call fits r in
-      record { others = ask hand.session hand.call ∷ n.others; lines = n.begins; stopped = unanswered.OfLine hand.session hand.call fits n.others refl }
-  in_hand hand (OfAbort y earlier are session hindered r) = record {
+      record { others = ask hand.session hand.call ∷ n.others; lines = n.begins; stopped = is (ask hand.session hand.call ∷ n.others) (unanswered.OfLine hand.session hand.call fits n.others refl) }
+  in_hand stop is hand (OfAbort y earlier are session hindered r) = record {
     others = script_lines (reader.bytes ++ feed.left);
     lines = others_left r;
-    stopped = unanswered.OfAbort (open_line y earlier are (ap (λ b. cond b false true) (hindered_open y.outcome.deed hand.call hindered)));
+    stopped = is (script_lines (reader.bytes ++ feed.left)) (unanswered.OfAbort (open_line y earlier are (ap (λ b. cond b false true) (hindered_open y.outcome.deed hand.call hindered))));
   }
 
   lines_read : (stop : Stop) (hand : Hand) → ReadsTo (Some stop) sessions newer hand (suc (0 + length (script_of xs))) start feed reader (asked_text (script_of xs)) → LinesRead stop sessions xs start.left
@@ -60,7 +60,8 @@ module _ (sessions : ℕ) (few : sessions < 2 ^ 32) (start feed : Feed) (reader 
   lines_read (Refused line) hand r = refused line (suc (0 + length (script_of xs))) r.0 (omega arith) r.1
   lines_read ReadFault hand r = record { others = script_lines (reader.bytes ++ feed.left); lines = others_left r; stopped = tt }
   lines_read WriteFault hand r = record { others = script_lines (reader.bytes ++ feed.left); lines = others_left r; stopped = tt }
-  lines_read DiskFault hand r = in_hand hand r
+  lines_read DiskFault hand r = in_hand DiskFault (λ others un. un) hand r
+  lines_read (Damaged place) hand r = in_hand (Damaged place) (λ others un. un) hand r
 
 -- ## The output
 
@@ -109,6 +110,7 @@ module _ (sessions : ℕ) (xs : List Answered) (start : Feed) (replies told : Li
   printed ReadFault read w = whole_text ReadFault read w.none w.told_is
   printed WriteFault read c = cut_text read c
   printed DiskFault read w = whole_text DiskFault read w.none w.told_is
+  printed (Damaged place) read w = whole_text (Damaged place) read w.none w.told_is
 
 pub script_text : (stop : Stop) (sessions : ℕ) (newer : List Done) (hand : Hand) (start feed : Feed) (reader : Unread) (replies told : List Reply) (tail : List ℕ) (held0 held1 : Held) → sessions < 2 ^ 32 →
     EachLineFits sessions (script_of (calls_of newer)) → ReadsTo (Some stop) sessions newer hand (suc (0 + length (script_of (calls_of newer)))) start feed reader (asked_text (script_of (calls_of newer))) →

@@ -20,8 +20,8 @@ use Rattle.disk_runs.specs.Stands.{Known}
 use Rattle.disk_runs.proofs.LineLemmas.{every_master_line}
 use Rattle.run_crashes.specs.Lines.{NoneStopped}
 use Rattle.engine_calls.specs.Runs as runs
-use Rattle.engine_trait.specs.Calls.{IsOf, Memory}
 use Rattle.engine_trait.specs.Limits.{limits}
+use Rattle.call_parts.specs.Memory.{IsOf, Memory}
 use Rattle.script_lang.specs.Reading.{Unread, Reading}
 use Rattle.transcripts.specs.Told.{asked_text, EachLineFits}
 use Rattle.transcripts.proofs.TranscriptLemmas.{script_append}

@@ -20,14 +20,14 @@ use Rattle.core_disk.specs.Shows.{EveryShown}
 use Rattle.disk_runs.specs.Masters.{IsOfRunBy}
 use Rattle.disk_runs.specs.Stands.{Known}
 use Rattle.engine_calls.specs.Clauses.{Between}
-use Rattle.engine_trait.specs.Calls.{IsOf, Memory}
 use Rattle.engine_trait.specs.Limits.{limits}
+use Rattle.call_parts.specs.Memory.{IsOf, Memory}
 use Rattle.script_lang.specs.Reading.{Unread, Reading}
 use Rattle.script_lang.specs.declared.line.Line.{Line}
 use Rattle.transcripts.specs.Told.{ask, EachReplyFits, LineFits}
-use Rattle.script_run.specs.Runs.{DiskTo, EngineStands, Executes, Hand, Holds, IsLastCut, IsOutside, OthersStand, PrintsTo, ReadsTo, ScriptRuns, StaysAside, calls_of}
+use Rattle.script_run.specs.Runs.{DiskTo, EngineStands, Executes, Hand, Holds, IsLastCut, IsOutside, OthersStand, PrintsTo, ReadsTo, ScriptRuns, StaysAside, calls_of, works_behind}
 use Rattle.script_run.specs.declared.stop.Stop.{Stop}
-use Rattle.script_run.specs.declared.stop.Stop.TheVariants.{End, Refused, ReadFault, WriteFault, DiskFault}
+use Rattle.script_run.specs.declared.stop.Stop.TheVariants.{End, Refused, ReadFault, WriteFault, DiskFault, Damaged}
 
 -- the laws of other crates that a run stands on
 pub record Laws : Type 0 where
@@ -58,6 +58,7 @@ IsOfReading (Refused line) = Unit {0}
 IsOfReading ReadFault = Unit {0}
 IsOfReading WriteFault = ⊥
 IsOfReading DiskFault = ⊥
+IsOfReading (Damaged place) = ⊥
 
 -- a call stops for this
 abbrev pub IsOfRunning : Stop → Type 0
@@ -66,6 +67,7 @@ IsOfRunning (Refused line) = ⊥
 IsOfRunning ReadFault = ⊥
 IsOfRunning WriteFault = Unit {0}
 IsOfRunning DiskFault = Unit {0}
+IsOfRunning (Damaged place) = Unit {0}
 
 -- and may go on
 abbrev pub MayRun : Option Stop → Type 0
@@ -125,13 +127,33 @@ pub record Taking (due : List Name → List Name) (Stands : List Name → Type 0
   pub says : Says (durable_lines taken) None held0 held1 old new
   pub stands : Stands (taken ++ names)
 
+-- ## Calls
+
+-- the engine alone stops this
+abbrev pub IsOfEngine : Stop → Type 0
+IsOfEngine End = ⊥
+IsOfEngine (Refused line) = ⊥
+IsOfEngine ReadFault = ⊥
+IsOfEngine WriteFault = ⊥
+IsOfEngine DiskFault = Unit {0}
+IsOfEngine (Damaged place) = Unit {0}
+
+-- why it did not answer: where its disk failed this; where a page of it was damaged this too, and it stood for no run
+abbrev pub StopsFor : Stop → (fails never : Type 0) → Type 0
+StopsFor End fails never = ⊥
+StopsFor (Refused line) fails never = ⊥
+StopsFor ReadFault fails never = ⊥
+StopsFor WriteFault fails never = ⊥
+StopsFor DiskFault fails never = fails
+StopsFor (Damaged place) fails never = fails × never
+
 -- ## Calls behind others
 
 -- What was done for these outcomes, as ScriptRuns says it, but for what was read.
 pub record CallsRun (newer : List Done) (stop : Option Stop) (hand : Hand) (group : ℕ) (g : Opening) (xs : List Done) (m0 m1 : Memory) (held0 held1 : Held) (old new : Story) : Type 0 where
   pub memory : Memory
   pub executes : Executes g group xs m0 newer memory
-  pub memory_is : (stop ≡ Some DiskFault → ⊥) → m1 ≡ memory
+  pub memory_is : works_behind stop ≡ true → m1 ≡ memory
   pub replies : List Reply
   pub lines : printed g (newer ++ xs) ≡ replies ++ printed g xs
   pub told : List Reply
@@ -155,12 +177,12 @@ IsLastOne [] = Unit {0}
 IsLastOne (x ∷ []) = is_last (answered x.outcome.deed) ≡ true
 IsLastOne (x ∷ y ∷ earlier) = ⊥
 
--- The abort that was due was answered, or the disk failed.
+-- The abort that was due was answered, or the engine works no longer.
 pub record AbortRuns (Stands : List Done → List Name → Type 0) (stop : Option Stop) (hand : Hand) (group : ℕ) (g : Opening) (xs : List Done) (m0 m1 : Memory) (held0 held1 : Held) (old new : Story) : Type 0 where
   pub newer : List Done
   pub last : IsLastOne newer
-  pub some : (stop ≡ Some DiskFault → ⊥) → newer ≡ [] → ⊥
-  pub none : stop ≡ Some DiskFault → newer ≡ []
+  pub some : works_behind stop ≡ true → newer ≡ [] → ⊥
+  pub none : works_behind stop ≡ false → newer ≡ []
   pub calls : CallsRun newer stop hand group g xs m0 m1 held0 held1 old new
   pub stands : EngineGoes stop (Stands (newer ++ xs)) g (newer ++ xs)
 

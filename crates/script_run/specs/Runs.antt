@@ -1,5 +1,5 @@
 -- How a script was executed on an engine.
-use Rattle.std.specs.Prelude.{◌≡◌, ◌<◌, ◌≤◌, ◌+◌, ◌^◌, ◌++◌, ℕ, suc, true, List, [], ◌∷◌, length, map, take, Option, Some, None, IsTrue}
+use Rattle.std.specs.Prelude.{◌≡◌, ◌<◌, ◌≤◌, ◌+◌, ◌^◌, ◌++◌, ℕ, suc, Bool, true, false, List, [], ◌∷◌, length, map, take, Option, Some, None, IsTrue}
 use Rattle.map_model.specs.declared.call.Call.{Call}
 use Rattle.map_model.specs.declared.call.Answered.{Answered}
 use Rattle.map_model.specs.Journals.{Name}
@@ -17,23 +17,23 @@ use Rattle.core_calls.specs.Durables.{durables, moments}
 use Rattle.core_calls.specs.Fronts.{Done, front, outcomes}
 use Rattle.core_calls.specs.Printed.{printed}
 use Rattle.core_calls.specs.Runs as told
-use Rattle.core_calls.specs.Steps.{hindered_in}
 use Rattle.disk_runs.specs.Masters.{IsNoEarlier, IsOfRunBy}
 use Rattle.disk_runs.specs.Stands.{Known, Stands}
 use Rattle.run_crashes.specs.Lines.{NoneStopped, RunLeft}
 use Rattle.engine_calls.specs.Clauses.{Between}
 use Rattle.engine_calls.specs.Runs as runs
-use Rattle.engine_trait.specs.Areas.{IsAside}
-use Rattle.engine_trait.specs.Calls.{Happens, IsOf, Memory, call_behind}
+use Rattle.core_calls.specs.Steps.{call_behind, hindered_in}
 use Rattle.engine_trait.specs.Limits.{limits}
-use Rattle.engine_trait.specs.Rooms.{IsRoomFor}
+use Rattle.call_parts.specs.Deeds.{Happens}
+use Rattle.call_parts.specs.Memory.{IsOf, Memory}
+use Rattle.call_parts.specs.Rooms.{IsRoomFor}
 use Rattle.script_lang.specs.Lines.{Spells, line_of}
 use Rattle.script_lang.specs.Reading.{Unread, Reading, LineIs, LineIsLong, AtEnd}
 use Rattle.script_lang.specs.Replies.{Fits, reply_line}
 use Rattle.script_lang.specs.declared.line.Line.{Line}
 use Rattle.transcripts.specs.Told.{ask, asked_text, text_of, EachLineFits, EachReplyFits, LineFits}
 use Rattle.script_run.specs.declared.stop.Stop.{Stop}
-use Rattle.script_run.specs.declared.stop.Stop.TheVariants.{End, Refused, ReadFault, WriteFault, DiskFault}
+use Rattle.script_run.specs.declared.stop.Stop.TheVariants.{End, Refused, ReadFault, WriteFault, DiskFault, Damaged}
 
 -- ## The engine's part
 
@@ -79,6 +79,7 @@ ReadsTo (Some (Refused line)) sessions newer hand number start now reader seen =
 ReadsTo (Some ReadFault) sessions newer hand number start now reader seen = Reading start now reader seen
 ReadsTo (Some WriteFault) sessions newer hand number start now reader seen = Reading start now reader seen
 ReadsTo (Some DiskFault) sessions newer hand number start now reader seen = InHand sessions newer hand start now reader seen
+ReadsTo (Some (Damaged place)) sessions newer hand number start now reader seen = InHand sessions newer hand start now reader seen
 
 -- ## What was put
 
@@ -103,6 +104,7 @@ PrintsTo (Some (Refused line)) all told tail = IsWhole all told tail
 PrintsTo (Some ReadFault) all told tail = IsWhole all told tail
 PrintsTo (Some WriteFault) all told tail = IsCutOff all told tail
 PrintsTo (Some DiskFault) all told tail = IsWhole all told tail
+PrintsTo (Some (Damaged place)) all told tail = IsWhole all told tail
 
 -- Where it failed, that was at the lines of the newest outcome: those of every outcome before were put whole.
 pub record IsLastCut (g : Opening) (xs newer : List Done) (told : List Reply) : Type 0 where
@@ -121,13 +123,13 @@ pub record Holds (told : List Reply) (tail : List ℕ) (old new : Held) : Type 0
   pub same : new.tells ≡ old.tells
   pub bytes : IsTrue old.tells → new.bytes ≡ old.bytes ++ (text_of told ++ tail)
 
--- The disk: a note more for each reply, and nothing else but in the areas of so many logs, and in that of the masters.
+-- The disk: a note more for each reply, and nothing else but in the areas of the masters, of the pages and of so many logs.
 pub record OthersStand (logs : ℕ) (told : List Reply) (old new : Story) : Type 0 where
   pub later : old.moment ≤ new.moment
   pub counts : new.counts ≡ old.counts
   pub tells : (a : ℕ) → new.tells a ≡ old.tells a
   pub areas : new.areas ≡ old.areas
-  pub area : (a : ℕ) → IsAside logs true a → new.area a ≡ old.area a
+  pub area : (a : ℕ) → suc logs < a → new.area a ≡ old.area a
   pub notes : IsTrue old.counts → old.notes + length told < 2 ^ 64 → new.notes ≡ old.notes + length told
 
 -- ## The disk at every moment
@@ -135,8 +137,8 @@ pub record OthersStand (logs : ℕ) (told : List Reply) (old new : Story) : Type
 -- A crash leaves the other areas as one might have left them at s, and so many notes more at most.
 pub record StaysAside (logs count : ℕ) (s : Story) (c : Crash) : Type 0 where
   pub notes : c.notes ≤ s.notes + count
-  pub writes : (a : ℕ) → IsAside logs true a → Tells s a → c.writes a ≡ (s.area a).writes
-  pub leaves : (a : ℕ) → IsAside logs true a → Tells s a → Leaves (s.area a) (c.image a)
+  pub writes : (a : ℕ) → suc logs < a → Tells s a → c.writes a ≡ (s.area a).writes
+  pub leaves : (a : ℕ) → suc logs < a → Tells s a → Leaves (s.area a) (c.image a)
 
 -- From one story to now by these calls and their lines, the last of them by these events: the run goes on, with this memory, under the same master or one
 -- that was written by these.
@@ -159,13 +161,13 @@ abbrev pub StoppedIn : Opening → List Done → Hand → List Done → List Eve
 StoppedIn g calls hand heard es = (heard ≡ calls) × IsRoomFor g heard hand.session (call_behind (outcomes heard) hand.call) es
 
 -- One more was asked and not answered: a crash leaves what the lines say, behind the calls that were answered, or in this one. There it fell behind
--- some of the events by which it made room for its key, put changes back or flushed logs for a sync, or behind the first events of one that would be
--- answered so.
+-- some of the events by which it moved pages, made room for its key, put changes back or flushed logs for a sync, or behind the first events of one that
+-- would be answered so.
 pub data CallMissing (g : Opening) (group : ℕ) (calls : List Done) (hand : Hand) (s0 : Crash) (m : Master) (from now : Story) : Type 0 where
   Nothing : LeavesOnly from now (RunLeft g (StoppedIn g calls hand) calls s0 m) → CallMissing g group calls hand s0 m from now
   Part : (x : Done) → asked x.outcome.deed ≡ hand.call → x.outcome.session ≡ hand.session → told.Tells limits g group calls x → length x.events ≤ 2 ^ 18 → LeavesOnly from now (RunLeft g NoneStopped (x ∷ calls) s0 m) → CallMissing g group calls hand s0 m from now
 
--- By why the script stopped there, or goes on.
+-- By why the script stopped there, or goes on. On a disk that stood for the run no page is damaged.
 abbrev pub DiskTo : (stop : Option Stop) → Hand → Opening → (group : ℕ) → List Done → (last : List Event) → Crash → Master → Known → (from now : Story) → Memory → Type 0
 DiskTo None hand g group calls last s0 m k from now memory = RunStands g group calls last s0 m k from now memory
 DiskTo (Some End) hand g group calls last s0 m k from now memory = RunStands g group calls last s0 m k from now memory
@@ -173,8 +175,22 @@ DiskTo (Some (Refused line)) hand g group calls last s0 m k from now memory = Ru
 DiskTo (Some ReadFault) hand g group calls last s0 m k from now memory = RunStands g group calls last s0 m k from now memory
 DiskTo (Some WriteFault) hand g group calls last s0 m k from now memory = LinesMissing g calls last s0 m k from now memory
 DiskTo (Some DiskFault) hand g group calls last s0 m k from now memory = CallMissing g group calls hand s0 m from now
+DiskTo (Some (Damaged place)) hand g group calls last s0 m k from now memory = ⊥
 
 -- ## A run
+
+-- the engine works behind it
+abbrev pub works_on : Stop → Bool
+works_on End = true
+works_on (Refused line) = true
+works_on ReadFault = true
+works_on WriteFault = true
+works_on DiskFault = false
+works_on (Damaged place) = false
+
+abbrev pub works_behind : Option Stop → Bool
+works_behind None = true
+works_behind (Some stop) = works_on stop
 
 -- A run of lines for so many sessions, behind the outcomes xs, with this memory of the disk; so many lines had been read before, and so many bytes handed
 -- out. It stopped for this reason, or goes on.
@@ -185,9 +201,9 @@ pub record ScriptRuns (stop : Option Stop) (sessions group : ℕ) (g : Opening) 
   pub few : before + length (script_of (calls_of newer)) < 2 ^ 40
   pub memory : Memory
   pub executes : Executes g group xs m0 newer memory
-  -- the engine has it, unless the disk failed
-  pub memory_is : (stop ≡ Some DiskFault → ⊥) → m1 ≡ memory
-  -- the call that was not answered, if the disk failed
+  -- the engine has it, where it works
+  pub memory_is : works_behind stop ≡ true → m1 ≡ memory
+  -- the call that was not answered, where it does not
   pub hand : Hand
   -- what asks the calls was handed out
   pub reads : ReadsTo stop sessions newer hand (suc (before + length (script_of (calls_of newer)))) start feed reader (seen ++ asked_text (script_of (calls_of newer)))
@@ -206,10 +222,11 @@ pub record ScriptRuns (stop : Option Stop) (sessions group : ℕ) (g : Opening) 
   pub disk : (s0 : Crash) (m : Master) (k : Known) → Between limits g group xs s0 k old → IsOfRunBy (front xs) m k.master → IsOf g m0 k → old.notes + length told < 2 ^ 64
       → LeavesOnly old new (StaysAside g.workers (length told) old) × DiskTo stop hand g group (newer ++ xs) (front newer) s0 m k old new memory
 
--- how the engine stands then: all lines that are due were told; unless the sink failed, behind the lines of some, or the disk
+-- how the engine stands then: all lines that are due were told; unless the sink failed, behind the lines of some, or it works no longer
 abbrev pub EngineStands : Stop → (List Name → Type 0) → Opening → List Done → Type 0
 EngineStands End Stands g calls = Stands (durables g (moments calls))
 EngineStands (Refused line) Stands g calls = Stands (durables g (moments calls))
 EngineStands ReadFault Stands g calls = Stands (durables g (moments calls))
 EngineStands WriteFault Stands g calls = (names : List Name) × Stands names
 EngineStands DiskFault Stands g calls = Unit {0}
+EngineStands (Damaged place) Stands g calls = Unit {0}

@@ -12,7 +12,7 @@ use Rattle.script_lang.specs.Text.{script_lines}
 use Rattle.transcripts.specs.Told.{ask, asked_lines, asked_text, text_of, EachLineFits, EachReplyFits, IsTail, LineFits}
 use Rattle.script_run.specs.Runs.{Hand, ReadsTo, PrintsTo, Holds, calls_of}
 use Rattle.script_run.specs.declared.stop.Stop.{Stop}
-use Rattle.script_run.specs.declared.stop.Stop.TheVariants.{End, Refused, ReadFault, WriteFault, DiskFault}
+use Rattle.script_run.specs.declared.stop.Stop.TheVariants.{End, Refused, ReadFault, WriteFault, DiskFault, Damaged}
 
 -- the next line asks nothing, or has the last number
 pub record IsRefusedNext (sessions number : ℕ) (others : List (List ℕ)) : Type 0 where
@@ -33,6 +33,7 @@ Stopped (Refused line) sessions answered count others = (line ≡ suc count) × 
 Stopped ReadFault sessions answered count others = Unit {0}
 Stopped WriteFault sessions answered count others = Unit {0}
 Stopped DiskFault sessions answered count others = IsUnanswered sessions answered others
+Stopped (Damaged place) sessions answered count others = IsUnanswered sessions answered others
 
 -- the script begins with the lines that ask the calls
 pub record LinesRead (stop : Stop) (sessions : ℕ) (answered : List Answered) (input : List ℕ) : Type 0 where
@@ -47,6 +48,7 @@ IsTailOf (Refused line) tail = tail ≡ []
 IsTailOf ReadFault tail = tail ≡ []
 IsTailOf WriteFault tail = IsTail tail
 IsTailOf DiskFault tail = tail ≡ []
+IsTailOf (Damaged place) tail = tail ≡ []
 
 -- The calls that were answered, and the replies that were put of those that are due behind them.
 pub record ScriptText (stop : Stop) (sessions : ℕ) (answered : List Answered) (replies told : List Reply) (start : Feed) (held0 held1 : Held) : Type 0 where

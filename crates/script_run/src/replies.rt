@@ -11,14 +11,14 @@ ghost use Rattle.lean_disk.specs.Faults.{HasCause};
 ghost use Rattle.lean_edge.specs.Outside.{Puts};
 ghost use Rattle.run_crashes.specs.Lines.{lines_of};
 ghost use Rattle.engine_trait.specs.Calls.{HasCome};
-ghost use Rattle.engine_trait.specs.Turns.{behind_durables};
+ghost use Rattle.engine_front.specs.Turns.{behind_durables};
 ghost use Rattle.map_model.specs.Journals.{Name};
 ghost use Rattle.map_model.specs.Outputs.{Reply};
 ghost use Rattle.script_lang.specs.Replies.{AnswerFits, Fits, reply_line};
 ghost use Rattle.script_run.specs.Inside.{HasTold, IsOfPutting, Says};
 
 use crate::stop::Stop;
-use engine_trait::calls::{Calls, Durable};
+use engine_front::calls::{Calls, Durable};
 use lean_disk::Disk;
 use lean_edge::{Put, Sink};
 use map_model::{Answer, Refusal};

@@ -1,26 +1,28 @@
 // Line by line: read, asked, printed.
-ghost use Rattle.std.specs.Prelude.{◌≡◌, ◌≤◌, ◌+◌, ◌^◌, ◌++◌, ◌∷◌, ◌<◌, ◌-◌, ℕ, true, false, List, Some, None, IfSome};
+ghost use Rattle.std.specs.Prelude.{◌≡◌, ◌↔◌, ◌≤◌, ◌+◌, ◌^◌, ◌++◌, ◌∷◌, ◌<◌, ◌-◌, ℕ, true, false, List, Some, None, Err, IfOk, IfErr, IsErr};
 ghost use Rattle.core_state.specs.Openings.{Opening};
 ghost use Rattle.core_calls.specs.Durables.{durables, moments};
 ghost use Rattle.core_calls.specs.Fronts.{Done};
 ghost use Rattle.core_calls.specs.Steps.{hindered_in};
 ghost use Rattle.lean_disk.specs.Faults.{HasCause};
 ghost use Rattle.lean_edge.specs.Outside.{Feed};
-ghost use Rattle.engine_trait.specs.Calls.{Does, Fails, IsAsked};
-ghost use Rattle.engine_trait.specs.Turns.{behind_answer, is_conflict_in};
-ghost use Rattle.engine_trait.specs.declared.calls.Next.{Next};
+ghost use Rattle.engine_trait.specs.Calls.{IsAsked};
+ghost use Rattle.call_parts.specs.Deeds.{Does, Fails};
+ghost use Rattle.engine_front.specs.Stops.{StandsNot};
+ghost use Rattle.engine_front.specs.Turns.{behind_answer, is_conflict_in};
+ghost use Rattle.engine_front.specs.declared.calls.Next.{Next};
 ghost use Rattle.map_model.specs.Journals.{Name};
 ghost use Rattle.map_model.specs.Pairings.{is_last};
 ghost use Rattle.map_model.specs.declared.call.Call.{Call as Asked};
 ghost use Rattle.script_lang.specs.Reading.{Reading};
 ghost use Rattle.script_lang.specs.Replies.{AnswerFits};
-ghost use Rattle.script_run.specs.Runs.{EngineStands, ScriptRuns};
-ghost use Rattle.script_run.specs.Inside.{AbortRuns, Laws, MayRun, Stepped};
+ghost use Rattle.script_run.specs.Runs.{EngineStands, ScriptRuns, works_behind, works_on};
+ghost use Rattle.script_run.specs.Inside.{AbortRuns, IsOfEngine, Laws, MayRun, Stepped, StopsFor};
 
 use crate::lines::{LINES, next_call};
 use crate::replies::{has_line, put_answer};
 use crate::stop::Stop;
-use engine_trait::calls::{Calls, Unanswered};
+use engine_front::calls::{Calls, Unanswered};
 use lean_disk::Disk;
 use lean_edge::{Sink, Source};
 use map_model::{Answer, Call, Refusal};
@@ -38,8 +40,8 @@ pub fn run_script<S: Source, K: Sink<D>, D: Disk, E: Calls<D>>(
     ensures runs { (g : Opening) (xs : List Done) (start : Feed) (seen : List ℕ) → E.in_run engine.old g xs (durables g (moments xs)) → Reading start (S.feed source.old) reader.old seen
         → (r : ScriptRuns (Some result) (E.sessions engine.old) (E.group engine.old) g xs 0 start seen (E.memory engine.old) (E.memory engine.new) reader.new (S.feed source.new) (K.held sink.old) (K.held sink.new) (D.story (E.disk engine.old)) (D.story (E.disk engine.new)))
         × EngineStands result (E.in_run engine.new g (r.newer ++ xs)) g (r.newer ++ xs) }
-    ensures works { (result ≡ Stop.DiskFault → ⊥) → E.works engine.new ≡ true }
-    ensures next { (result ≡ Stop.WriteFault → ⊥) → (result ≡ Stop.DiskFault → ⊥) → E.next engine.new ≡ Next.Line }
+    ensures works { E.works engine.new ≡ works_on result }
+    ensures next { (result ≡ Stop.WriteFault → ⊥) → works_on result ≡ true → E.next engine.new ≡ Next.Line }
     ensures sizes { (E.sessions engine.new ≡ E.sessions engine.old) × (E.group engine.new ≡ E.group engine.old) }
 
     ensures cause_read_fault { HasCause (S.faults source.old) (S.faults source.new) (result ≡ Stop.ReadFault) }
@@ -71,8 +73,8 @@ fn last_step<S: Source, K: Sink<D>, D: Disk, E: Calls<D>>(
     requires next { E.next engine.old ≡ Next.Line }
     ensures runs { (g : Opening) (xs : List Done) (start : Feed) (seen : List ℕ) → E.in_run engine.old g xs (durables g (moments xs)) → Reading start (S.feed source.old) reader.old seen
         → Stepped (E.in_run engine.new g) 1 (Some result) (E.sessions engine.old) (E.group engine.old) g xs (2 ^ 40 - 1) start seen (E.memory engine.old) (E.memory engine.new) reader.new (S.feed source.new) (K.held sink.old) (K.held sink.new) (D.story (E.disk engine.old)) (D.story (E.disk engine.new)) }
-    ensures works { (result ≡ Stop.DiskFault → ⊥) → E.works engine.new ≡ true }
-    ensures next { (result ≡ Stop.WriteFault → ⊥) → (result ≡ Stop.DiskFault → ⊥) → E.next engine.new ≡ Next.Line }
+    ensures works { E.works engine.new ≡ works_on result }
+    ensures next { (result ≡ Stop.WriteFault → ⊥) → works_on result ≡ true → E.next engine.new ≡ Next.Line }
     ensures sizes { (E.sessions engine.new ≡ E.sessions engine.old) × (E.group engine.new ≡ E.group engine.old) }
 
     ensures cause_read_fault { HasCause (S.faults source.old) (S.faults source.new) (result ≡ Stop.ReadFault) }
@@ -100,8 +102,8 @@ fn take_step<S: Source, K: Sink<D>, D: Disk, E: Calls<D>>(
     ensures runs { (g : Opening) (xs : List Done) (start : Feed) (seen : List ℕ) → E.in_run engine.old g xs (durables g (moments xs)) → Reading start (S.feed source.old) reader.old seen
         → Stepped (E.in_run engine.new g) 1 result (E.sessions engine.old) (E.group engine.old) g xs (number - 1) start seen (E.memory engine.old) (E.memory engine.new) reader.new (S.feed source.new) (K.held sink.old) (K.held sink.new) (D.story (E.disk engine.old)) (D.story (E.disk engine.new)) }
     ensures few { result ≡ None → number < 2 ^ 40 }
-    ensures works { (result ≡ Some Stop.DiskFault → ⊥) → E.works engine.new ≡ true }
-    ensures next { (result ≡ Some Stop.WriteFault → ⊥) → (result ≡ Some Stop.DiskFault → ⊥) → E.next engine.new ≡ Next.Line }
+    ensures works { E.works engine.new ≡ works_behind result }
+    ensures next { (result ≡ Some Stop.WriteFault → ⊥) → works_behind result ≡ true → E.next engine.new ≡ Next.Line }
     ensures sizes { (E.sessions engine.new ≡ E.sessions engine.old) × (E.group engine.new ≡ E.group engine.old) }
 
     ensures cause_read_fault { HasCause (S.faults source.old) (S.faults source.new) (result ≡ Some Stop.ReadFault) }
@@ -115,8 +117,9 @@ fn take_step<S: Source, K: Sink<D>, D: Disk, E: Calls<D>>(
         Ok(line) => line,
         Err(stop) => return Some(stop),
     };
-    let Some(answer) = call_engine(engine, line.session, &line.call) else {
-        return Some(Stop::DiskFault);
+    let answer = match call_engine(engine, line.session, &line.call) {
+        Ok(answer) => answer,
+        Err(stop) => return Some(stop),
     };
     engine.told();
     if let Some(stop) = put_answer(engine, sink, buffer, line.session, &answer) {
@@ -150,7 +153,7 @@ fn abort_hindered<K: Sink<D>, D: Disk, E: Calls<D>>(
     ensures runs { (g : Opening) (y : Done) (earlier : List Done) (c : Asked) → E.in_run engine.old g (y ∷ earlier) (durables g (moments (y ∷ earlier))) → hindered_in y.outcome.deed ≡ Some c → y.outcome.session ≡ session
         → AbortRuns (E.in_run engine.new g) result (record { session = session; call = c }) (E.group engine.old) g (y ∷ earlier) (E.memory engine.old) (E.memory engine.new) (K.held sink.old) (K.held sink.new) (D.story (E.disk engine.old)) (D.story (E.disk engine.new)) }
     ensures stops { MayRun result }
-    ensures works { (result ≡ Some Stop.DiskFault → ⊥) → E.works engine.new ≡ true }
+    ensures works { E.works engine.new ≡ works_behind result }
     ensures next { result ≡ None → E.next engine.new ≡ Next.Line }
     ensures sizes { (E.sessions engine.new ≡ E.sessions engine.old) × (E.group engine.new ≡ E.group engine.old) }
 
@@ -159,60 +162,70 @@ fn abort_hindered<K: Sink<D>, D: Disk, E: Calls<D>>(
 {
     laws();
     engine.told();
-    let Some(answer) = abort_engine(engine) else {
-        return Some(Stop::DiskFault);
+    let answer = match abort_engine(engine) {
+        Ok(answer) => answer,
+        Err(stop) => return Some(stop),
     };
     engine.told();
     put_answer(engine, sink, buffer, session, &answer)
 }
 
-// Calls an engine that works. No answer means that its disk failed.
-fn call_engine<D: Disk, E: Calls<D>>(engine: &mut E, session: u32, call: &Call) -> Option<Answer>
+// Calls an engine that works.
+fn call_engine<D: Disk, E: Calls<D>>(
+    engine: &mut E,
+    session: u32,
+    call: &Call,
+) -> Result<Answer, Stop>
     requires asked { IsAsked (E.sessions engine.old) session call.now }
     requires works { E.works engine.old ≡ true }
     requires next { E.next engine.old ≡ Next.Line }
-    ensures does { IfSome result (λ a. (g : Opening) (xs : List Done) (names : List Name) → E.in_run engine.old g xs names
+    ensures does { IfOk result (λ a. (g : Opening) (xs : List Done) (names : List Name) → E.in_run engine.old g xs names
         → (d : Does g (E.group engine.old) xs session call.now a (E.memory engine.old) (E.memory engine.new) (D.story (E.disk engine.old)) (D.story (E.disk engine.new))) × E.in_run engine.new g (d.done ∷ xs) names) }
-    ensures fits { IfSome result AnswerFits }
-    ensures works { IfSome result (λ a. E.works engine.new ≡ true) }
-    ensures next { IfSome result (λ a. E.next engine.new ≡ behind_answer a) }
+    ensures fits { IfOk result AnswerFits }
+    ensures works { E.works engine.new ≡ true ↔ (IsErr result → ⊥) }
+    ensures next { IfOk result (λ a. E.next engine.new ≡ behind_answer a) }
     ensures sizes { (E.sessions engine.new ≡ E.sessions engine.old) × (E.group engine.new ≡ E.group engine.old) }
-    ensures fails { result ≡ None → (g : Opening) (xs : List Done) (names : List Name) → E.in_run engine.old g xs names → Fails g (E.group engine.old) xs session call.now (E.memory engine.old) (D.story (E.disk engine.old)) (D.story (E.disk engine.new)) }
+    ensures stops { IfErr result IsOfEngine }
+    ensures fails { IfErr result (λ stop. (g : Opening) (xs : List Done) (names : List Name) → E.in_run engine.old g xs names
+        → StopsFor stop (Fails g (E.group engine.old) xs session call.now (E.memory engine.old) (D.story (E.disk engine.old)) (D.story (E.disk engine.new))) (StandsNot g (E.group engine.old) xs (E.memory engine.old) (D.story (E.disk engine.old)))) }
 
-    ensures cause { HasCause (D.faults (E.disk engine.old)) (D.faults (E.disk engine.new)) (result ≡ None) }
+    ensures cause { HasCause (D.faults (E.disk engine.old)) (D.faults (E.disk engine.new)) (result ≡ Err Stop.DiskFault) }
 {
     match engine.call(session, call) {
         Ok(answer) => {
             has_line(&answer);
-            Some(answer)
+            Ok(answer)
         }
-        Err(Unanswered::DiskFault) => None,
+        Err(Unanswered::DiskFault) => Err(Stop::DiskFault),
+        Err(Unanswered::Damaged { place }) => Err(Stop::Damaged { place }),
         Err(Unanswered::Broken) => unreachable!(),
     }
 }
 
 // And asks it for the abort that is due.
-fn abort_engine<D: Disk, E: Calls<D>>(engine: &mut E) -> Option<Answer>
+fn abort_engine<D: Disk, E: Calls<D>>(engine: &mut E) -> Result<Answer, Stop>
     requires works { E.works engine.old ≡ true }
     requires next { E.next engine.old ≡ Next.Abort }
-    ensures does { IfSome result (λ a. (g : Opening) (y : Done) (earlier : List Done) (names : List Name) → E.in_run engine.old g (y ∷ earlier) names → (c : Asked) → hindered_in y.outcome.deed ≡ Some c
+    ensures does { IfOk result (λ a. (g : Opening) (y : Done) (earlier : List Done) (names : List Name) → E.in_run engine.old g (y ∷ earlier) names → (c : Asked) → hindered_in y.outcome.deed ≡ Some c
         → (d : Does g (E.group engine.old) (y ∷ earlier) y.outcome.session c a (E.memory engine.old) (E.memory engine.new) (D.story (E.disk engine.old)) (D.story (E.disk engine.new))) × E.in_run engine.new g (d.done ∷ y ∷ earlier) names) }
-    ensures fits { IfSome result AnswerFits }
-    ensures last { IfSome result (λ a. is_last a ≡ true) }
-    ensures works { IfSome result (λ a. E.works engine.new ≡ true) }
-    ensures next { IfSome result (λ a. E.next engine.new ≡ Next.Durables false) }
+    ensures fits { IfOk result AnswerFits }
+    ensures last { IfOk result (λ a. is_last a ≡ true) }
+    ensures works { E.works engine.new ≡ true ↔ (IsErr result → ⊥) }
+    ensures next { IfOk result (λ a. E.next engine.new ≡ Next.Durables false) }
     ensures sizes { (E.sessions engine.new ≡ E.sessions engine.old) × (E.group engine.new ≡ E.group engine.old) }
-    ensures fails { result ≡ None → (g : Opening) (y : Done) (earlier : List Done) (names : List Name) → E.in_run engine.old g (y ∷ earlier) names → (c : Asked) → hindered_in y.outcome.deed ≡ Some c
-        → Fails g (E.group engine.old) (y ∷ earlier) y.outcome.session c (E.memory engine.old) (D.story (E.disk engine.old)) (D.story (E.disk engine.new)) }
+    ensures stops { IfErr result IsOfEngine }
+    ensures fails { IfErr result (λ stop. (g : Opening) (y : Done) (earlier : List Done) (names : List Name) → E.in_run engine.old g (y ∷ earlier) names → (c : Asked) → hindered_in y.outcome.deed ≡ Some c
+        → StopsFor stop (Fails g (E.group engine.old) (y ∷ earlier) y.outcome.session c (E.memory engine.old) (D.story (E.disk engine.old)) (D.story (E.disk engine.new))) (StandsNot g (E.group engine.old) (y ∷ earlier) (E.memory engine.old) (D.story (E.disk engine.old)))) }
 
-    ensures cause { HasCause (D.faults (E.disk engine.old)) (D.faults (E.disk engine.new)) (result ≡ None) }
+    ensures cause { HasCause (D.faults (E.disk engine.old)) (D.faults (E.disk engine.new)) (result ≡ Err Stop.DiskFault) }
 {
     match engine.abort_hindered() {
         Ok(answer) => {
             has_line(&answer);
-            Some(answer)
+            Ok(answer)
         }
-        Err(Unanswered::DiskFault) => None,
+        Err(Unanswered::DiskFault) => Err(Stop::DiskFault),
+        Err(Unanswered::Damaged { place }) => Err(Stop::Damaged { place }),
         Err(Unanswered::Broken) => unreachable!(),
     }
 }

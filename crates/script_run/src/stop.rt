@@ -13,4 +13,6 @@ pub enum Stop {
     WriteFault,
     /// The disk failed. The engine is not to be used again.
     DiskFault,
+    /// The page at this place of the pages' area was damaged. The engine is not to be used again.
+    Damaged { place: u64 },
 }

@@ -1,9 +1,9 @@
 // Scripts on a fresh engine, over devices in memory. The expected lines were written down by hand.
 use crate::cases::expect;
 use crate::commands::formatted;
+use buffered_engine::{Engine, Opened, Size, Unopened};
 use lean_disk::MemDisk;
 use lean_edge::{MemSink, MemSource};
-use lean_engine::{Engine, Opened, Size, Unopened};
 use script_lang::LineReader;
 use script_run::{Stop, run_script};
 use std::alloc::{AllocError, Global};
@@ -77,6 +77,7 @@ fn sink_of(alloc: Global, case: &Case) -> Result<MemSink, AllocError> {
 }
 
 const SIZE: Size = Size {
+    frames: 32,
     rows: 64,
     group: 1,
     sessions: 16,

@@ -25,7 +25,7 @@ use Rattle.recovery.specs.Telling.{TellsAll}
 use Rattle.recovery.specs.declared.opening.Recovered.{Recovered}
 use Rattle.recovery.specs.declared.opening.Unrecovered.{Unrecovered}
 use Rattle.recovery.specs.declared.opening.Unrecovered.TheVariants as why
-use Rattle.lean_engine.specs.Openings.{Shows}
+use Rattle.paged_engine.specs.Openings.{Shows}
 use Rattle.lean_shell.specs.Dumps.{DumpEnds, DumpLeaves, IsAsOpened, PutOrCut, dump_text}
 use Rattle.lean_shell.specs.Endings.{finished}
 use Rattle.lean_shell.specs.Inside.Puts.{OnlyPuts, PutsDump, counts_of}

@@ -282,10 +282,11 @@ start_up g = record {
   low = omega arith;
 }
 
--- behind so many events of a run no floor and no record has a number that is further above the base number
+-- behind so many events of a run no floor, no record and no page has a number that is further above the base number
 pub record GoesTo (top : ℕ) (s : State) : Type 0 where
   pub entered : (r : Entry) → Has r s.entries → r.number ≤ top
   pub floor : s.floor ≤ top
+  pub pages : (p : ℕ) → (s.page p).gsn ≤ top
 
 pub goes_to : (g : Opening) (es : List Event) → GoesTo (g.base + length es) (state_after g es)
-goes_to g es = let u = run_up g g.base (start g) es (start_up g) (g.base + length es) refl in record { entered = u.entered; floor = u.low }
+goes_to g es = let u = run_up g g.base (start g) es (start_up g) (g.base + length es) refl in record { entered = u.entered; floor = u.low; pages = u.pages }

@@ -28,7 +28,7 @@ use Rattle.core_disk.specs.Held.{HoldsRun}
 use Rattle.core_disk.specs.Shows.{EveryShown}
 use Rattle.disk_runs.specs.Masters.{IsNoEarlier, IsOfRunBy}
 use Rattle.disk_runs.specs.Stands.{Known, Stands}
-use Rattle.engine_trait.specs.Calls.{IsOf, Memory}
+use Rattle.call_parts.specs.Memory.{IsOf, Memory}
 use Rattle.engine_trait.specs.Limits.{limits}
 use Rattle.run_crashes.specs.Lines.{NoneStopped, Recovers, RunLeft, next_of}
 use Rattle.run_crashes.proofs.ReopenLemmas.{every_reopened_for}
@@ -62,6 +62,7 @@ moved stops.DiskFault hand g group xs last c0 m k from now memory d = go d
     go : CallMissing g group xs hand c0 m from now → Moved stops.DiskFault hand g group xs c0 m from now
     go (Nothing l) = InRoom refl l
     go (Part x is session tells few l) = InPart x refl is session tells few l
+moved (stops.Damaged place) hand g group xs last c0 m k from now memory never = absurd never
 
 -- the master of a fair image is of a run of this one
 left_counts : (g : Opening) (Such : List Done → List Event → Type 0) (xs : List Done) (c0 : Crash) (m : Master) (c : Crash) → RunLeft g Such xs c0 m c → CountsFrom g c0 m c
@@ -136,6 +137,12 @@ stands_now (stops.Refused line) hand g group xs last c0 m k from now memory not_
 stands_now stops.ReadFault hand g group xs last c0 m k from now memory not_disk d = record { known = d.known; stands = d.runs.between.stands; memory_is = d.memory_is; no_earlier = d.no_earlier }
 stands_now stops.WriteFault hand g group xs last c0 m k from now memory not_disk d = record { known = d.known; stands = d.stands; memory_is = d.memory_is; no_earlier = d.no_earlier }
 stands_now stops.DiskFault hand g group xs last c0 m k from now memory not_disk d = absurd (not_disk refl)
+stands_now (stops.Damaged place) hand g group xs last c0 m k from now memory not_disk d = absurd d
+
+-- of a disk that stood for the run no page was damaged
+pub damaged_not : (stop : Stop) (hand : Hand) (g : Opening) (group : ℕ) (xs : List Done) (last : List Event) (c0 : Crash) (m : Master) (k : Known) (from now : Story) (memory : Memory) (place : ℕ) → stop ≡ stops.Damaged place
+    → DiskTo (Some stop) hand g group xs last c0 m k from now memory → ⊥
+damaged_not stop hand g group xs last c0 m k from now memory place is d = subst (λ (s : Stop). DiskTo (Some s) hand g group xs last c0 m k from now memory) is d
 
 -- with these replies told, the first of the outcomes were heard
 pub record HeardNow (g : Opening) (calls : List Done) (told : List Reply) : Type 0 where

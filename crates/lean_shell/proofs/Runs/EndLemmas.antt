@@ -23,8 +23,8 @@ use Rattle.core_state.specs.Openings.{Opening}
 use Rattle.transcripts.specs.Laws.{EveryNotice, EveryTail}
 use Rattle.transcripts.specs.Told.{IsTail}
 use Rattle.transcripts.specs.Transcripts.{first_lines, IsQuiet}
-use Rattle.lean_engine.specs.Openings.{Shows}
-use Rattle.lean_engine.specs.declared.engine.Size.{Size}
+use Rattle.paged_engine.specs.Openings.{Shows}
+use Rattle.paged_engine.specs.declared.opening.Size.{Size}
 use Rattle.lean_shell.specs.Crashes.{IsYoung, MasterLeaves, TellsCrashes}
 use Rattle.lean_shell.specs.Headline.{Headline, RunLeaves}
 use Rattle.lean_shell.specs.Ends.{RunEnds}

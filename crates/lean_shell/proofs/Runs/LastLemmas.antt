@@ -56,6 +56,7 @@ ended_read (stops.Refused line) e = absurd (omega arith)
 ended_read stops.ReadFault e = refl
 ended_read stops.WriteFault e = absurd (omega arith)
 ended_read stops.DiskFault e = absurd (omega arith)
+ended_read (stops.Damaged place) e = absurd (omega arith)
 
 ended_disk : (stop : Stop) → ended stop ≡ 6 → stop ≡ stops.DiskFault
 ended_disk stops.End e = absurd (omega arith)
@@ -63,6 +64,7 @@ ended_disk (stops.Refused line) e = absurd (omega arith)
 ended_disk stops.ReadFault e = absurd (omega arith)
 ended_disk stops.WriteFault e = absurd (omega arith)
 ended_disk stops.DiskFault e = refl
+ended_disk (stops.Damaged place) e = absurd (omega arith)
 
 pub read_cause : (before now : ℕ) (stop : Stop) (status : ℕ) → status ≡ ended stop → HasCause before now (stop ≡ stops.ReadFault) → HasCause before now (status ≡ 4)
 read_cause before now stop status is c = record { later = c.later; cause = λ e. c.cause (ended_read stop (sym is ∙ e)); calm = λ none. c.calm (λ e. none (is ∙ ap ended e)) }
@@ -73,6 +75,7 @@ ended_write (stops.Refused line) e = absurd (omega arith)
 ended_write stops.ReadFault e = absurd (omega arith)
 ended_write stops.WriteFault e = refl
 ended_write stops.DiskFault e = absurd (omega arith)
+ended_write (stops.Damaged place) e = absurd (omega arith)
 
 -- of a count that may still rise behind the script
 pub write_blame : (before now last : ℕ) (stop : Stop) (status : ℕ) → status ≡ ended stop → HasCause before now (stop ≡ stops.WriteFault) → now ≤ last → IsBlamed before last (status ≡ 5)
@@ -135,4 +138,5 @@ last_of stops.End held0 held1 sink0 sink1 old new e = nothing_put stops.End held
 last_of stops.WriteFault held0 held1 sink0 sink1 old new e = nothing_put stops.WriteFault held0 held1 sink0 sink1 old new (λ before earlier. (refl, subst (Rose before) (sym e.1) (earlier.cause refl))) e.0 e.2
 last_of (stops.Refused line) held0 held1 sink0 sink1 old new e = line_put (stops.Refused line) (Notice.Refused line) e.0 refl (λ q. cc) (λ text before now w. w) held0 held1 sink0 sink1 old new e.1.0 e.1.1 e.1.2
 last_of stops.ReadFault held0 held1 sink0 sink1 old new e = line_put stops.ReadFault Notice.ReadFault tt refl (λ q. cc) (λ text before now w. w) held0 held1 sink0 sink1 old new e.0 e.1 e.2
+last_of (stops.Damaged place) held0 held1 sink0 sink1 old new e = line_put (stops.Damaged place) (Notice.Damaged 1 place) e.0 refl (λ q. cc) (λ text before now w. w) held0 held1 sink0 sink1 old new e.1.0 e.1.1 e.1.2
 last_of stops.DiskFault held0 held1 sink0 sink1 old new e = line_put stops.DiskFault Notice.DiskFault tt refl (λ q. cc) (λ text before now w. w) held0 held1 sink0 sink1 old new e.0 e.1 e.2

@@ -31,7 +31,7 @@ use Rattle.disk_image.specs.Masters.{IsOfRun}
 use Rattle.disk_image.specs.MasterSlots.{master_on}
 use Rattle.disk_image.specs.Shown.{Areas, DiskStandsFor, image_by, run_of, shown_by}
 use Rattle.core_state.specs.Events.{Event}
-use Rattle.core_state.specs.Openings.{Opening, first_map, start_page}
+use Rattle.core_state.specs.Openings.{Opening, first_map}
 use Rattle.core_calls.specs.Crashes.{HasOneInHand}
 use Rattle.core_calls.specs.Deeds.{Committed, Deed, Outcome, answered, asked, in_words}
 use Rattle.core_calls.specs.Deeds as deeds
@@ -44,9 +44,9 @@ use Rattle.disk_runs.specs.Fair.{EveryFair, IsAsRead, IsFairFrom}
 use Rattle.disk_runs.specs.Masters.{IsNoEarlier, masters}
 use Rattle.disk_runs.proofs.LineLemmas.{every_master_count}
 use Rattle.run_crashes.specs.Lines.{FellIn, Between, InCall, Stopped, Recovers, RunLeft, next_of, outcome_of}
-use Rattle.engine_trait.specs.Calls.{Memory}
+use Rattle.call_parts.specs.Memory.{Memory}
 use Rattle.engine_trait.specs.Limits.{limits}
-use Rattle.lean_engine.specs.declared.engine.Size.{Size}
+use Rattle.paged_engine.specs.declared.opening.Size.{Size}
 use Rattle.script_lang.specs.Replies.{reply_line}
 use Rattle.script_lang.specs.Text.{script_lines}
 use Rattle.transcripts.specs.Told.{EachLineFits, IsOutput, asked_lines}
@@ -60,7 +60,7 @@ use Rattle.lean_shell.specs.Headline.{IsInHand, Survives}
 use Rattle.lean_shell.specs.Inside.Begins.{Begins}
 use Rattle.lean_shell.specs.Inside.Laws.{Laws}
 use Rattle.lean_shell.specs.Inside.Lefts.{IsSameBut, Lives}
-use Rattle.lean_shell.specs.Starts.{HasLinesFor, IsLeft, IsOfSize, IsRoomOfNext}
+use Rattle.lean_shell.specs.Starts.{HasLinesFor, IsBaseOf, IsLeft, IsOfSize, IsRoomOfNext}
 use Rattle.lean_shell.proofs.Runs.BeginLemmas.{one_greatest}
 use Rattle.lean_shell.proofs.Runs.BelowLemmas.{commit_above}
 use Rattle.lean_shell.proofs.Runs.ClockLemmas.{goes_to}
@@ -111,7 +111,6 @@ pub record WasOut (Such Then : List Done → List Event → Type 0) (AreIts : Op
   pub few : length (front xs) ≤ 2 ^ 59
   pub so_few : (es : List Event) → Such left.heard es → length es ≤ 2 ^ 18
   pub counts : CountsFrom g c0 n1 crash
-  pub pages : Leaves (sa.area 1) (crash.image 1)
   pub same : IsSameBut crash d
   pub lines : ℕ
   pub notes : d.notes ≡ s0.notes + lines
@@ -161,9 +160,6 @@ module _ (size : Size) (laws : Laws) (m : Master) (s0 sa : Story) (g : Opening) 
 
   durables_are : durables out ≡ names o.left.out
   durables_are = names_told laws.back laws.quiet generation winners undone o.left.out out o.output
-
-  one_is : o.crash.image 1 ≡ (sa.area 1).bytes
-  one_is = o.pages.clean b.settled.clean
 
   -- a fair image is one from the beginning of the run on
   pub fair_from : EveryFair s0 → IsAsRead s0 c0 → IsFairCrash (length m.heads) s0 d → IsFairFrom g.workers c0 o.crash
@@ -359,15 +355,8 @@ module _ (size : Size) (laws : Laws) (m : Master) (s0 sa : Story) (g : Opening) 
     abbrev with_bytes : Areas → Crash
     with_bytes i = record d { image = i }
 
-    -- a page's base shows by generation, number of pages and bytes
-    abbrev base_at : (generation pages p : ℕ) → List ℕ → Option Contents
-    base_at generation pages p bytes = base_of (shown_by (record first.master { generation = generation; pages = pages }) (λ (a : ℕ). bytes)) p
-
-    base_is : (p : ℕ) → p < r.n.pages → base_of (shown_by r.n o.crash.image) p ≡ Some (start_page g p)
-    base_is p low =
-        ap (λ (n : ℕ). base_at n r.n.pages p (o.crash.image 1)) generation_is
-        ∙ (ap (λ (n : ℕ). base_at first.master.generation n p (o.crash.image 1)) of_first.pages
-        ∙ (ap (base_at first.master.generation first.master.pages p) one_is ∙ b.base p (let e = of_first.pages in omega arith)))
+    bases : (p : ℕ) → p < r.n.pages → IsBaseOf g by p (base_of (shown_by r.n o.crash.image) p)
+    bases p low = let h = r.holds.pages p low in record { page = h.page; is = h.base; version = h.version }
 
     fell_then : FellIn (Such o.left.heard) (next_of o.left.unheard) r.behind → FellIn (Then g o.left.heard) (next_of o.left.unheard) r.behind
     fell_then (Between e) = Between e
@@ -384,7 +373,6 @@ module _ (size : Size) (laws : Laws) (m : Master) (s0 sa : Story) (g : Opening) 
       opening = g;
       starts = b.starts;
       of_size = of_size;
-      base = base_is;
       heard = o.left.heard;
       each = each_heard;
       told = told_is;
@@ -402,6 +390,7 @@ module _ (size : Size) (laws : Laws) (m : Master) (s0 sa : Story) (g : Opening) 
       fell = fell_then r.fell;
       written = refl;
       floor = r.holds.is.floor;
+      bases = bases;
       logs = λ w low high. let h = r.holds.logs w low (let e = workers_are in omega arith) in record { newer = h.holds.prefix.0; left = h.left; logged = h.holds.prefix.1; flushed = h.holds.flushed; are = h.holds.entries };
     }
 
@@ -447,7 +436,12 @@ module _ (size : Size) (laws : Laws) (m : Master) (s0 sa : Story) (g : Opening) 
           let floor = r.holds.is.floor.low in
           let own = (goes_to g by).floor in
           let top : high ≤ g.base + length by = greatest_most image high (g.base + length by) h (omega (arith, floor, own)) found_low
-          (λ p within. let e = ap (λ o. (page_or o).gsn) (base_is p within) in let d = g.low p in omega arith) in
+          (λ p within.
+          let h = r.holds.pages p within in
+          let e = ap (λ o. (page_or o).gsn) h.base in
+          let v = (laws.versions g by p).known h.page h.version.been in
+          let d = (goes_to g by).pages p in
+          omega arith) in
           omega (arith, top, base, v);
     }
 

@@ -14,7 +14,7 @@ use Rattle.core_state.specs.Openings.{Opening}
 use Rattle.disk_image.specs.Shown.{IsCleanDisk}
 use Rattle.recovery.specs.Crashes.{RecoveryLeaves}
 use Rattle.transcripts.specs.Transcripts.{first_lines, IsQuiet}
-use Rattle.lean_engine.specs.declared.engine.Size.{Size}
+use Rattle.paged_engine.specs.declared.opening.Size.{Size}
 use Rattle.lean_shell.proofs.Runs.NoteLemmas.{put_notes}
 use Rattle.lean_shell.specs.Inside.Lefts.{IsSameBut, LivesOn}
 use Rattle.lean_shell.proofs.Runs.QuietLemmas.{quiet_leaves}

@@ -11,10 +11,11 @@ use Rattle.recovery.specs.Opened.{IsGreatest, IsOpened, IsRecovered}
 use Rattle.recovery.specs.Telling.{TellsAll}
 use Rattle.core_state.specs.Openings.{start_page}
 use Rattle.run_opening.specs.Starts.{empty_log}
-use Rattle.lean_engine.specs.Openings as engine
-use Rattle.lean_engine.specs.Openings.{BeginsOn, HasOpened}
-use Rattle.lean_engine.specs.States.{State, memory_in}
-use Rattle.lean_engine.specs.declared.engine.Size.{Size}
+use Rattle.paged_engine.specs.Openings as engine
+use Rattle.paged_engine.specs.Openings.{BeginsOn}
+use Rattle.buffered_engine.specs.Openings.{HasOpened}
+use Rattle.buffered_engine.specs.States.{State, memory_in}
+use Rattle.paged_engine.specs.declared.opening.Size.{Size}
 use Rattle.lean_shell.specs.Inside.Begins.{Begins, HasStarted, began}
 use Rattle.lean_shell.specs.Runs.{Counts, IsFrom, first_log}
 use Rattle.lean_shell.specs.Starts.{IsOfSize}
@@ -56,8 +57,6 @@ module _ {D : Type 0} (size : Size) (s0 sa : Story) (e : State D) (generation wo
   begins m tells clean = record {
     next = b.next;
     of_run = next_of_run m (memory_in e).master b.next.base b.next.is;
-    base = λ p low. subst (λ (n : Master). p < n.pages → base_of (shown_by n (areas_of sa)) p ≡ Some (start_page o.opening p)) (sym o.master) (page p) low;
-    settled = i.settled 1 (omega arith);
     starts = b.start;
     map = b.map;
     known = (b.begins (began s0) (record { image = λ a. refl; writes = λ a. refl })).known;
@@ -68,15 +67,6 @@ module _ {D : Type 0} (size : Size) (s0 sa : Story) (e : State D) (generation wo
       b : BeginsOn o.opening (memory_in e) s0 sa m
       b = o.clean tells m clean
 
-      i : IsOpened m (areas_of s0) o.recovered sa
-      i = o.is.opened tells m clean
-
-      page : (p : ℕ) → p < o.recovered.master.pages → base_of (shown_by o.recovered.master (areas_of sa)) p ≡ Some (start_page o.opening p)
-      page p low =
-          let pages = ap (λ (y : Master). y.pages) (recovered tells m clean.master).master in
-          let own : p < m.pages = omega arith in
-          i.base p own ∙ ap (λ (v : Contents). Some v) (sym (b.start.pages p own))
-
   of_size : IsOfSize size o.opening
   of_size = let t = o.in_run.tied.ties 1 in record { few = few; changes = t.opens.changes; joined = t.opens.joined; rows = o.rows; frames = o.frames }
 
@@ -86,6 +76,6 @@ module _ {D : Type 0} (size : Size) (s0 sa : Story) (e : State D) (generation wo
     from = from;
     log = log_is;
     master = λ tells m there. o.master ∙ master_is tells m there;
-    untouched = o.is.logs;
+    untouched = λ a high. o.is.beyond a (let b = o.in_run.workers in let d = o.sessions in omega arith);
     begins = begins;
   }

@@ -46,6 +46,7 @@ all_put (stops.Refused line) all told tail not_write p = p
 all_put stops.ReadFault all told tail not_write p = p
 all_put stops.WriteFault all told tail not_write p = absurd (not_write refl)
 all_put stops.DiskFault all told tail not_write p = p
+all_put (stops.Damaged place) all told tail not_write p = p
 
 -- what was told are the first of the replies
 pub told_first : (stop : Stop) (all told : List Reply) (tail : List ℕ) → PrintsTo (Some stop) all told tail → (newer : List Reply) × (newer ++ told ≡ all)
@@ -54,6 +55,7 @@ told_first (stops.Refused line) all told tail p = ([], p.told_is)
 told_first stops.ReadFault all told tail p = ([], p.told_is)
 told_first stops.WriteFault all told tail p = (p.later ++ p.next ∷ [], append_assoc p.later (p.next ∷ []) told ∙ p.split)
 told_first stops.DiskFault all told tail p = ([], p.told_is)
+told_first (stops.Damaged place) all told tail p = ([], p.told_is)
 
 -- what stands behind the replies, with a last line behind it
 pub both_tails : (stop : Stop) (tail text : List ℕ) → IsTailOf stop tail → ((stop ≡ stops.WriteFault → ⊥) → IsTail text) → (stop ≡ stops.WriteFault → text ≡ []) → IsTail (tail ++ text)
@@ -67,4 +69,5 @@ both_tails stop tail text is behind none = go stop is behind none
     go (stops.Refused line) e behind none = only e (behind (λ q. cc))
     go stops.ReadFault e behind none = only e (behind (λ q. cc))
     go stops.DiskFault e behind none = only e (behind (λ q. cc))
+    go (stops.Damaged place) e behind none = only e (behind (λ q. cc))
     go stops.WriteFault t behind none = subst IsTail (sym (ap (λ (x : List ℕ). tail ++ x) (none refl) ∙ append-nil tail)) t

@@ -21,7 +21,7 @@ use Rattle.transcripts.specs.Transcripts.{first_lines, transcript, IsQuiet}
 use Rattle.lean_shell.specs.Crashes.{IsUnwritten, MasterLeaves}
 use Rattle.lean_shell.specs.Headline.{RunLeaves}
 use Rattle.lean_shell.specs.Starts.{IsOfOpening}
-use Rattle.lean_engine.specs.declared.engine.Size.{Size}
+use Rattle.paged_engine.specs.declared.opening.Size.{Size}
 use Rattle.lean_shell.specs.Inside.Lefts.{IsSameBut, Lives, LivesOn}
 use Rattle.lean_shell.proofs.Runs.NearLemmas.{near_still}
 

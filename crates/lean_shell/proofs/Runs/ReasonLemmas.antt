@@ -7,14 +7,15 @@ use Rattle.recovery.specs.Telling.{TellsAll}
 use Rattle.recovery.specs.declared.opening.Recovered.{Recovered}
 use Rattle.recovery.specs.declared.opening.Unrecovered.{Unrecovered}
 use Rattle.recovery.specs.declared.opening.Unrecovered.TheVariants as why
-use Rattle.lean_engine.specs.Openings.{Shows}
+use Rattle.paged_engine.specs.Openings.{Shows}
 
 -- the disk shows the reason
 pub shows : (s : Story) (result : Result Recovered Unrecovered) (reason : Unrecovered) → result ≡ Err reason
     → (result ≡ Err why.NotFormatted → TellsAll 16 s → HasOpenable 16 (areas_of s) → ⊥)
+    → ((area place : ℕ) → result ≡ Err (why.Damaged area place) → TellsAll 16 s → HasOpenable 16 (areas_of s))
     → ((area place : ℕ) → result ≡ Err (why.Damaged area place) → TellsAll 16 s → IsDamaged (areas_of s) area place)
     → Shows 16 s reason
-shows s result why.NotFormatted is none damaged = none is
-shows s result (why.Damaged area place) is none damaged = damaged area place is
-shows s result why.DiskFault is none damaged = tt
-shows s result why.Memory is none damaged = tt
+shows s result why.NotFormatted is none formatted damaged = none is
+shows s result (why.Damaged area place) is none formatted damaged = λ tells. (formatted area place is tells, damaged area place is tells)
+shows s result why.DiskFault is none formatted damaged = tt
+shows s result why.Memory is none formatted damaged = tt

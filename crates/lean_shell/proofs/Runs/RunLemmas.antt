@@ -46,10 +46,10 @@ use Rattle.disk_runs.proofs.LineLemmas.{every_fair, every_master_line}
 use Rattle.disk_runs.proofs.ReadLemmas.{every_read}
 use Rattle.disk_runs.proofs.StandLemmas.{every_same}
 use Rattle.engine_calls.specs.Clauses.{Between}
-use Rattle.engine_trait.specs.Calls.{Memory}
+use Rattle.call_parts.specs.Memory.{Memory}
 use Rattle.worker_log.specs.Logs.{Log}
 use Rattle.engine_trait.specs.Limits.{limits}
-use Rattle.lean_engine.specs.declared.engine.Size.{Size}
+use Rattle.paged_engine.specs.declared.opening.Size.{Size}
 use Rattle.run_crashes.specs.Lines.{NoneStopped, Recovers, RunLeft, next_of}
 use Rattle.transcripts.specs.Laws.{NextLaws}
 use Rattle.transcripts.specs.Told.{opened_line, text_of, EachReplyFits, IsOutput}
@@ -75,7 +75,7 @@ use Rattle.lean_shell.specs.Runs.AreFirst.{Among, Behind}
 use Rattle.lean_shell.specs.Runs.HowRun.{OfScript}
 use Rattle.lean_shell.specs.Starts.{AllAnswered, HasLinesFor, IsAskedNext, IsLeft, IsRoomOfNext}
 use Rattle.lean_shell.proofs.Runs.CountLemmas.{few_printed, two_a_line}
-use Rattle.lean_shell.proofs.Runs.DiskLemmas.{HeardNow, InPart, InRoom, InRun, IsCutLast, Moved, StandsNow, asked_of, both, counts_moved, heard_now, lines_with, moved, stands_now}
+use Rattle.lean_shell.proofs.Runs.DiskLemmas.{HeardNow, InPart, InRoom, InRun, IsCutLast, Moved, StandsNow, asked_of, both, counts_moved, damaged_not, heard_now, lines_with, moved, stands_now}
 use Rattle.lean_shell.proofs.Runs.LastLemmas.{Last, last_of}
 use Rattle.lean_shell.proofs.Runs.LeftLemmas.{CountsFrom, WasOut, left_there, lives_as, survives_there}
 use Rattle.lean_shell.proofs.Runs.MomentLemmas.{line_moments, put_moments, same_but, then}
@@ -176,6 +176,7 @@ module _ (size : Size) (few : size.sessions ≤ 16) (laws : Laws) (s0 sa sb sc s
       go (stops.Refused line) e = all (λ q. cc)
       go stops.ReadFault e = all (λ q. cc)
       go stops.DiskFault e = all (λ q. cc)
+      go (stops.Damaged place) e = all (λ q. cc)
       go stops.WriteFault e =
           let f = (laws.printed g r.newer).first text.later text.out (text.first ∙ replies_are) in
           record { heard = f.heard; unheard = f.later; are = f.are; all_heard = λ q. absurd (q e); answers = f.answers }
@@ -311,10 +312,6 @@ module _ (size : Size) (few : size.sessions ≤ 16) (laws : Laws) (s0 sa sb sc s
     counts_all : LeavesOnly sb sc (CountsFrom g c0 first.master)
     counts_all = counts_moved stop r.hand g size.group (r.newer ++ []) c0 first.master sb sc (moved stop r.hand g size.group (r.newer ++ []) (front r.newer) c0 first.master b.known sb sc r.memory disk_first.1)
 
-    -- the area of the pages is that of the opening
-    pages_kept : (c : Crash) → StaysAside g.workers (length r.told) sb c → Leaves (sa.area 1) (c.image 1)
-    pages_kept c stays = subst (λ (x : Area). Leaves x (c.image 1)) (noted.area 1) (stays.leaves 1 (inl refl) (stands_b.tells 1 (omega arith)))
-
     -- the replies that were out are the first of those that were told
     abbrev Older : List Reply → Type 0
     Older told = (n : List Reply) × (n ++ told ≡ r.replies)
@@ -426,7 +423,7 @@ module _ (size : Size) (few : size.sessions ≤ 16) (laws : Laws) (s0 sa sb sc s
       -- so it was out
       was_out : (c : Crash) (q : Q c) → Knows Such xs c q.1.0 → (d : Crash) → IsSameBut c d → (lines_out : ℕ) → d.notes ≡ s0.notes + lines_out → IsOutput counts.generation counts.winners counts.undone q.1.0.out (first_lines lines_out put)
           → WasOut Such (IsRoomOfNext input g) Its g xs c0 m first.master s0 sa input put counts.generation counts.winners counts.undone d
-      was_out c q k d same lines_out notes is = record { crash = c; left = q.1.0; so = k.so; alone = k.alone; its = (refl, k.its); few = k.short; so_few = k.so_few; counts = q.1.1; pages = pages_kept c q.0; same = same; lines = lines_out; notes = notes; output = is; script = lines }
+      was_out c q k d same lines_out notes is = record { crash = c; left = q.1.0; so = k.so; alone = k.alone; its = (refl, k.its); few = k.short; so_few = k.so_few; counts = q.1.1; same = same; lines = lines_out; notes = notes; output = is; script = lines }
 
       lives_on : (d : Crash) → WasOut Such (IsRoomOfNext input g) Its g xs c0 m first.master s0 sa input put counts.generation counts.winners counts.undone d → LivesOn size Its m s0 input put d
       lives_on d w = inr (λ fair. lives_as size laws m s0 sa g first few o.of_size b xs each_x c0 input put counts.generation counts.winners counts.undone d Such Its w (every_fair s0) as_began fair)
@@ -471,6 +468,10 @@ module _ (size : Size) (few : size.sessions ≤ 16) (laws : Laws) (s0 sa sb sc s
     pub leaves : LeavesOnly s0 s1 (LivesOn size Its m s0 input put)
     leaves = leaves_by (subst (λ (xs : List Done). Moved stop r.hand g size.group xs c0 m sb sc) nil (moved stop r.hand g size.group (r.newer ++ []) (front r.newer) c0 m b.known sb sc r.memory disk.1))
 
+    -- no page was damaged
+    pub undamaged : (place : ℕ) → stop ≡ stops.Damaged place → ⊥
+    undamaged place is = damaged_not stop r.hand g size.group (r.newer ++ []) (front r.newer) c0 m b.known sb sc r.memory place is disk.1
+
     -- as a read gives it
     module _ (no_fault : stop ≡ stops.DiskFault → ⊥) where
       st : StandsNow g r.newer (front r.newer) c0 b.known sc r.memory
@@ -511,6 +512,7 @@ module _ (size : Size) (few : size.sessions ≤ 16) (laws : Laws) (s0 sa sb sc s
           by_stop stops.ReadFault is q xs e = whole xs e q.told_is
           by_stop stops.WriteFault is q xs e = last_cut xs e (r.cut (ap (λ (z : Stop). Some z) is))
           by_stop stops.DiskFault is q xs e = absurd (no_fault is)
+          by_stop (stops.Damaged place) is q xs e = whole xs e q.told_is
 
           go : (xs : List Done) → r.newer ≡ xs → IsCutLast g xs r.told
           go xs e = by_stop stop refl r.prints xs e
@@ -532,6 +534,7 @@ module _ (size : Size) (few : size.sessions ≤ 16) (laws : Laws) (s0 sa sb sc s
           go (stops.Refused line) e = whole (λ q. cc)
           go stops.ReadFault e = whole (λ q. cc)
           go stops.DiskFault e = whole (λ q. cc)
+          go (stops.Damaged place) e = whole (λ q. cc)
           go stops.WriteFault e = ⊎_elim none_left
               (λ one. ButNewest e one.0 (sym now_heard.are ∙ ap (λ (xs : List Done). xs ++ now_heard.heard) one.1) (ap next_of one.1)) now_heard.newest
 
@@ -544,11 +547,6 @@ module _ (size : Size) (few : size.sessions ≤ 16) (laws : Laws) (s0 sa sb sc s
 
       abbrev q1 : RunLeft g NoneStopped r.newer c0 m c1
       q1 = record { unheard = now_heard.unheard; heard = now_heard.heard; calls = now_heard.are; missing = now_heard.missing; out = r.told; lines = now_heard.lines; notes = refl; recovers = λ fair. recovered }
-
-      pages_1 : Leaves (sa.area 1) (areas_of s1 1)
-      pages_1 =
-          let same : s1.area 1 ≡ sa.area 1 = l.notes.area 1 ∙ (r.others.area 1 (inl refl) ∙ noted.area 1) in
-          subst (λ (x : Area). Leaves x (areas_of s1 1)) same (law_1.reads_so 1 (stands_1.tells 1 (omega arith)))
 
       at_first : (n : Master) × IsOfRun first.master n × (Rattle.disk_image.specs.MasterSlots.master_on (areas_of s1 0) ≡ Some n)
       at_first = (st.known.master, ((lines_law first.master b.known.master st.known.master).opened [] (front r.newer) of_first st.no_earlier).of_run, holds_now.master)
@@ -563,7 +561,6 @@ module _ (size : Size) (few : size.sessions ≤ 16) (laws : Laws) (s0 sa sb sc s
         few = omega (arith, all_few);
         so_few = λ es none. absurd none;
         counts = λ fair. at_first;
-        pages = pages_1;
         same = record { writes = λ a. refl; image = λ a. refl };
         lines = lines_out;
         notes = notes;
@@ -613,7 +610,7 @@ module _ (size : Size) (few : size.sessions ≤ 16) (laws : Laws) (s0 sa sb sc s
 
   -- behind the logs of the sessions nothing is written
   beside : (a : ℕ) → suc g.workers < a → IsUntouched (s0.area a) (s1.area a)
-  beside a high = subst (λ (x : Area). IsUntouched (s0.area a) x) (sym (l.notes.area a ∙ (r.others.area a (inr (inl high)) ∙ noted.area a))) (o.untouched a (omega (arith, high)))
+  beside a high = subst (λ (x : Area). IsUntouched (s0.area a) x) (sym (l.notes.area a ∙ (r.others.area a high ∙ (noted.area a ∙ o.untouched a high)))) (record { bytes = refl; writes = refl; first = refl })
 
   pub run_ends : (status : ℕ) → status ≡ ended stop → (sink0 : ℕ) → HasCause sink0 sink_c (stop ≡ stops.WriteFault) → ((a : ℕ) → 1 + size.sessions < a → sa.area a ≡ s0.area a) → IsClosed stop r.newer → RunEnds size status s0 s1 feed0 feed1 held0 held1 sink0 sink1
   run_ends status is sink0 sinks others closed = record {
@@ -647,11 +644,12 @@ module _ (size : Size) (few : size.sessions ≤ 16) (laws : Laws) (s0 sa sb sc s
         transcript_is = all_tells tells;
       };
       beside = beside;
+      undamaged = λ tells m all clean young. undamaged tells m all clean young;
       stands = λ no_fault tells m all clean young. stands tells m all clean young no_fault;
       left = λ no_fault tells m all clean young. stays tells m all clean young no_fault;
       disk = λ no_fault tells m all clean young. on_disk tells m all clean young no_fault;
     });
-    others = λ a lt. l.notes.area a ∙ (r.others.area a (inr (inl (let f = o.of_size.few in omega arith))) ∙ (noted.area a ∙ others a lt));
+    others = λ a lt. l.notes.area a ∙ (r.others.area a (let f = o.of_size.few in omega arith) ∙ (noted.area a ∙ others a lt));
     tells_on = record {
       counts = l.notes.counts ∙ (r.others.counts ∙ (noted.counts ∙ keeps.counts));
       tells = λ a. l.notes.tells a ∙ (r.others.tells a ∙ (noted.tells a ∙ keeps.tells a));

@@ -10,7 +10,7 @@ use Rattle.core_state.specs.Openings.{Opening}
 use Rattle.core_calls.specs.Deeds.{asked}
 use Rattle.core_calls.specs.Fronts.{Done}
 use Rattle.core_calls.specs.Runs.{EachTells, Tells}
-use Rattle.engine_trait.specs.Calls.{Memory}
+use Rattle.call_parts.specs.Memory.{Memory}
 use Rattle.engine_trait.specs.Limits.{limits}
 use Rattle.script_lang.specs.Text.{script_lines}
 use Rattle.script_run.specs.Runs.{Executes, calls_of}

@@ -12,7 +12,7 @@ use Rattle.core_calls.specs.Fronts.{Done, front}
 use Rattle.core_calls.specs.Runs.{IsRefused, Tells}
 use Rattle.engine_trait.specs.Limits.{limits}
 use Rattle.script_run.specs.Runs.{Executes}
-use Rattle.engine_trait.specs.Calls.{Memory}
+use Rattle.call_parts.specs.Memory.{Memory}
 
 same_why : (a b : Refusal) → answer.Refused a ≡ answer.Refused b → a ≡ b
 same_why a b e = cc

@@ -16,8 +16,8 @@ use Rattle.script_lang.specs.Reading.{Unread}
 use Rattle.script_run.specs.Runs.{ScriptRuns}
 use Rattle.script_run.specs.declared.stop.Stop.{Stop}
 use Rattle.script_run.specs.declared.stop.Stop.TheVariants as stops
-use Rattle.engine_trait.specs.Calls.{Memory}
-use Rattle.lean_engine.specs.declared.engine.Size.{Size}
+use Rattle.call_parts.specs.Memory.{Memory}
+use Rattle.paged_engine.specs.declared.opening.Size.{Size}
 use Rattle.lean_shell.specs.Ends.{RunEnds}
 use Rattle.lean_shell.specs.Headline.{Headline}
 use Rattle.lean_shell.specs.Inside.Begins.{HasStarted}

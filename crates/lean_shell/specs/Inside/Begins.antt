@@ -1,21 +1,19 @@
 -- Words of private functions: a run of the core begins on a disk that was opened.
-use Rattle.std.specs.Prelude.{◌≡◌, ◌<◌, ◌≤◌, ◌+◌, ℕ, [], Some}
+use Rattle.std.specs.Prelude.{◌≡◌, ◌<◌, ◌≤◌, ◌+◌, ℕ, suc, [], Some}
 use Rattle.lean_disk.specs.Story.{Crash, Story, areas_of}
 use Rattle.disk_slots.specs.declared.master.Master.{Master}
 use Rattle.disk_image.specs.Masters.{IsOfRun}
 use Rattle.disk_image.specs.MasterSlots.{master_on}
-use Rattle.disk_image.specs.Shown.{image_by, shown_by, IsCleanDisk}
+use Rattle.disk_image.specs.Shown.{image_by, IsCleanDisk}
 use Rattle.image_model.specs.Images.{map_of}
-use Rattle.image_model.specs.Slots.{base_of}
 use Rattle.recovery.specs.Crashes.{IsNextOf}
 use Rattle.recovery.specs.Masters.{next_master}
-use Rattle.recovery.specs.Opened.{IsSettled, IsUntouched}
 use Rattle.recovery.specs.Starts.{IsStartOf}
 use Rattle.recovery.specs.Telling.{TellsAll}
-use Rattle.core_state.specs.Openings.{Opening, first_map, start_page}
+use Rattle.core_state.specs.Openings.{Opening, first_map}
 use Rattle.disk_runs.specs.Stands.{Known, Stands}
-use Rattle.engine_trait.specs.Calls.{IsOf, Memory}
-use Rattle.lean_engine.specs.declared.engine.Size.{Size}
+use Rattle.call_parts.specs.Memory.{IsOf, Memory}
+use Rattle.paged_engine.specs.declared.opening.Size.{Size}
 use Rattle.lean_shell.specs.Runs.{Counts, IsFrom, first_log}
 use Rattle.lean_shell.specs.Starts.{IsOfSize}
 
@@ -23,13 +21,11 @@ use Rattle.lean_shell.specs.Starts.{IsOfSize}
 abbrev pub began : Story → Crash
 began s = record { notes = s.notes + 1; writes = λ a. (s.area a).writes; image = areas_of s }
 
--- A clean disk that told s0 was opened and tells sa: a run stands there before its first event, with this in memory. By its master the base of each page is the
--- opening's, and the area of the pages is settled. The opening is the start that the disk gave, with the map for which it stood.
+-- A clean disk that told s0 was opened and tells sa: a run stands there before its first event, with this in memory. The opening is the start that the disk gave,
+-- with the map for which it stood.
 pub record Begins (m : Master) (s0 sa : Story) (g : Opening) (first : Memory) : Type 0 where
   pub next : IsNextOf m (areas_of s0) first.master
   pub of_run : IsOfRun m first.master
-  pub base : (p : ℕ) → p < first.master.pages → base_of (shown_by first.master (areas_of sa)) p ≡ Some (start_page g p)
-  pub settled : IsSettled (sa.area 1)
   pub starts : IsStartOf m (areas_of s0) g
   pub map : (k : ℕ) → first_map g k ≡ map_of (image_by m (areas_of s0)) k
   pub known : Known
@@ -42,5 +38,5 @@ pub record HasStarted (size : Size) (s0 sa : Story) (g : Opening) (first : Memor
   pub from : TellsAll size.sessions s0 → IsFrom size.sessions g s0 n
   pub log : TellsAll size.sessions s0 → (m : Master) → master_on (areas_of s0 0) ≡ Some m → (w : ℕ) → 0 < w → w ≤ g.workers → first.log w ≡ first_log m g.base w
   pub master : TellsAll size.sessions s0 → (m : Master) → master_on (areas_of s0 0) ≡ Some m → first.master ≡ next_master m g.base
-  pub untouched : (a : ℕ) → 1 < a → IsUntouched (s0.area a) (sa.area a)
+  pub untouched : (a : ℕ) → suc g.workers < a → sa.area a ≡ s0.area a
   pub begins : (m : Master) → TellsAll size.sessions s0 → IsCleanDisk m (areas_of s0) → Begins m s0 sa g first

@@ -16,7 +16,7 @@ pub record IsLine (app : App) (line : Line) : Type 0 where
 -- the numbers of workers, of pages and of blocks
 pub record GivesShape (options : List Row) (shape : Shape) : Type 0 where
   pub workers : Gives options (codes "workers") 1 16 shape.workers
-  pub pages : Gives options (codes "pages") 16 4096 shape.pages
+  pub pages : Gives options (codes "pages") 16 65536 shape.pages
   pub blocks : Gives options (codes "blocks") 64 4096 shape.blocks
 
 -- a command's name and its options ask for this

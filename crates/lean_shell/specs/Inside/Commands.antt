@@ -11,7 +11,7 @@ use Rattle.lean_shell.specs.Headline.{Headline}
 use Rattle.lean_shell.specs.Words.{Asks, AsksNothing}
 use Rattle.lean_shell.specs.declared.words.Command.TheVariants.{Dump, Format, Run}
 use Rattle.disk_format.specs.declared.shape.Shape.{Shape}
-use Rattle.lean_engine.specs.declared.engine.Size.{Size}
+use Rattle.paged_engine.specs.declared.opening.Size.{Size}
 
 -- how often source, sink and disk had failed
 pub record Counts : Type 0 where

@@ -5,6 +5,7 @@ use Rattle.core_calls.specs.Durables.{EveryDurable}
 use Rattle.core_calls.specs.Printed.{EveryPrinted}
 use Rattle.core_calls.specs.Told.{EveryTold}
 use Rattle.core_disk.specs.Shows.{EveryShown}
+use Rattle.core_disk.specs.Versions.{EveryVersion}
 use Rattle.disk_image.specs.Laws.{EveryAgreement, EveryBlockIn, EverySealed}
 use Rattle.script_run.specs.Texts.{EveryScript}
 use Rattle.std.specs.Prelude.{◌≡◌, Some, None}
@@ -23,6 +24,7 @@ pub record Laws : Type 0 where
   pub told : EveryTold
   pub crashes : EveryRunCrash
   pub shown : EveryShown
+  pub versions : EveryVersion
   -- replies are read back, and notices are no replies
   pub back : (reply : Reply) → Fits reply → (reply_of (reply_text reply) ≡ Some reply) × IsLine (reply_text reply)
   pub quiet : (line : Notice) → NoticeFits line → (reply_of (notice_text line) ≡ None) × IsLine (notice_text line)

@@ -5,7 +5,7 @@ use Rattle.disk_slots.specs.declared.master.Master.{Master}
 use Rattle.disk_image.specs.Fair.{IsFairCrash}
 use Rattle.core_calls.specs.Fronts.{Done}
 use Rattle.core_state.specs.Openings.{Opening}
-use Rattle.lean_engine.specs.declared.engine.Size.{Size}
+use Rattle.paged_engine.specs.declared.opening.Size.{Size}
 use Rattle.lean_shell.specs.Crashes.{HasMasterOf, IsUnwritten}
 use Rattle.lean_shell.specs.Headline.{Survives}
 

@@ -18,6 +18,7 @@ abbrev pub EndsWith : Stop → Held → Held → (sink0 sink1 : ℕ) → Story �
 EndsWith stop.End held0 held1 sink0 sink1 s0 s1 = (held1 ≡ held0) × (sink1 ≡ sink0) × TellsSame s0 s1
 EndsWith stop.WriteFault held0 held1 sink0 sink1 s0 s1 = (held1 ≡ held0) × (sink1 ≡ sink0) × TellsSame s0 s1
 EndsWith (stop.Refused line) held0 held1 sink0 sink1 s0 s1 = NoticeFits (Notice.Refused line) × ((answer : Put) × IsPut (last_line (stop.Refused line)) answer held0 held1 s0 s1 × HasCause sink0 sink1 (answer ≡ put.Failed))
+EndsWith (stop.Damaged place) held0 held1 sink0 sink1 s0 s1 = NoticeFits (Notice.Damaged 1 place) × ((answer : Put) × IsPut (last_line (stop.Damaged place)) answer held0 held1 s0 s1 × HasCause sink0 sink1 (answer ≡ put.Failed))
 EndsWith stop.ReadFault held0 held1 sink0 sink1 s0 s1 = (answer : Put) × IsPut (last_line stop.ReadFault) answer held0 held1 s0 s1 × HasCause sink0 sink1 (answer ≡ put.Failed)
 EndsWith stop.DiskFault held0 held1 sink0 sink1 s0 s1 = (answer : Put) × IsPut (last_line stop.DiskFault) answer held0 held1 s0 s1 × HasCause sink0 sink1 (answer ≡ put.Failed)
 

@@ -2,7 +2,7 @@ use Rattle.std.proofs.Common.{IsTrue, [], Some, refl, sym, ap, ◌∙◌, subst,
 use Rattle.lean_edge.specs.declared.sink.Put.{Put}
 use Rattle.lean_edge.specs.Outside.{added}
 use Rattle.recovery.specs.Telling.{TellsAll}
-use Rattle.lean_engine.specs.States.{memory_in}
+use Rattle.buffered_engine.specs.States.{InRun, memory_in}
 use Rattle.lean_shell.specs.Ends.{RunEnds}
 use Rattle.lean_shell.specs.Headline.{Headline}
 use Rattle.lean_shell.specs.Inside.Assembled.{RunSays}
@@ -93,7 +93,7 @@ says g c =
     let whole =
     subst (λ n. (r : ScriptRuns (Some c.run_script-stop.result) n c.args.size.group o.opening [] 0 feed0 [] (memory_in c.put_opened.new.engine) (memory_in c.run_script-stop.new.engine) c.run_script-stop.new.reader (g.S.Source.feed c.run_script-stop.new.source) (g.K.Sink.held c.put_opened.new.sink) (g.K.Sink.held c.run_script-stop.new.sink) (g.D.Disk.story c.put_opened.new.engine.disk) (g.D.Disk.story c.run_script-stop.new.engine.disk)) × IsClosed c.run_script-stop.result r.newer) (c.put_opened.ensures.sizes.0 ∙ sym o.in_run.workers)
     (subst (λ n. (r : ScriptRuns (Some c.run_script-stop.result) c.put_opened.new.engine.sessions n o.opening [] 0 feed0 [] (memory_in c.put_opened.new.engine) (memory_in c.run_script-stop.new.engine) c.run_script-stop.new.reader (g.S.Source.feed c.run_script-stop.new.source) (g.K.Sink.held c.put_opened.new.sink) (g.K.Sink.held c.run_script-stop.new.sink) (g.D.Disk.story c.put_opened.new.engine.disk) (g.D.Disk.story c.run_script-stop.new.engine.disk)) × IsClosed c.run_script-stop.result r.newer) (c.put_opened.ensures.sizes.1 ∙ o.group)
-    (let there = (c.run_script-stop.ensures.runs o.opening [] feed0 [] (c.put_opened.ensures.in_run o.opening [] [] o.in_run) (c.in-Ok.ensures feed0)) in (there.0, closed_by c.run_script-stop.result c.run_script-stop.new.engine o.opening there.0.newer there.1 c.run_script-stop.ensures.next))) in
+    (let there = (c.run_script-stop.ensures.runs o.opening [] feed0 [] (c.put_opened.ensures.in_run o.opening [] [] o.in_run) (c.in-Ok.ensures feed0)) in (there.0, closed_by (λ xs names. InRun c.run_script-stop.new.engine o.opening xs names) c.run_script-stop.new.engine.next (λ xs names run. (c.told.ensures.told o.opening xs names run).1) o.opening c.run_script-stop.result there.0.newer there.1 c.run_script-stop.ensures.next))) in
     every_run c.laws.ensures
     s0 sa (g.D.Disk.story c.put_opened.new.engine.disk) (g.D.Disk.story c.run_script-stop.new.engine.disk) (g.D.Disk.story c.put_last.new.engine.disk)
     c.args.size feed0 (g.S.Source.feed c.run_script-stop.new.source) (g.K.Sink.held c.args.sink.now) (g.K.Sink.held c.put_opened.new.sink) (g.K.Sink.held c.run_script-stop.new.sink) (g.K.Sink.held c.put_last.new.sink)

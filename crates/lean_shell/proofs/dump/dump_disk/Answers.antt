@@ -13,7 +13,7 @@ returns-in-Err-clause-ends g c =
     let law = ((g.met.D.Disk g.world.𝓛 g.world.𝓜 g.world.𝓡 ((λ s x. x), (λ x. x), (λ x. x), (λ x. x))).lawful c.recover.new.disk) in
     refused (story c.args.disk.now) (story c.recover.new.disk) (story c.put_reason.new.disk) law
     (record { keeps = e.keeps; logs = e.logs; others = e.others; any = e.any_moment }) c.in-Err.reason
-    (shows (story c.args.disk.now) c.recover.result c.in-Err.reason c.in-Err.is e.cause_not_formatted e.cause_damaged) c.in-Err.ensures.left
+    (shows (story c.args.disk.now) c.recover.result c.in-Err.reason c.in-Err.is e.cause_not_formatted e.formatted e.cause_damaged) c.in-Err.ensures.left
     (g.K.Sink.held c.args.sink.now) (g.K.Sink.held c.put_reason.new.sink) (g.K.Sink.faults c.args.sink.now) (g.K.Sink.faults c.put_reason.new.sink) c.put_reason.result c.status_of.result c.status_of.ensures c.put_reason.ensures.put c.put_reason.ensures.cause
 
 pub returns-in-Err-clause-cause_write_fault : goal.returns-in-Err-clause-cause_write_fault

@@ -3,7 +3,7 @@ use Rattle.core_state.specs.Steps.{state_after}
 use Rattle.core_calls.specs.Durables.{due}
 use Rattle.core_calls.specs.Fronts.{front}
 use Rattle.lean_edge.specs.declared.sink.Put.TheVariants.{Done, Failed}
-use Rattle.engine_trait.specs.Turns.{name_of}
+use Rattle.engine_front.specs.Turns.{name_of}
 use Rattle.script_run.proofs.DueLemmas.{none_taken, one_taken, one_failed}
 use Rattle.script_run.proofs.replies.put_durables.Goals as goal
 

@@ -1,20 +1,23 @@
 use Rattle.std.proofs.Common.{◌∷◌, ◌∙◌, ℕ, subst, arith}
 use Rattle.core_calls.specs.Durables.{durables, moments}
 use Rattle.core_calls.specs.Steps.{hindered_in}
-use Rattle.engine_trait.specs.Calls.{Fails}
+use Rattle.call_parts.specs.Deeds.{Fails}
+use Rattle.engine_front.specs.Stops.{StandsNot}
+use Rattle.script_run.specs.Inside.{StopsFor}
+use Rattle.script_run.specs.declared.stop.Stop.TheVariants.{DiskFault}
 use Rattle.script_run.proofs.FitLemmas.{abort_behind, abort_fits}
 use Rattle.script_run.proofs.StepLemmas.{abort_answer, abort_fault}
-use Rattle.script_run.proofs.StopLemmas.{no_cause, putting_no_disk, putting_runs, some_no_none}
+use Rattle.script_run.proofs.StopLemmas.{no_cause, putting_no_disk, putting_runs, ok_no_err}
 use Rattle.script_run.proofs.run.abort_hindered.Goals as goal
 
-pub returns-in_default-clause-runs : goal.returns-in_default-clause-runs
-returns-in_default-clause-runs g c o y earlier call run hindered session =
+pub returns-in-Err-clause-runs : goal.returns-in-Err-clause-runs
+returns-in-Err-clause-runs g c o y earlier call run hindered session =
     let E = g.E.Calls in
     let D = g.D.Disk in
     let e0 = c.args.engine.now in
     let e1 = c.abort_engine.new.engine in
-    abort_fault c.laws.ensures (E.group e0) o (y ∷ earlier) (E.memory e0) (g.K.Sink.held c.args.sink.now) (D.story (E.disk e0)) c.told.ensures.lawful (E.in_run e1 o) (record { session = c.args.session; call = call }) (D.story (E.disk e1)) (E.memory e1)
-    (subst (λ (w : ℕ). Fails o (E.group e0) (y ∷ earlier) w call (E.memory e0) (D.story (E.disk e0)) (D.story (E.disk e1))) session (c.abort_engine.ensures.fails c.in_default.is o y earlier (durables o (moments (y ∷ earlier))) run call hindered))
+    abort_fault c.laws.ensures (E.group e0) o (y ∷ earlier) (E.memory e0) (g.K.Sink.held c.args.sink.now) (D.story (E.disk e0)) c.told.ensures.lawful (E.in_run e1 o) (record { session = c.args.session; call = call }) (D.story (E.disk e1)) c.in-Err.stop (E.memory e1) (c.in-Err.ensures).stops
+    (subst (λ (w : ℕ). StopsFor c.in-Err.stop (Fails o (E.group e0) (y ∷ earlier) w call (E.memory e0) (D.story (E.disk e0)) (D.story (E.disk e1))) (StandsNot o (E.group e0) (y ∷ earlier) (E.memory e0) (D.story (E.disk e0)))) session ((c.in-Err.ensures).fails o y earlier (durables o (moments (y ∷ earlier))) run call hindered))
 
 pub returns-clause-runs : goal.returns-clause-runs
 returns-clause-runs g c o y earlier call run hindered session =
@@ -24,13 +27,13 @@ returns-clause-runs g c o y earlier call run hindered session =
     let e1 = c.abort_engine.new.engine in
     let e2 = c.put_answer.new.engine in
     let put = c.put_answer.ensures in
-    let a = c.in-Some.answer in
-    let does = (c.in-Some.ensures).does o y earlier (durables o (moments (y ∷ earlier))) run call hindered in
+    let a = c.in-Ok.answer in
+    let does = (c.in-Ok.ensures).does o y earlier (durables o (moments (y ∷ earlier))) run call hindered in
     let x = does.0.done in
-    let fits = abort_fits c.args.session call a x.outcome.deed (abort_behind (hindered_in y.outcome.deed) call y.outcome.session x.outcome hindered does.0.happens.tells.hindered) does.0.answer_is (omega arith) (c.in-Some.ensures).fits in
+    let fits = abort_fits c.args.session call a x.outcome.deed (abort_behind (hindered_in y.outcome.deed) call y.outcome.session x.outcome hindered does.0.happens.tells.hindered) does.0.answer_is (omega arith) (c.in-Ok.ensures).fits in
     let says = put.says o (y ∷ earlier) x does.1 (does.0.session ∙ session) does.0.answer_is fits in
     abort_answer c.laws.ensures (E.group e0) o (y ∷ earlier) (E.memory e0) (g.K.Sink.held c.args.sink.now) (D.story (E.disk e0)) c.told.ensures.lawful (E.in_run e2 o) (record { session = c.args.session; call = call }) (D.story (E.disk e1))
-    y.outcome.session a (E.memory e1) (E.memory e2) does.0 (g.K.Sink.held c.put_answer.new.sink) (D.story (E.disk e2)) put.same.0 (c.in-Some.ensures).last c.put_answer.result put.stops says.0 says.1
+    y.outcome.session a (E.memory e1) (E.memory e2) does.0 (g.K.Sink.held c.put_answer.new.sink) (D.story (E.disk e2)) put.same.0 (c.in-Ok.ensures).last c.put_answer.result put.stops says.0 says.1
 
 pub returns-clause-stops : goal.returns-clause-stops
 returns-clause-stops g c = putting_runs c.put_answer.result c.put_answer.ensures.stops
@@ -40,4 +43,4 @@ returns-clause-cause_disk_fault g c =
     let faults = g.D.Disk.faults in
     let disk = g.E.Calls.disk in
     no_cause (faults (disk c.args.engine.now)) (faults (disk c.put_answer.new.engine)) _
-    (c.put_answer.ensures.same.2 ∙ c.abort_engine.ensures.cause.calm (some_no_none c.abort_engine.result c.in-Some.answer c.in-Some.is)) (putting_no_disk c.put_answer.result c.put_answer.ensures.stops)
+    (c.put_answer.ensures.same.2 ∙ c.abort_engine.ensures.cause.calm (ok_no_err c.abort_engine.result c.in-Ok.answer DiskFault c.in-Ok.is)) (putting_no_disk c.put_answer.result c.put_answer.ensures.stops)

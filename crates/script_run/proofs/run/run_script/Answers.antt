@@ -1,5 +1,6 @@
 use Rattle.std.proofs.Common.{◌≡◌, ◌≤◌, ◌+◌, ◌-◌, ◌^◌, ℕ, None, Some, is_some, true≢false, refl, sym, ap, ◌∙◌, subst, arith}
 use Rattle.script_run.specs.Inside.{Stepped}
+use Rattle.script_run.specs.Runs.{works_behind}
 use Rattle.script_run.proofs.StepLemmas.{first_step}
 use Rattle.script_run.proofs.ThenLemmas.{same_sizes, stepped_then}
 use Rattle.script_run.proofs.run.run_script.Goals as goal
@@ -47,8 +48,8 @@ loop-number-preserved g c =
           subst P same (stepped_then c.laws.ensures (E.sessions e0) (E.group e0) o xs start f1 f2 seen (E.memory e0) (E.memory e1) (E.memory e2) c.loop-number.reader c.take_step.new.reader h0 h1 h2 s0 s1 s2 None n (E.in_run e1 o) (E.in_run e2 o) a 1
           (λ ys more stands reads. same_sizes (E.in_run e2 o) 1 None (E.sessions e1) (E.sessions e0) (E.group e1) (E.group e0) o ys n start f2 more (E.memory e1) (E.memory e2) c.take_step.new.reader h1 h2 s1 s2 was_so.sessions was_so.group
           ((c.in_default.ensures).runs o ys start more stands reads)));
-      works = step.works (λ e. true≢false (sym (ap is_some e) ∙ ap is_some c.in_default.is));
-      next = step.next (λ e. true≢false (sym (ap is_some e) ∙ ap is_some c.in_default.is)) (λ e. true≢false (sym (ap is_some e) ∙ ap is_some c.in_default.is));
+      works = step.works ∙ ap works_behind c.in_default.is;
+      next = step.next (λ e. true≢false (sym (ap is_some e) ∙ ap is_some c.in_default.is)) (ap works_behind c.in_default.is);
       sessions = step.sizes.0 ∙ was_so.sessions;
       group = step.sizes.1 ∙ was_so.group;
       reading = step.cause_read_fault.calm (λ e. true≢false (sym (ap is_some e) ∙ ap is_some c.in_default.is)) ∙ was_so.reading;

@@ -2,7 +2,7 @@ use Rattle.std.proofs.Common.{◌≡◌, ◌-◌, ℕ, true, List, None}
 use Rattle.core_state.specs.Openings.{Opening}
 use Rattle.core_calls.specs.Durables.{durables, moments}
 use Rattle.core_calls.specs.Fronts.{Done}
-use Rattle.engine_trait.specs.declared.calls.Next.TheVariants.{Line}
+use Rattle.engine_front.specs.declared.calls.Next.TheVariants.{Line}
 use Rattle.lean_edge.specs.Outside.{Feed}
 use Rattle.script_lang.specs.Reading.{Reading}
 use Rattle.script_run.specs.Inside.{Stepped}

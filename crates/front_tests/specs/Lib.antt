@@ -1,0 +1,2 @@
+-- Puppets has what the double has in memory.
+pub mod Puppets
