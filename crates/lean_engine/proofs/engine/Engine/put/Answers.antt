@@ -1,9 +1,0 @@
-use Rattle.std.proofs.Common.{subst}
-use Rattle.map_model.specs.declared.call.Answer.{Answer}
-use Rattle.map_model.specs.declared.call.Call.TheVariants as calls
-use Rattle.lean_engine.specs.Calls.{Asked}
-use Rattle.lean_engine.proofs.engine.Engine.put.Goals as goal
-
-pub returns-in-Was-clause-asked : goal.returns-in-Was-clause-asked
-returns-in-Was-clause-asked g c =
-    subst (λ (a : Answer). Asked g.D.Disk.story c.args.session (calls.Put c.args.key c.args.value) a c.args.self.now c.ask.new.self) c.in-Was.is c.ask.ensures.asked

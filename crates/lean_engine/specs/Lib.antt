@@ -1,7 +1,0 @@
--- Read Calls, what a call says, and Openings, what an opening gives; States has the runs in which an engine stands, and Receipts when a commit is durable. Machines says in which runs. Inside has the words of private functions.
-pub mod Machines
-pub mod States
-pub mod Openings
-pub mod Calls
-pub mod Receipts
-pub mod Inside

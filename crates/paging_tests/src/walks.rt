@@ -1,0 +1,65 @@
+// Random lines over many keys.
+use crate::plain::{Plain, SESSIONS};
+use crate::runs::any_below;
+use map_model::Call;
+use rand_core::utils::NextWord;
+use rand_pcg::Pcg32;
+use std::process::Abort;
+
+// So many of the keys are asked for by every other line.
+const FEW: u64 = 8;
+
+/// Scripts over a tree whose keys are the even numbers below a bound: how many lines each has, and how many of a hundred end a transaction.
+#[derive(Clone, Copy)]
+pub(crate) struct Walk {
+    pub bound: u64,
+    pub lines: u32,
+    pub ends: u32,
+}
+
+// One of a few keys, or any one, also one that is not there.
+fn any_key(random: &mut Pcg32, bound: u64) -> u64 {
+    if random.next_word() % 2 == 0 {
+        return any_below(random, FEW).saturating_mul(bound / FEW);
+    }
+    any_below(random, bound)
+}
+
+// A line of a session in a transaction.
+fn any_call(random: &mut Pcg32, walk: &Walk) -> Call {
+    let key = any_key(random, walk.bound);
+    let value = any_below(random, 1000);
+    if random.next_word() % 100 < walk.ends {
+        return match random.next_word() % 3 {
+            0 => Call::Abort,
+            _ => Call::Commit,
+        };
+    }
+    match random.next_word() % 8 {
+        0..=2 => Call::Get { key },
+        3..=6 => Call::Put { key, value },
+        _ => Call::Del { key },
+    }
+}
+
+/// Adds the lines of a script: mostly a session has some in a row. There is a sync in 64 lines, and one at the end.
+pub(crate) fn add_lines<R: Abort>(rt: &R, random: &mut Pcg32, plain: &mut Plain, walk: &Walk) {
+    let mut session = 1;
+    for _ in 0..walk.lines {
+        let pick = random.next_word() % 64;
+        if pick == 0 {
+            plain.add_sync(rt);
+        } else {
+            if pick < 16 {
+                session = random.next_word() % SESSIONS + 1;
+            }
+            if plain.is_open(session) {
+                let call = any_call(random, walk);
+                plain.add(rt, session, call);
+            } else {
+                plain.add_begin(rt, session);
+            }
+        }
+    }
+    plain.add_sync(rt);
+}
