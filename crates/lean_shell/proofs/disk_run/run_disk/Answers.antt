@@ -1,4 +1,4 @@
-use Rattle.std.proofs.Common.{IsTrue, [], Some, refl, sym, ap, ◌∙◌, subst, arith}
+use Rattle.std.proofs.Common.{◌≡◌, ◌≤◌, ℕ, IsTrue, [], Some, refl, sym, ap, ◌∙◌, subst, arith}
 use Rattle.lean_edge.specs.declared.sink.Put.{Put}
 use Rattle.lean_edge.specs.Outside.{added}
 use Rattle.recovery.specs.Telling.{TellsAll}
@@ -77,6 +77,16 @@ returns-in_default-put_opened-clause-headline g c tells =
     subst (λ d. IsTrue (g.K.Sink.held c.args.sink.now).tells → TellsAll c.args.size.sessions s0 → Headline s0 (g.D.Disk.story d) (g.S.Source.feed c.args.source.now).left (added (g.K.Sink.held c.args.sink.now) (g.K.Sink.held c.put_opened.new.sink))) (sym c.close.ensures)
     (cut_headline c.args.size c.laws.ensures.notice s0 sa (g.D.Disk.story c.put_opened.new.engine.disk) ((g.met.D.Disk g.world.𝓛 g.world.𝓜 g.world.𝓡 ((λ s x. x), (λ x. x), (λ x. x), (λ x. x))).lawful n.engine.disk) k.keeps k.any_moment (g.S.Source.feed c.args.source.now)
     (counts c.args.size s0 sa n.engine n.generation n.winners n.undone o) c.put_opened.ensures.fits (g.K.Sink.held c.args.sink.now) (g.K.Sink.held c.put_opened.new.sink) c.put_opened.result c.put_opened.ensures.put c.laws.ensures.tail)
+
+pub returns-in_default-put_opened-clause-cause_write_fault : goal.returns-in_default-put_opened-clause-cause_write_fault
+returns-in_default-put_opened-clause-cause_write_fault g c =
+    record { later = c.put_opened.ensures.cause.later; cause = λ _. c.put_opened.ensures.cause.cause (put_not_done c.put_opened.result c.in_default-put_opened.not-Done) }
+
+pub returns-in_default-put_opened-clause-cause_disk_fault : goal.returns-in_default-put_opened-clause-cause_disk_fault
+returns-in_default-put_opened-clause-cause_disk_fault g c =
+    let faults = g.D.Disk.faults in
+    let same : faults c.close.result ≡ faults c.args.disk = ap faults c.close.ensures ∙ (c.put_opened.ensures.same.2 ∙ c.in-Ok-open.ensures.no_fault) in
+    record { later = subst (λ (n : ℕ). faults c.args.disk ≤ n) (sym same) (omega arith); cause = λ e. absurd (omega (arith, e)); calm = λ _. same }
 
 -- ## A run
 
