@@ -27,13 +27,14 @@ struct Tree {
 }
 
 // Trees of some 200, 600 and 2,000 pages: put in rising order, each leaf has 30 of the even keys.
-static TREES: [Tree; 4] = [
+static TREES: [Tree; 5] = [
     Tree {
         pages: "400",
         blocks: "512",
         frames: "32",
         reads: 800,
         walk: Walk {
+            sessions: 3,
             bound: 12_000,
             lines: 80,
             ends: 12,
@@ -46,6 +47,7 @@ static TREES: [Tree; 4] = [
         frames: "33",
         reads: 800,
         walk: Walk {
+            sessions: 3,
             bound: 12_000,
             lines: 250,
             ends: 1,
@@ -58,6 +60,7 @@ static TREES: [Tree; 4] = [
         frames: "36",
         reads: 2048,
         walk: Walk {
+            sessions: 3,
             bound: 36_000,
             lines: 120,
             ends: 8,
@@ -70,11 +73,25 @@ static TREES: [Tree; 4] = [
         frames: "40",
         reads: 8192,
         walk: Walk {
+            sessions: 3,
             bound: 120_000,
             lines: 200,
             ends: 6,
         },
         scripts: 8,
+    },
+    Tree {
+        pages: "400",
+        blocks: "512",
+        frames: "32",
+        reads: 800,
+        walk: Walk {
+            sessions: 1,
+            bound: 12_000,
+            lines: 150,
+            ends: 5,
+        },
+        scripts: 40,
     },
 ];
 
@@ -83,6 +100,9 @@ const CRASHES: u64 = 20;
 
 // How many of its calls fail, one in each of so many runs.
 const FAULTS: u64 = 4;
+
+// A script makes fewer calls of an area than these.
+const MOST: u64 = 1000;
 
 // The areas of a disk of three sessions.
 const AREAS: u32 = 5;
@@ -189,18 +209,18 @@ fn run_in<R: Threads + Wait + Sync + Abort>(
     run_command(rt, alloc, &command, text, disk)
 }
 
-// A call of an area fails: the run ends with status 6, its lines are a prefix of those that are wanted, and behind a crash what was told durable is there.
-fn fail_once<R: Threads + Wait + Sync + Abort>(
+// A call of an area fails: the run ends with status 6, its lines are a prefix of those that are wanted, and behind a crash what was told durable is there. Whether the
+// run made the call.
+fn fail_at<R: Threads + Wait + Sync + Abort>(
     rt: &R,
     alloc: Global,
     random: &mut Pcg32,
     scene: &Scene<'_>,
     tree: &Tree,
     disk: &MemDisk,
-) {
-    let area = random.next_word() % AREAS;
-    let opening = if area == 1 { tree.reads } else { 0 };
-    let call = opening.saturating_add(any_below(random, 200));
+    area: u32,
+    call: u64,
+) -> bool {
     let mut faulty = at_rest(rt, disk);
     faulty.fail_at(area, [call].to_vec(alloc).expect(rt, MEMORY));
     let run = run_in(
@@ -212,7 +232,7 @@ fn fail_once<R: Threads + Wait + Sync + Abort>(
         faulty,
     );
     if run.status == 0 {
-        return;
+        return false;
     }
     let printed = run.printed();
     expect(rt, "the status of a fault", run.status == 6);
@@ -225,6 +245,22 @@ fn fail_once<R: Threads + Wait + Sync + Abort>(
     let crash = any_crash(random, end, end);
     let left = crashed(rt, alloc, &run.disk, &crash);
     judge(rt, alloc, scene, &run, end, &left);
+    true
+}
+
+// One of the calls fails behind the reads of an opening, at random.
+fn fail_once<R: Threads + Wait + Sync + Abort>(
+    rt: &R,
+    alloc: Global,
+    random: &mut Pcg32,
+    scene: &Scene<'_>,
+    tree: &Tree,
+    disk: &MemDisk,
+) {
+    let area = random.next_word() % AREAS;
+    let opening = if area == 1 { tree.reads } else { 0 };
+    let call = opening.saturating_add(any_below(random, 200));
+    fail_at(rt, alloc, random, scene, tree, disk, area, call);
 }
 
 // A script on a disk, its faults and its crashes. What the last crash leaves.
@@ -240,6 +276,7 @@ fn run_once<R: Threads + Wait + Sync + Abort>(
     let mut plain = Plain::new(alloc, copied(alloc, before).expect(rt, MEMORY), number);
     add_lines(rt, random, &mut plain, &tree.walk);
     let group = match any_below(random, 3) {
+        _ if tree.walk.sessions == 1 => "1",
         0 => "1",
         1 => "2",
         _ => "64",
@@ -252,6 +289,14 @@ fn run_once<R: Threads + Wait + Sync + Abort>(
         "the lines of a run",
         run.status == 0 && met == Some(plain.wanted.len()),
     );
+    if tree.walk.sessions == 1 {
+        let whole = run_in(rt, alloc, group, "4096", text, at_rest(rt, disk));
+        expect(
+            rt,
+            "the lines of a run with all pages in frames",
+            whole.printed() == run.printed(),
+        );
+    }
     let scene = Scene {
         before,
         plain: &plain,
@@ -303,4 +348,32 @@ fn random_scripts_over_600_pages_are_answered_as_by_a_plain_map(rt: HostRuntime)
 #[test]
 fn random_scripts_over_2000_pages_are_answered_as_by_a_plain_map(rt: HostRuntime) {
     go(&rt, rt.alloc(), 3);
+}
+
+#[test]
+fn scripts_of_one_session_print_the_same_in_few_frames(rt: HostRuntime) {
+    go(&rt, rt.alloc(), 4);
+}
+
+// Each call of the disk behind the reads of the opening, until the run makes no more.
+#[test]
+fn each_call_that_fails_keeps_what_was_told(rt: HostRuntime) {
+    let alloc = rt.alloc();
+    let tree = TREES.get(4).expect(&rt, "a tree");
+    let mut random = Pcg32::new(43, 4);
+    let (disk, before) = grown(&rt, alloc, tree);
+    let mut plain = Plain::new(alloc, copied(alloc, &before).expect(&rt, MEMORY), 1);
+    add_lines(&rt, &mut random, &mut plain, &tree.walk);
+    let scene = Scene {
+        before: &before,
+        plain: &plain,
+    };
+    for area in 0..AREAS {
+        let first = if area == 1 { tree.reads } else { 1 };
+        let mut is_made = true;
+        for call in first..first.saturating_add(MOST) {
+            is_made = is_made && fail_at(&rt, alloc, &mut random, &scene, tree, &disk, area, call);
+        }
+        expect(&rt, "the calls of an area", !is_made);
+    }
 }

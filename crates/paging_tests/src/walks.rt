@@ -1,5 +1,5 @@
 // Random lines over many keys.
-use crate::plain::{Plain, SESSIONS};
+use crate::plain::Plain;
 use crate::runs::any_below;
 use map_model::Call;
 use rand_core::utils::NextWord;
@@ -9,9 +9,10 @@ use std::process::Abort;
 // So many of the keys are asked for by every other line.
 const FEW: u64 = 8;
 
-/// Scripts over a tree whose keys are the even numbers below a bound: how many lines each has, and how many of a hundred end a transaction.
+/// Scripts of so many sessions over a tree whose keys are the even numbers below a bound: how many lines each has, and how many of a hundred end a transaction.
 #[derive(Clone, Copy)]
 pub(crate) struct Walk {
+    pub sessions: u32,
     pub bound: u64,
     pub lines: u32,
     pub ends: u32,
@@ -42,6 +43,14 @@ fn any_call(random: &mut Pcg32, walk: &Walk) -> Call {
     }
 }
 
+// One of so many sessions.
+fn any_session(random: &mut Pcg32, sessions: u32) -> u32 {
+    if sessions == 0 {
+        return 1;
+    }
+    (random.next_word() % sessions).saturating_add(1)
+}
+
 /// Adds the lines of a script: mostly a session has some in a row. There is a sync in 64 lines, and one at the end.
 pub(crate) fn add_lines<R: Abort>(rt: &R, random: &mut Pcg32, plain: &mut Plain, walk: &Walk) {
     let mut session = 1;
@@ -51,7 +60,7 @@ pub(crate) fn add_lines<R: Abort>(rt: &R, random: &mut Pcg32, plain: &mut Plain,
             plain.add_sync(rt);
         } else {
             if pick < 16 {
-                session = random.next_word() % SESSIONS + 1;
+                session = any_session(random, walk.sessions);
             }
             if plain.is_open(session) {
                 let call = any_call(random, walk);
