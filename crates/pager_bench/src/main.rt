@@ -1,0 +1,176 @@
+// What it takes to bring a page into a frame. With no argument a handful of each, and what they add up to; with a number N, N times 10,000
+// of each, with times.
+#![tactic(auto)]
+
+ghost use Rattle.std.specs.Prelude.{◌≡◌, ◌≤◌, ◌<◌, ◌^◌, IfOk, true};
+ghost use Rattle.pager_bench.specs.Rigs.{Stands};
+
+mod rig;
+
+use lean_bytes::seal;
+use lean_disk::{Disk, Read};
+use quiet_disk::QuietDisk;
+use quiet_disk::trees::{LEAVES, key_of};
+use rig::{Rig, opened};
+use std::time::Instant;
+use std::{env, io};
+
+/// A leaf that was brought so many ago often cools.
+const BACK: u32 = 15;
+
+// Brings the pages of ways to the leaves in turn: each leaf is cold then, and the page that leaves for it is clean. How many came.
+fn faults(rig: &mut Rig, times: u64) -> u64
+    requires stands { Stands rig.old }
+    ensures stands { Stands rig.new }
+{
+    let mut came = 0u64;
+    for i in 0..times {
+        let leaf = (i % u64::from(LEAVES)) as u32;
+        if let Some(false) = rig.bring(key_of(leaf, 0)) {
+            came = came.wrapping_add(1);
+        }
+    }
+    came
+}
+
+// The same, and behind each of them an earlier leaf is asked for again, which often cools. How many came.
+fn rescues(rig: &mut Rig, times: u64) -> u64
+    requires stands { Stands rig.old }
+    ensures stands { Stands rig.new }
+{
+    let mut came = 0u64;
+    for i in 0..times {
+        let leaf = (i % u64::from(LEAVES)) as u32;
+        if let Some(false) = rig.bring(key_of(leaf, 0)) {
+            came = came.wrapping_add(1);
+        }
+        if let Some(false) = rig.bring(key_of((leaf + LEAVES - BACK) % LEAVES, 0)) {
+            came = came.wrapping_add(1);
+        }
+    }
+    came
+}
+
+// Goes down a way whose pages are hot. How often they were.
+fn descents(rig: &mut Rig, times: u64) -> u64
+    requires stands { Stands rig.old }
+    ensures stands { Stands rig.new }
+{
+    let _ = rig.bring(key_of(0, 0));
+    let _ = rig.bring(key_of(0, 0));
+    let _ = rig.bring(key_of(0, 0));
+    let mut hot = 0u64;
+    for _i in 0..times {
+        if let Some(true) = rig.bring(key_of(0, 0)) {
+            hot = hot.wrapping_add(1);
+        }
+    }
+    hot
+}
+
+// Seals of as many bytes as a slot has below its seal. What their first bytes add up to.
+fn seals(times: u64) -> u64 {
+    let mut bytes = [0; 1008];
+    let mut sum = 0u64;
+    for i in 0..times {
+        bytes[0] = (i % 256) as u8;
+        sum = sum.wrapping_add(u64::from(seal(b"pageslot", &bytes)[0]));
+    }
+    sum
+}
+
+// Reads of slots of the disk. How many bytes they gave.
+fn reads(disk: &mut QuietDisk, times: u64) -> u64 {
+    let mut buffer = [0; 1024];
+    let mut sum = 0u64;
+    for i in 0..times {
+        if let Read::Got(count) = disk.read(1, 2048 * (i % 400), &mut buffer) {
+            sum = sum.wrapping_add(count as u64);
+        }
+    }
+    sum
+}
+
+// The argument, up to a hundred.
+fn argument(rt: &HostRuntime) -> io::Result<u64>
+    ensures { IfOk result (λ times. times ≤ 100) }
+{
+    let mut times = 0u64;
+    for word in env::args(rt)? {
+        times = word.as_str().parse::<u64>().unwrap_or(0);
+    }
+    Ok(times.min(100))
+}
+
+fn handful(rt: &HostRuntime) -> io::Result<()> {
+    let mut rig = opened(rt.alloc())?;
+    let a = faults(&mut rig, 200);
+    let b = rescues(&mut rig, 100);
+    let c = descents(&mut rig, 100);
+    let d = seals(100);
+    let e = reads(&mut rig.disk, 100);
+    println!(rt; "{a} {b} {c} {d} {e}")
+}
+
+// What was done, what it adds up to, and its microseconds.
+fn report(rt: &HostRuntime, done: &str, sum: u64, start: Instant) -> io::Result<()> {
+    let took = start.elapsed(rt)?.as_micros();
+    println!(rt; "{done} {sum} {took} us")
+}
+
+fn time_seals(rt: &HostRuntime, times: u64) -> io::Result<()> {
+    let start = Instant::now(rt)?;
+    let sum = seals(times);
+    report(rt, "seals", sum, start)
+}
+
+fn time_reads(rt: &HostRuntime, disk: &mut QuietDisk, times: u64) -> io::Result<()> {
+    let start = Instant::now(rt)?;
+    let sum = reads(disk, times);
+    report(rt, "reads", sum, start)
+}
+
+fn time_faults(rt: &HostRuntime, rig: &mut Rig, times: u64) -> io::Result<()>
+    requires { Stands rig.old }
+    ensures { Stands rig.new }
+{
+    let start = Instant::now(rt)?;
+    let sum = faults(rig, times);
+    report(rt, "faults", sum, start)
+}
+
+fn time_rescues(rt: &HostRuntime, rig: &mut Rig, times: u64) -> io::Result<()>
+    requires { Stands rig.old }
+    ensures { Stands rig.new }
+{
+    let start = Instant::now(rt)?;
+    let sum = rescues(rig, times);
+    report(rt, "faults and rescues", sum, start)
+}
+
+fn time_descents(rt: &HostRuntime, rig: &mut Rig, times: u64) -> io::Result<()>
+    requires { Stands rig.old }
+    ensures { Stands rig.new }
+{
+    let start = Instant::now(rt)?;
+    let sum = descents(rig, times);
+    report(rt, "hot descents", sum, start)
+}
+
+// So many of each; the first faults fill the frames.
+fn measure(rt: &HostRuntime, times: u64) -> io::Result<()> {
+    time_seals(rt, times)?;
+    let mut rig = opened(rt.alloc())?;
+    time_reads(rt, &mut rig.disk, times)?;
+    let _ = faults(&mut rig, 200);
+    time_faults(rt, &mut rig, times)?;
+    time_rescues(rt, &mut rig, times)?;
+    time_descents(rt, &mut rig, times)
+}
+
+fn main(rt: HostRuntime) -> io::Result<()> {
+    match argument(&rt)? {
+        0 => handful(&rt),
+        times => measure(&rt, times * 10000),
+    }
+}

@@ -1,0 +1,57 @@
+// What was seen in a walk.
+
+/// How often each thing was seen: a cold page came, or one that cooled; a page left clean, or saved; the area was synced before a save;
+/// the head of the queue could not go and one behind it did, or none could and one was cooled for it; no frame could be given; a page cooled
+/// that hung under that of the hand's frame; a free page came.
+#[derive(Clone, Copy, Debug)]
+pub struct Counts {
+    pub fills: u32,
+    pub rescues: u32,
+    pub clean: u32,
+    pub saves: u32,
+    pub settles: u32,
+    pub passed: u32,
+    pub chilled_for_one: u32,
+    pub crowded: u32,
+    pub deep: u32,
+    pub free: u32,
+}
+
+impl Counts {
+    /// Nothing was seen yet.
+    pub fn new() -> Counts {
+        Counts {
+            fills: 0,
+            rescues: 0,
+            clean: 0,
+            saves: 0,
+            settles: 0,
+            passed: 0,
+            chilled_for_one: 0,
+            crowded: 0,
+            deep: 0,
+            free: 0,
+        }
+    }
+
+    /// Each was seen ten times.
+    pub fn came_often(&self) -> bool {
+        let all = [
+            self.fills,
+            self.rescues,
+            self.clean,
+            self.saves,
+            self.settles,
+            self.passed,
+            self.chilled_for_one,
+            self.crowded,
+            self.deep,
+            self.free,
+        ];
+        let mut least = u32::MAX;
+        for count in all {
+            least = least.min(count);
+        }
+        least >= 10
+    }
+}
