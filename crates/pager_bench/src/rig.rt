@@ -60,7 +60,7 @@ impl Rig {
             1,
             key,
         ) {
-            Ok(done) => Some(done),
+            Ok(come) => Some(come.is_none()),
             Err(_) => {
                 self.works = false;
                 None
