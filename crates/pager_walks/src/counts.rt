@@ -1,8 +1,9 @@
 // What was seen in a walk.
 
 /// How often each thing was seen: a cold page came, or one that cooled; a page left clean, or saved; the area was synced before a save;
-/// the head of the queue could not go and one behind it did, or none could and one was cooled for it; no frame could be given; a page cooled
-/// that hung under that of the hand's frame; a free page came.
+/// the head of the queue could not go and one behind it did, or none could and one was cooled for it; no frame could be given, so a sync
+/// was made; a page cooled that hung under that of the hand's frame; a free page came, and half of a full one went into it; a key lost
+/// its value; commits were flushed; a crash was recovered.
 #[derive(Clone, Copy, Debug)]
 pub struct Counts {
     pub fills: u32,
@@ -14,7 +15,15 @@ pub struct Counts {
     pub chilled_for_one: u32,
     pub crowded: u32,
     pub deep: u32,
-    pub free: u32,
+    pub splits: u32,
+    pub dels: u32,
+    pub flushes: u32,
+    pub crashes: u32,
+}
+
+/// One more was seen.
+pub fn see(count: &mut u32) {
+    *count = count.saturating_add(1);
 }
 
 impl Counts {
@@ -30,7 +39,10 @@ impl Counts {
             chilled_for_one: 0,
             crowded: 0,
             deep: 0,
-            free: 0,
+            splits: 0,
+            dels: 0,
+            flushes: 0,
+            crashes: 0,
         }
     }
 
@@ -46,7 +58,10 @@ impl Counts {
             self.chilled_for_one,
             self.crowded,
             self.deep,
-            self.free,
+            self.splits,
+            self.dels,
+            self.flushes,
+            self.crashes,
         ];
         let mut least = u32::MAX;
         for count in all {

@@ -1,46 +1,41 @@
 // What is recovered from the disks that crashes leave.
-use btree_descent::descent::TOMBSTONE;
+use crate::nodes::DEAD;
+use crate::wrong::Wrong;
 use btree_node::Node;
 use lean_disk::{Choice, MemDisk};
 use quiet_disk::trees::{GAP, INNER, LEAVES, SLOTS, SPAN};
 use recovery::recover;
-use std::alloc::{AllocError, Global};
+use std::alloc::Global;
 
-/// What is recovered: how many transactions the log has committed, and the words of all leaves by their slots.
+/// What is recovered: how many transactions the log has committed, and the values of all slots.
 #[derive(Drop)]
-pub struct Recovered {
+pub struct Found {
     pub winners: u64,
-    pub words: Vec<Option<u64>>,
+    pub values: Vec<Option<u64>>,
 }
 
 /// What is recovered from what a crash leaves.
-pub fn crashed(
+pub fn left_by(
     alloc: Global,
     disk: &MemDisk,
     moment: u64,
     choice: Choice,
-) -> Result<Option<Recovered>, AllocError> {
+) -> Result<Found, Wrong> {
     let mut left = disk.crash(moment, choice)?;
     let Ok(recovered) = recover(alloc, &mut left, 1) else {
-        return Ok(None);
+        return Err(Wrong::Lost);
     };
-    let mut words = no_words(alloc)?;
+    let mut values = Vec::new(alloc);
+    values.resize((INNER * LEAVES) as usize * SLOTS, None)?;
     for node in &recovered.pages {
         if node.is_live() && node.level() == 0 {
-            put_words(&mut words, node);
+            set_values(&mut values, node);
         }
     }
-    Ok(Some(Recovered {
+    Ok(Found {
         winners: recovered.winners,
-        words,
-    }))
-}
-
-/// A word for each slot, none.
-pub fn no_words(alloc: Global) -> Result<Vec<Option<u64>>, AllocError> {
-    let mut words = Vec::new(alloc);
-    words.resize((INNER * LEAVES) as usize * SLOTS, None)?;
-    Ok(words)
+        values,
+    })
 }
 
 // The place of a key among all slots.
@@ -48,13 +43,13 @@ fn place_of(key: u64) -> usize {
     (key / SPAN) as usize * SLOTS + (key % SPAN / GAP) as usize
 }
 
-fn put_words(words: &mut Vec<Option<u64>>, node: &Node) {
+fn set_values(values: &mut Vec<Option<u64>>, node: &Node) {
     for at in 0..node.count() {
-        let value = node.word_at(at);
-        if let Some(word) = words.get_mut(place_of(node.key_at(at)))
-            && value < TOMBSTONE
+        let word = node.word_at(at);
+        if let Some(value) = values.get_mut(place_of(node.key_at(at)))
+            && word < DEAD
         {
-            *word = Some(value);
+            *value = Some(word);
         }
     }
 }

@@ -1,17 +1,32 @@
-//! A walk of random calls of a session and its pager, beside a plain program of where pages stand, with crashes.
+//! A walk of random calls of a session whose pages need not be in memory, beside a plain program, with crashes.
 #![tactic(auto)]
+
+#[cfg(test)]
+mod agrees;
+
+#[cfg(test)]
+mod calls;
 
 #[cfg(test)]
 mod counts;
 
 #[cfg(test)]
+mod crashes;
+
+#[cfg(test)]
+mod engine;
+
+#[cfg(test)]
 mod images;
+
+#[cfg(test)]
+mod nodes;
 
 #[cfg(test)]
 mod plain;
 
 #[cfg(test)]
-mod puts;
+mod pool;
 
 #[cfg(test)]
 mod random;
@@ -20,7 +35,10 @@ mod random;
 mod slots;
 
 #[cfg(test)]
-mod steps;
+mod trees;
 
 #[cfg(test)]
 mod walks;
+
+#[cfg(test)]
+mod wrong;

@@ -1,6 +1,6 @@
-// A walk of two thousand random calls.
-use crate::counts::Counts;
-use crate::walks::{Walk, Wrong};
+// Walks of random calls.
+use crate::walks::{Seen, Walk};
+use crate::wrong::Wrong;
 use lean_disk::Choice;
 use quiet_disk::trees::first_disk;
 use std::alloc::Global;
@@ -10,7 +10,25 @@ use std::test::Fail;
 /// The blocks of the log.
 const BLOCKS: u32 = 1024;
 
-const STEPS: u32 = 2000;
+// A walk: how it begins, how many steps it has, and of a hundred calls how many are puts, in turn for 250 steps each.
+struct Mix {
+    name: &'static str,
+    seed: u64,
+    steps: u32,
+    puts: [u32; 2],
+}
+
+static WALKS: [Mix; 1] = [Mix {
+    name: "short and long transactions in turn",
+    seed: 1,
+    steps: 2000,
+    puts: [36, 46],
+}];
+
+// At each so many steps a crash is tried by the plain program, and by recovery.
+const IMAGES: u32 = 100;
+
+const CRASHES: u32 = 100;
 
 static CHOICES: [Choice; 4] = [
     Choice::NoBytes,
@@ -20,19 +38,21 @@ static CHOICES: [Choice; 4] = [
 ];
 
 // A step, and what is wrong behind it.
-fn step(walk: &mut Walk, alloc: Global, step: u32) -> Result<(), Wrong> {
-    walk.step(if step / 250 % 2 == 0 { 20 } else { 33 })?;
-    walk.agrees()?;
-    if step % 100 == 0 {
-        walk.survives(alloc, CHOICES[(step / 100 % 4) as usize])?;
+fn step(walk: &mut Walk, alloc: Global, mix: &Mix, step: u32) -> Result<(), Wrong> {
+    walk.step(alloc, mix.puts[(step / 250 % 2) as usize])?;
+    if step % IMAGES == 0 {
+        walk.recalls(alloc)?;
+    }
+    if step % CRASHES == 0 {
+        walk.survives(alloc, CHOICES[(step / CRASHES % 4) as usize])?;
     }
     Ok(())
 }
 
 // The first step that is wrong, and what is.
-fn first_wrong(walk: &mut Walk, alloc: Global) -> Result<(), (u32, Wrong)> {
-    for number in 1..STEPS + 1 {
-        if let Err(wrong) = step(walk, alloc, number) {
+fn first_wrong(walk: &mut Walk, alloc: Global, mix: &Mix) -> Result<(), (u32, Wrong)> {
+    for number in 1..mix.steps.saturating_add(1) {
+        if let Err(wrong) = step(walk, alloc, mix, number) {
             return Err((number, wrong));
         }
     }
@@ -40,15 +60,15 @@ fn first_wrong(walk: &mut Walk, alloc: Global) -> Result<(), (u32, Wrong)> {
 }
 
 // What was seen in a walk without a wrong step.
-fn walked(alloc: Global, seed: u64) -> Result<Counts, (u32, Wrong)> {
+fn walked(alloc: Global, mix: &Mix) -> Seen {
     let Ok(Some(disk)) = first_disk(alloc, BLOCKS) else {
         return Err((0, Wrong::Memory));
     };
-    let mut walk = match Walk::new(alloc, disk, seed) {
+    let mut walk = match Walk::new(alloc, disk, mix.seed) {
         Ok(walk) => walk,
         Err(wrong) => return Err((0, wrong)),
     };
-    let wrong = first_wrong(&mut walk, alloc);
+    let wrong = first_wrong(&mut walk, alloc, mix);
     let counts = walk.end();
     match wrong {
         Ok(()) => Ok(counts),
@@ -57,14 +77,16 @@ fn walked(alloc: Global, seed: u64) -> Result<Counts, (u32, Wrong)> {
 }
 
 #[test]
-fn a_pager_goes_as_the_plain_program_has_it(rt: HostRuntime) -> Result<(), Fail> {
-    match walked(rt.alloc(), 1) {
-        Ok(counts) => assert!(rt; counts.came_often(), "{counts:?}"),
-        Err(wrong) => assert_eq!(rt;
-            wrong,
-            (0, Wrong::Memory),
-            "a step, and what is wrong behind it"
-        ),
+fn an_engine_goes_as_the_plain_program_has_it(rt: HostRuntime) -> Result<(), Fail> {
+    for mix in &WALKS {
+        match walked(rt.alloc(), mix) {
+            Ok(counts) => assert!(rt; counts.came_often(), "{}: {counts:?}", mix.name),
+            Err(wrong) => assert_eq!(rt;
+                wrong,
+                (0, Wrong::Memory),
+                "{}: a step, and what is wrong behind it", mix.name
+            ),
+        }
     }
     Ok(())
 }

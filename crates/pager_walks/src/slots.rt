@@ -1,12 +1,12 @@
 // Random keys of the tree.
 ghost use Rattle.std.specs.Prelude.{◌<◌, ◌^◌};
 
-use quiet_disk::trees::{FIRST_LEAF, INNER, LEAVES, SLOTS, key_of};
+use quiet_disk::trees::{INNER, LEAVES, SLOTS, key_of};
 use rand_core::utils::NextWord;
 use rand_pcg::Pcg32;
 
 /// A slot of a leaf, counted from the first leaf.
-#[derive(Clone, Copy)]
+#[derive(Clone, Copy, Debug)]
 pub struct Slot {
     pub leaf: u32,
     pub slot: usize,
@@ -37,16 +37,11 @@ impl Slot {
     pub fn key(&self) -> u64
         ensures { result < 2 ^ 32 }
     {
-        key_of(self.leaf.min(359), self.slot.min(39))
+        key_of(self.leaf.min(359), self.slot.min(77))
     }
 
+    /// Its place among all slots.
     pub fn at(&self) -> usize {
-        self.leaf.min(359) as usize * SLOTS + self.slot.min(39)
-    }
-
-    // The pages of its way, the root first.
-    pub fn way(&self) -> [u32; 3] {
-        let leaf = self.leaf.min(359);
-        [0, 1 + leaf / LEAVES, FIRST_LEAF + leaf]
+        self.leaf.min(359) as usize * SLOTS + self.slot.min(77)
     }
 }

@@ -1,243 +1,171 @@
-// Random calls of a session and its pager over 32 frames and 500 pages, beside the plain program of where pages stand; and crashes.
-ghost use Rattle.std.specs.Prelude.{◌<◌, IfSome};
-
-use crate::counts::Counts;
-use crate::images::no_words;
-use crate::plain::{Place, Plain, Stop};
-use crate::slots::Slot;
-use btree_descent::descent::{Answer, find};
-use lean_disk::{AreaOf, MemDisk};
-use page_provider::Refusal;
-use paged_desks::PagedMachine;
-use paged_engine::{Opened, Size, Unopened, open};
-use paged_rows::bring;
-use quiet_disk::QuietDisk;
-use quiet_disk::trees::{ENTRIES, SLOTS};
+// An engine and the plain program, which go the same way.
+use crate::counts::{Counts, see};
+use crate::engine::{Engine, FRAMES};
+use crate::images::left_by;
+use crate::plain::Plain;
+use crate::slots::{Slot, choose};
+use crate::wrong::Wrong;
+use lean_disk::{Choice, MemDisk};
+use map_model::Refusal;
+use page_model::limits::TRANSACTION_CHANGES;
 use rand_pcg::Pcg32;
-use session_desks::Machine;
-use session_state::Work;
-use std::alloc::{AllocError, Global};
+use std::alloc::Global;
 
-/// How many frames there are, how many lock rows, and how many commits are flushed at once.
-pub const FRAMES: u32 = 32;
-
-const ROWS: u32 = 4096;
-
-const GROUP: u32 = 8;
-
-/// What is wrong.
-#[derive(Clone, Copy, Debug, PartialEq, Eq)]
-pub enum Wrong {
-    Memory,
-    Opening,
-    Value,
-    Stop,
-    Number,
-    Flushed,
-    Frame(u32),
-    Child(u32),
-    Way,
-    Crash,
-    Winners,
-    Map,
-}
-
-/// A word that a slot got.
-#[derive(Clone, Copy)]
-pub struct Change {
-    pub at: usize,
-    pub word: u64,
-}
-
-/// The machine with its pager, the plain program, the words of all slots, what the committed transactions changed, where the changes
-/// of each end, how many of them are flushed, and the moment of the disk then.
+/// Both, and the moment of the disk behind the last flush.
 pub struct Walk {
-    pub machine: PagedMachine<QuietDisk>,
-    pub plain: Plain,
-    pub words: Vec<Option<u64>>,
-    pub changes: Vec<Change>,
-    pub ends: Vec<usize>,
-    pub is_open: bool,
-    pub clock: u64,
-    pub flushed: usize,
-    pub flushed_at: u64,
-    pub random: Pcg32,
+    engine: Engine,
+    plain: Plain,
+    flushed_at: u64,
+    random: Pcg32,
 }
 
-/// The words of all slots as the walk begins.
-pub fn first_words(alloc: Global) -> Result<Vec<Option<u64>>, AllocError> {
-    let mut words = no_words(alloc)?;
-    for at in 0..words.len() {
-        if at % SLOTS < ENTRIES {
-            words[at] = Some((at % SLOTS) as u64);
-        }
+/// What was seen, or at which step what was wrong.
+pub type Seen = Result<Counts, (u32, Wrong)>;
+
+fn same<T: PartialEq + Copy>(answer: Result<T, Refusal>, wanted: T) -> Result<(), Wrong> {
+    match answer {
+        Ok(answer) if answer == wanted => Ok(()),
+        Ok(_) => Err(Wrong::Answer),
+        Err(_) => Err(Wrong::Refused),
     }
-    Ok(words)
 }
 
 impl Walk {
     pub fn new(alloc: Global, disk: MemDisk, seed: u64) -> Result<Walk, Wrong> {
-        let size = Size {
-            frames: FRAMES,
-            rows: ROWS,
-            group: GROUP,
-            sessions: 1,
+        let plain = Plain::new(alloc, FRAMES)?;
+        let Some(engine) = Engine::open(alloc, disk) else {
+            return Err(Wrong::Opening);
         };
-        let (Ok(plain), Ok(words)) = (Plain::new(alloc, FRAMES), first_words(alloc)) else {
-            return Err(Wrong::Memory);
-        };
-        let machine = match open(alloc, QuietDisk::new(disk), size) {
-            Ok(
-                Opened {
-                    machine,
-                    winners: _,
-                    undone: _,
-                },
-            ) => machine,
-            Err(
-                Unopened {
-                    disk: _disk,
-                    reason: _,
-                },
-            ) => return Err(Wrong::Opening),
-        };
-        let flushed_at = machine.machine.work.disk.disk.moment();
+        let flushed_at = engine.disk().moment();
         Ok(Walk {
-            machine,
+            engine,
             plain,
-            words,
-            changes: Vec::new(alloc),
-            ends: Vec::new(alloc),
-            is_open: false,
-            clock: 0,
-            flushed: 0,
             flushed_at,
             random: Pcg32::new(seed, 54),
         })
     }
 
-    /// The first page of the way that is not hot, and the pages above it.
-    pub fn gap(&self, slot: Slot) -> Option<usize>
-        ensures { IfSome result (λ level. level < 3) }
+    // A transaction is open. Each fourth that begins makes a sync first.
+    fn begin(&mut self) -> Result<(), Wrong> {
+        if self.plain.is_open {
+            return Ok(());
+        }
+        let is_long = choose(&mut self.random, 4) == 0;
+        same(self.engine.begin(is_long), self.plain.begin(is_long))
+    }
+
+    fn commit(&mut self, alloc: Global) -> Result<(), Wrong> {
+        self.begin()?;
+        same(self.engine.commit(), self.plain.commit(alloc)?)
+    }
+
+    fn sync(&mut self) -> Result<(), Wrong> {
+        self.plain.flush();
+        same(self.engine.sync(), self.plain.clock)
+    }
+
+    fn get(&mut self, alloc: Global, slot: Slot) -> Result<(), Wrong> {
+        self.begin()?;
+        same(self.engine.get(slot.key()), self.plain.get(alloc, slot)?)
+    }
+
+    // The transaction has room for a change; one that has none is refused it, and commits.
+    fn room(&mut self, alloc: Global, slot: Slot) -> Result<(), Wrong> {
+        self.begin()?;
+        if self.plain.changed as usize != TRANSACTION_CHANGES {
+            return Ok(());
+        }
+        if !matches!(self.engine.put(slot.key(), 0), Err(Refusal::TooLong)) {
+            return Err(Wrong::Refused);
+        }
+        self.commit(alloc)?;
+        self.begin()
+    }
+
+    fn put(&mut self, alloc: Global, slot: Slot, value: u64) -> Result<(), Wrong>
+        requires { value < 2 ^ 63 }
     {
-        let way = slot.way();
-        for level in 0..3 {
-            if !matches!(self.plain.place(way[level]), Place::Hot(_)) {
-                return Some(level);
-            }
-        }
-        None
+        self.room(alloc, slot)?;
+        same(
+            self.engine.put(slot.key(), value),
+            self.plain.put(alloc, slot, value)?,
+        )
     }
 
-    /// The plain program goes on by a sync of all logs.
-    pub fn note_flush(&mut self) {
-        self.plain.flushed = self.clock;
-        self.flushed = self.ends.len();
-        self.flushed_at = self.machine.machine.work.disk.disk.moment();
+    fn del(&mut self, alloc: Global, slot: Slot) -> Result<(), Wrong> {
+        self.room(alloc, slot)?;
+        same(self.engine.del(slot.key()), self.plain.del(alloc, slot)?)
     }
 
-    /// The plain program brings the pages of a way.
-    pub fn warm(&mut self, slot: Slot) -> Result<(), Wrong> {
-        for _page in 0..3 {
-            let Some(level) = self.gap(slot) else {
-                return Ok(());
-            };
-            let way = slot.way();
-            match self.plain.come(way[level], &way[..level]) {
-                Ok(()) => {}
-                Err(Stop::Memory) => return Err(Wrong::Memory),
-                Err(Stop::PoolFull) => {
-                    self.note_flush();
-                    if self.plain.come(way[level], &way[..level]).is_err() {
-                        return Err(Wrong::Stop);
-                    }
-                }
-            }
+    fn warm(&mut self, alloc: Global, slot: Slot) -> Result<(), Wrong> {
+        if !self.engine.warm(slot.key()) {
+            return Err(Wrong::Refused);
         }
+        self.plain.warm(alloc, slot.key())
+    }
+
+    // One call; of a hundred, so many are puts.
+    fn call(&mut self, alloc: Global, puts: u32) -> Result<(), Wrong> {
+        let slot = Slot::any(&mut self.random);
+        let value = u64::from(choose(&mut self.random, 1 << 30));
+        match choose(&mut self.random, 100) {
+            0..20 => self.get(alloc, slot),
+            20..44 => self.warm(alloc, slot),
+            44 => self.sync(),
+            45..52 => self.del(alloc, slot),
+            kind if kind - 52 < puts => self.put(alloc, slot, value),
+            _ => self.commit(alloc),
+        }
+    }
+
+    /// One call, behind which both agree.
+    pub fn step(&mut self, alloc: Global, puts: u32) -> Result<(), Wrong> {
+        let flushes = self.plain.counts.flushes;
+        self.call(alloc, puts)?;
+        if self.plain.counts.flushes != flushes {
+            self.flushed_at = self.engine.disk().moment();
+        }
+        self.plain.agrees(&self.engine)
+    }
+
+    /// A crash now, by the plain program: of the records that are not flushed the first ones are left.
+    pub fn recalls(&mut self, alloc: Global) -> Result<(), Wrong> {
+        let slot = Slot::any(&mut self.random);
+        let late = self.plain.log.len().saturating_sub(self.plain.safe);
+        let late = u32::try_from(late).unwrap_or(0);
+        let more = choose(&mut self.random, late.saturating_add(1)) as usize;
+        let cut = self.plain.safe.saturating_add(more);
+        self.plain.recalls(alloc, cut, slot.at(), slot.key())
+    }
+
+    /// A crash at a moment since the last flush: what it leaves is recovered to the map behind so many committed transactions.
+    pub fn survives(&mut self, alloc: Global, choice: Choice) -> Result<(), Wrong> {
+        let disk = self.engine.disk();
+        let span = disk.moment().saturating_sub(self.flushed_at);
+        let span = u32::try_from(span).unwrap_or(0);
+        let since = choose(&mut self.random, span.saturating_add(1));
+        let moment = self.flushed_at.saturating_add(u64::from(since));
+        let left = left_by(alloc, disk, moment, choice)?;
+        let winners = usize::try_from(left.winners).unwrap_or(usize::MAX);
+        if winners < self.plain.kept || winners > self.plain.ends.len() {
+            return Err(Wrong::Winners);
+        }
+        if left.values != self.plain.values_after(alloc, winners)? {
+            return Err(Wrong::Map);
+        }
+        see(&mut self.plain.counts.crashes);
         Ok(())
     }
 
-    /// The pages of a key's way come, and the key is read.
-    pub fn read(&mut self, slot: Slot) -> Result<(), Wrong> {
-        if self.machine.warm(slot.key()).is_err() {
-            return Err(Wrong::Stop);
-        }
-        self.warm(slot)?;
-        let it = &mut self.machine.machine;
-        match find(&mut it.rows, &mut it.seat, 0, FRAMES, slot.key()) {
-            Answer::Found(found) if Some(&found.word) == self.words.get(slot.at()) => Ok(()),
-            _ => Err(Wrong::Value),
-        }
-    }
-
-    /// One page comes.
-    pub fn fault(&mut self, slot: Slot) -> Result<(), Wrong> {
-        let it = &mut self.machine;
-        let came = bring(
-            &mut it.machine.rows,
-            &mut it.machine.seat,
-            &mut it.pager,
-            &mut AreaOf::new(&mut it.machine.work.disk, 1),
-            1,
-            slot.key(),
-        );
-        let Some(level) = self.gap(slot) else {
-            return if matches!(came, Ok(true)) {
-                Ok(())
-            } else {
-                Err(Wrong::Stop)
-            };
-        };
-        let way = slot.way();
-        match (self.plain.come(way[level], &way[..level]), came) {
-            (Ok(()), Ok(false)) => Ok(()),
-            (
-                Err(Stop::PoolFull),
-                Err(
-                    Refusal::PoolFull {
-                        path,
-                        latched: 0,
-                        above,
-                        held: 0,
-                    },
-                ),
-            ) if path as usize == level && above as usize == self.plain.queue.len() => Ok(()),
-            _ => Err(Wrong::Stop),
-        }
-    }
-
-    /// The walk ends, and its machine is let go.
+    /// The walk ends. What was seen in it.
     pub fn end(self) -> Counts {
         let Walk {
-            machine,
+            engine,
             plain,
-            words: _words,
-            changes: _changes,
-            ends: _ends,
-            is_open: _,
-            clock: _,
-            flushed: _,
             flushed_at: _,
             random: _random,
         } = self;
-        let PagedMachine {
-            machine,
-            pager: _pager,
-        } = machine;
-        let Machine {
-            rows: _rows,
-            seat: _seat,
-            work,
-            desks: _desks,
-            latches: _latches,
-            master: _master,
-        } = machine;
-        let Work {
-            disk: _disk,
-            log: _log,
-            session: _session,
-            staged: _staged,
-        } = work;
+        engine.close();
         plain.counts
     }
 }

@@ -19,22 +19,25 @@ pub const FIRST_LEAF: u32 = 7;
 
 pub const FIRST_FREE: u32 = 367;
 
-/// A leaf's keys begin at a multiple of this; it has so many slots, so far apart, and the first ones have entries.
+/// A leaf's keys begin at a multiple of this; it has so many slots, so far apart.
 pub const SPAN: u64 = 1000;
 
-pub const SLOTS: usize = 40;
+pub const SLOTS: usize = 78;
 
 pub const GAP: u64 = 10;
-
-pub const ENTRIES: usize = 30;
 
 /// The key of a slot of a leaf, counted from the first leaf.
 pub fn key_of(leaf: u32, slot: usize) -> u64
     requires leaf { leaf ≤ 360 }
-    requires slot { slot ≤ 40 }
+    requires slot { slot ≤ 78 }
     ensures { result < 2 ^ 32 }
 {
     SPAN * u64::from(leaf) + GAP * slot as u64
+}
+
+/// Whether a slot has an entry at first, whose word is its number: each fourth has none, so a leaf has room for one further key.
+pub fn has_entry(slot: usize) -> bool {
+    slot % 4 != 3
 }
 
 // The fences of so many leaves from this one on.
@@ -88,16 +91,17 @@ fn leaf(page: u32) -> Node
 {
     let (low, high) = fences(page - FIRST_LEAF, 1);
     let mut node = Node::empty_leaf(page, low, high);
-    for slot in 0..ENTRIES {
+    for slot in 0..SLOTS {
         let key = key_of(page - FIRST_LEAF, slot);
-        if node.covers(key) {
+        if has_entry(slot) && node.covers(key) {
             let _ = node.put(key, slot as u64);
         }
     }
     node
 }
 
-fn node_of(page: u32) -> Option<Node>
+/// The node that a page is at first. None: it is no node.
+pub fn node_of(page: u32) -> Option<Node>
     requires { page < 500 }
 {
     match page {
