@@ -1,4 +1,5 @@
 // An engine and the plain program, which go the same way.
+ghost use Rattle.std.specs.Prelude.{◌<◌, ◌^◌};
 use crate::counts::{Counts, see};
 use crate::engine::{Engine, FRAMES};
 use crate::images::left_by;
