@@ -1,9 +1,9 @@
 // What is compared of rows behind each step.
-use crate::engine::{Engine, FRAMES};
 use crate::nodes::number_of;
-use crate::plain::Plain;
+use crate::plain::{FRAMES, Plain};
 use crate::pool::{Page, Place};
 use crate::wrong::Wrong;
+use quiet_engine::Engine;
 
 const FRAME: u64 = 1 << 63;
 

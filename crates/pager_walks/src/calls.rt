@@ -1,8 +1,7 @@
 // Calls, as the plain program answers them.
 use crate::counts::see;
-use crate::engine::GROUP;
 use crate::nodes::DEAD;
-use crate::plain::{Change, Plain};
+use crate::plain::{Change, GROUP, Plain};
 use crate::slots::Slot;
 use crate::wrong::Wrong;
 use std::alloc::{AllocError, Global};

@@ -14,9 +14,6 @@ mod counts;
 mod crashes;
 
 #[cfg(test)]
-mod engine;
-
-#[cfg(test)]
 mod images;
 
 #[cfg(test)]

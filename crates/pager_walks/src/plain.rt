@@ -7,6 +7,11 @@ use plain_images::{Node, Record};
 use quiet_disk::trees::{FIRST_FREE, INNER, LEAVES, PAGES, SLOTS, has_entry, node_of};
 use std::alloc::{AllocError, Global};
 
+/// How many frames there are, and how many commits are flushed at once.
+pub const FRAMES: u32 = 32;
+
+pub const GROUP: u32 = 8;
+
 /// A word that a slot got. None: its value was taken away.
 #[derive(Clone, Copy)]
 pub struct Change {
@@ -77,16 +82,16 @@ pub fn first_values(alloc: Global) -> Result<Vec<Option<u64>>, AllocError> {
 
 impl Plain {
     /// Page 0 stands in frame 0, and no other page in any.
-    pub fn new(alloc: Global, frames: u32) -> Result<Plain, Wrong> {
+    pub fn new(alloc: Global) -> Result<Plain, Wrong> {
         let mut pages = Vec::new(alloc);
         for page in 0..PAGES {
             pages.push(first_page(alloc, page)?)?;
         }
         let mut in_frames = Vec::new(alloc);
-        in_frames.resize(frames as usize, None)?;
+        in_frames.resize(FRAMES as usize, None)?;
         let mut empty = Vec::new(alloc);
-        for frame in 1..frames {
-            empty.push(frames - frame)?;
+        for frame in 1..FRAMES {
+            empty.push(FRAMES - frame)?;
         }
         let mut free = Vec::new(alloc);
         for page in FIRST_FREE..PAGES {

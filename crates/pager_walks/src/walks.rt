@@ -1,14 +1,14 @@
 // An engine and the plain program, which go the same way.
 ghost use Rattle.std.specs.Prelude.{◌<◌, ◌^◌};
 use crate::counts::{Counts, see};
-use crate::engine::{Engine, FRAMES};
 use crate::images::left_by;
-use crate::plain::Plain;
+use crate::plain::{FRAMES, GROUP, Plain};
 use crate::slots::{Slot, choose};
 use crate::wrong::Wrong;
 use lean_disk::{Choice, MemDisk};
 use map_model::Refusal;
 use page_model::limits::TRANSACTION_CHANGES;
+use quiet_engine::Engine;
 use rand_pcg::Pcg32;
 use std::alloc::Global;
 
@@ -33,8 +33,8 @@ fn same<T: PartialEq + Copy>(answer: Result<T, Refusal>, wanted: T) -> Result<()
 
 impl Walk {
     pub fn new(alloc: Global, disk: MemDisk, seed: u64) -> Result<Walk, Wrong> {
-        let plain = Plain::new(alloc, FRAMES)?;
-        let Some(engine) = Engine::open(alloc, disk) else {
+        let plain = Plain::new(alloc)?;
+        let Some(engine) = Engine::open(alloc, disk, FRAMES, GROUP) else {
             return Err(Wrong::Opening);
         };
         let flushed_at = engine.disk().moment();

@@ -1,5 +1,5 @@
 // The calls of the one session over a quiet disk, each of which leaves a machine that works as it is between two calls.
-ghost use Rattle.std.specs.Prelude.{◌<◌, ◌-◌, ◌^◌};
+ghost use Rattle.std.specs.Prelude.{◌<◌, ◌≤◌, ◌-◌, ◌^◌};
 ghost use Rattle.page_model.specs.Limits.{tombstone};
 
 use lean_disk::MemDisk;
@@ -12,12 +12,8 @@ use session_state::Work;
 use std::alloc::Global;
 use std::marker::Model;
 
-/// How many frames there are, how many lock rows, and how many commits are flushed at once.
-pub const FRAMES: u32 = 32;
-
+/// How many lock rows there are.
 const ROWS: u32 = 4096;
-
-pub const GROUP: u32 = 8;
 
 // Behind the control words each frame has so many words: its latch, those of the page, the hint, and the number that was saved.
 const CONTROLS: usize = 6;
@@ -44,12 +40,15 @@ impl Model for Engine {
 }
 
 impl Engine {
-    /// One on this disk. None: it was not opened.
-    pub fn open(alloc: Global, disk: MemDisk) -> Option<Engine> {
+    /// One on this disk, with so many frames, which flushes so many commits at once. None: it was not opened.
+    pub fn open(alloc: Global, disk: MemDisk, frames: u32, group: u32) -> Option<Engine>
+        requires frames { (32 ≤ frames) × (frames ≤ 4096) }
+        requires group { 1 ≤ group }
+    {
         let size = Size {
-            frames: FRAMES,
+            frames,
             rows: ROWS,
-            group: GROUP,
+            group,
             sessions: 1,
         };
         match open(alloc, QuietDisk::new(disk), size) {
