@@ -5,12 +5,14 @@
 ghost use Rattle.std.specs.Prelude.{◌≡◌, ◌≤◌, ◌<◌, ◌^◌, IfOk, true};
 ghost use Rattle.pager_bench.specs.Rigs.{Stands};
 
+mod dirty;
 mod rig;
 
 use lean_bytes::seal;
 use lean_disk::{Disk, Read};
 use quiet_disk::QuietDisk;
 use quiet_disk::trees::{LEAVES, key_of};
+use quiet_engine::Engine;
 use rig::{Rig, opened};
 use std::time::Instant;
 use std::{env, io};
@@ -102,6 +104,20 @@ fn argument(rt: &HostRuntime) -> io::Result<u64>
     Ok(times.min(100))
 }
 
+// A handful of what a machine does.
+fn few_of(rt: &HostRuntime, engine: &mut Engine) -> io::Result<(u64, u64, u64)> {
+    let changed = dirty::changes(engine, 100);
+    let (came, _took) = dirty::faults(rt, engine, 20)?;
+    Ok((changed, came, dirty::gets(engine, 100)))
+}
+
+fn few(rt: &HostRuntime) -> io::Result<(u64, u64, u64)> {
+    let mut engine = dirty::machine(rt.alloc())?;
+    let few = few_of(rt, &mut engine);
+    engine.close();
+    few
+}
+
 fn handful(rt: &HostRuntime) -> io::Result<()> {
     let mut rig = opened(rt.alloc())?;
     let a = faults(&mut rig, 200);
@@ -109,7 +125,8 @@ fn handful(rt: &HostRuntime) -> io::Result<()> {
     let c = descents(&mut rig, 100);
     let d = seals(100);
     let e = reads(&mut rig.disk, 100);
-    println!(rt; "{a} {b} {c} {d} {e}")
+    let (f, g, h) = few(rt)?;
+    println!(rt; "{a} {b} {c} {d} {e} {f} {g} {h}")
 }
 
 // What was done, what it adds up to, and its microseconds.
@@ -157,6 +174,24 @@ fn time_descents(rt: &HostRuntime, rig: &mut Rig, times: u64) -> io::Result<()>
     report(rt, "hot descents", sum, start)
 }
 
+// Of dirty faults a tenth, and no more than the log has blocks for.
+fn time_calls(rt: &HostRuntime, engine: &mut Engine, times: u64) -> io::Result<()> {
+    let _ = dirty::changes(engine, 100);
+    let (sum, took) = dirty::faults(rt, engine, (times / 10).min(3900))?;
+    let micros = took / 1000;
+    println!(rt; "dirty faults {sum} {micros} us")?;
+    let start = Instant::now(rt)?;
+    let sum = dirty::gets(engine, times);
+    report(rt, "hot gets", sum, start)
+}
+
+fn time_machine(rt: &HostRuntime, times: u64) -> io::Result<()> {
+    let mut engine = dirty::machine(rt.alloc())?;
+    let timed = time_calls(rt, &mut engine, times);
+    engine.close();
+    timed
+}
+
 // So many of each; the first faults fill the frames.
 fn measure(rt: &HostRuntime, times: u64) -> io::Result<()> {
     time_seals(rt, times)?;
@@ -165,7 +200,8 @@ fn measure(rt: &HostRuntime, times: u64) -> io::Result<()> {
     let _ = faults(&mut rig, 200);
     time_faults(rt, &mut rig, times)?;
     time_rescues(rt, &mut rig, times)?;
-    time_descents(rt, &mut rig, times)
+    time_descents(rt, &mut rig, times)?;
+    time_machine(rt, times)
 }
 
 fn main(rt: HostRuntime) -> io::Result<()> {
