@@ -76,7 +76,8 @@ impl Plain {
         let mut at = PAIRS;
         for pair in &it.node.pairs {
             if engine.word(frame, at) != pair.key
-                || engine.word(frame, at.saturating_add(1)) != self.shown(it.node.level, pair.word)
+                || engine.word(frame, at.saturating_add(1))
+                    != self.shown(it.node.level, pair.word)
             {
                 return false;
             }
@@ -106,8 +107,21 @@ impl Plain {
         Ok(())
     }
 
+    // No page was saved before the record of its last change was flushed.
+    fn is_flushed_first(&self) -> bool {
+        for it in &self.pages {
+            if it.saved > self.flushed {
+                return false;
+            }
+        }
+        true
+    }
+
     /// The rows and the session are as they are here.
     pub fn agrees(&self, engine: &Engine) -> Result<(), Wrong> {
+        if !self.is_flushed_first() {
+            return Err(Wrong::Early);
+        }
         if engine.flushed() != self.flushed || engine.waiting() != self.waiting {
             return Err(Wrong::Flushed);
         }

@@ -46,6 +46,23 @@ impl Counts {
         }
     }
 
+    /// Those that were seen in another walk too.
+    pub fn add(&mut self, other: &Counts) {
+        self.fills = self.fills.saturating_add(other.fills);
+        self.rescues = self.rescues.saturating_add(other.rescues);
+        self.clean = self.clean.saturating_add(other.clean);
+        self.saves = self.saves.saturating_add(other.saves);
+        self.settles = self.settles.saturating_add(other.settles);
+        self.passed = self.passed.saturating_add(other.passed);
+        self.chilled_for_one = self.chilled_for_one.saturating_add(other.chilled_for_one);
+        self.crowded = self.crowded.saturating_add(other.crowded);
+        self.deep = self.deep.saturating_add(other.deep);
+        self.splits = self.splits.saturating_add(other.splits);
+        self.dels = self.dels.saturating_add(other.dels);
+        self.flushes = self.flushes.saturating_add(other.flushes);
+        self.crashes = self.crashes.saturating_add(other.crashes);
+    }
+
     /// Each was seen ten times.
     pub fn came_often(&self) -> bool {
         let all = [

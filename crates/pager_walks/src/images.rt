@@ -15,12 +15,7 @@ pub struct Found {
 }
 
 /// What is recovered from what a crash leaves.
-pub fn left_by(
-    alloc: Global,
-    disk: &MemDisk,
-    moment: u64,
-    choice: Choice,
-) -> Result<Found, Wrong> {
+pub fn left_by(alloc: Global, disk: &MemDisk, moment: u64, choice: Choice) -> Result<Found, Wrong> {
     let mut left = disk.crash(moment, choice)?;
     let Ok(recovered) = recover(alloc, &mut left, 1) else {
         return Err(Wrong::Lost);

@@ -3,39 +3,27 @@
 
 #[cfg(test)]
 mod agrees;
-
 #[cfg(test)]
 mod calls;
-
 #[cfg(test)]
 mod counts;
-
 #[cfg(test)]
 mod crashes;
-
 #[cfg(test)]
 mod images;
-
 #[cfg(test)]
 mod nodes;
-
 #[cfg(test)]
 mod plain;
-
 #[cfg(test)]
 mod pool;
-
 #[cfg(test)]
 mod random;
-
 #[cfg(test)]
 mod slots;
-
 #[cfg(test)]
 mod trees;
-
 #[cfg(test)]
 mod walks;
-
 #[cfg(test)]
 mod wrong;

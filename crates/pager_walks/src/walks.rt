@@ -1,5 +1,6 @@
 // An engine and the plain program, which go the same way.
 ghost use Rattle.std.specs.Prelude.{◌<◌, ◌^◌};
+
 use crate::counts::{Counts, see};
 use crate::images::left_by;
 use crate::plain::{FRAMES, GROUP, Plain};

@@ -16,6 +16,8 @@ pub enum Wrong {
     Plain,
     /// The number up to which all logs are flushed, or how many commits wait.
     Flushed,
+    /// A page was saved before its last change was flushed.
+    Early,
     /// The page in a frame, its numbers or its hint.
     Frame(u32),
     /// What the node in a frame holds.
