@@ -276,7 +276,7 @@ module _ {D : Type 0} (story : D → Story) (m n : PagedMachine D) (a : IsAside 
         generation = ap (λ (q : Master). q.generation) a.master ∙ (h.generation ∙ ap (λ (q : Provider). q.generation) (sym a.pager));
         count = ap (λ (q : Provider). length q.slots) a.pager ∙ (h.count ∙ ap (λ (q : Master). q.pages) (sym a.master));
       };
-      frames = subst (λ (q : Provider). 8 < q.frames) (sym a.pager) ready.frames;
+      frames = subst (λ (q : Provider). 32 ≤ q.frames) (sym a.pager) ready.frames;
       few = subst (λ (q : Provider). q.frames ≤ 2 ^ 16) (sym a.pager) ready.few;
       outside = outside_on (view_of m) (view_of n) own e r given seen met k ready.outside;
     }

@@ -104,7 +104,7 @@ module _ {D : Type 0} (story : D → Story) (m n : PagedMachine D) (a : IsAside 
         generation = ap (λ (k : Master). k.generation) a.master ∙ (h.generation ∙ ap (λ (q : Provider). q.generation) (sym a.pager));
         count = ap (λ (q : Provider). length q.slots) a.pager ∙ (h.count ∙ ap (λ (k : Master). k.pages) (sym a.master));
       };
-      frames = subst (λ (k : Provider). 8 < k.frames) (sym a.pager) ready.frames;
+      frames = subst (λ (k : Provider). 32 ≤ k.frames) (sym a.pager) ready.frames;
       few = subst (λ (k : Provider). k.frames ≤ 2 ^ 16) (sym a.pager) ready.few;
       outside = outside_on (shape m.machine) (view_of m) (view_of n) given alone busy ready.outside;
     }

@@ -196,6 +196,7 @@ failed_of story m n ready frames b = record {
   paging = b.paging;
   few = let a = b.few in let h = hot_few story m ready frames in let w = sessions_few story m ready frames in omega arith;
   close = let a = b.few in let w = sessions_few story m ready frames in omega arith;
+  fewer = b.few;
   failed = b.failed;
   same = b.same;
   fits = b.fits;

@@ -1,5 +1,6 @@
 -- Why a RowSpent comes.
-use Rattle.std.proofs.Common.{◌≡◌, ◌∙◌, ◌≤◌, ◌<◌, ◌+◌, ◌*◌, ◌^◌, ◌⊎◌, ◌||◌, inl, inr, ℕ, zero, suc, Bool, true, false, Option, Result, Ok, Err, IfErr, List, [], ◌∷◌, length, get_or, ap, refl, sym, subst, arith, true≢false}
+use Rattle.std.proofs.Common.{◌≡◌, ◌∙◌, ◌≤◌, ◌<◌, ◌+◌, ◌*◌, ◌^◌, ◌⊎◌, ◌||◌, ◌↔◌, inl, inr, ℕ, zero, suc, Bool, true, false, Option, Result, Ok, Err, IfErr, List, [], ◌∷◌, length, get_or, ap, refl, sym, subst, arith, true≢false}
+use Rattle.std.proofs.lemmas.Bool.{cases_eq, cases_lt}
 use Rattle.map_model.specs.Lists.{any}
 use Rattle.page_provider.specs.declared.refusal.Refusal.{Refusal}
 use Rattle.page_provider.specs.declared.refusal.Refusal.TheVariants as refusal
@@ -12,17 +13,18 @@ use Rattle.rows_trait.specs.declared.view.View.{View}
 use Rattle.rows_trait.specs.Views.{AreLow, Shape}
 use Rattle.session_desks.specs.Desks.{desk_of}
 use Rattle.session_desks.specs.Machines.{AreDesks}
-use Rattle.session_desks.specs.Parts.{here, shape}
+use Rattle.session_desks.specs.Parts.{MaySync, here, shape}
 use Rattle.session_desks.specs.Syncs.{has_half, is_half_desk}
 use Rattle.session_desks.specs.declared.desk.Desk.{Desk}
 use Rattle.session_desks.proofs.DeskLemmas.{desk_apart, desk_own}
 use Rattle.session_desks.proofs.SeatLemmas.{turn_high, turn_low}
 use Rattle.session_desks.proofs.SyncNeeds.{seats}
+use Rattle.session_state.specs.Syncs.{EveryFlush, MayFlush, finds_room}
 use Rattle.session_state.specs.declared.session.Session.{Session}
 use Rattle.paged_desks.specs.Inside.{IsOfPage, LateCause, stopped_by}
 use Rattle.paged_desks.specs.Machines.{view_of}
 use Rattle.paged_desks.specs.Pages.{AreKept}
-use Rattle.paged_desks.specs.Parts.{HasHalf, IsLate, IsLateOrStuck, IsSpent}
+use Rattle.paged_desks.specs.Parts.{HasHalf, IsCramped, IsLate, IsLateOrStuck, IsSpent}
 use Rattle.paged_desks.specs.declared.machine.PagedMachine.{PagedMachine}
 use Rattle.paged_desks.specs.declared.warming.Unwarmed.TheVariants as unwarmed
 
@@ -46,40 +48,43 @@ late_of v _ k e h = absurd k
 
 -- ## An abort
 
-record Found (desks : List Desk) : Type 0 where
-  pub at : ℕ
-  pub within : at < length desks
-  pub is : (x : Desk) → (get_or desks at x).session.is_half_aborted ≡ true
+-- if not each session may be flushed, one may not
+module _ {D : Type 0} (m : PagedMachine D) (law : EveryFlush) (are : AreDesks (shape m.machine) (view_of m) (here m.machine) m.machine.desks.items) where
+  abbrev desk : ℕ → Desk
+  desk w = desk_of (here m.machine) m.machine.desks.items w
 
-found : (desks : List Desk) → any is_half_desk desks ≡ true → Found desks
-found [] h = absurd (true≢false (sym h))
-found (d ∷ ds) h = go (found ds) d.session.is_half_aborted refl h
-  where
-    go : (any is_half_desk ds ≡ true → Found ds) → (b : Bool) → d.session.is_half_aborted ≡ b → (b || any is_half_desk ds) ≡ true → Found (d ∷ ds)
-    go ih true q k = record { at = 0; within = omega arith; is = λ x. q }
-    go ih false q k = let f = ih k in record { at = suc f.at; within = let a = f.within in omega arith; is = λ x. f.is x }
+  look : (n : ℕ) → n ≤ m.machine.work.session.workers → ((w : ℕ) → 0 < w → w ≤ n → MayFlush (desk w).session (desk w).log) ⊎ IsCramped m
+  look zero le = inl (λ w low high. absurd (omega arith))
+  look (suc n) le = elim (look n (omega arith)) [ inl all ↦ go all (finds_room (desk (suc n)).session (desk (suc n)).log) refl | inr c ↦ inr c ]
+    where
+      decided : (finds_room (desk (suc n)).session (desk (suc n)).log ≡ true) ↔ MayFlush (desk (suc n)).session (desk (suc n)).log
+      decided = law.decided (desk (suc n)).session (desk (suc n)).log
 
-pub half_of : {D : Type 0} (m : PagedMachine D) → AreDesks (shape m.machine) (view_of m) (here m.machine) m.machine.desks.items → has_half (here m.machine) m.machine.desks.items ≡ true → HasHalf m
-half_of m are h = go work.session.is_half_aborted refl h
-  where
-    work : Desk
-    work = here m.machine
+      more : ((w : ℕ) → 0 < w → w ≤ n → MayFlush (desk w).session (desk w).log) → MayFlush (desk (suc n)).session (desk (suc n)).log → (w : ℕ) → 0 < w → w ≤ suc n → MayFlush (desk w).session (desk w).log
+      more all last w low high = elim (cases_eq w (suc n)) [ inl e ↦ subst (λ i. MayFlush (desk i).session (desk i).log) (sym e) last | inr other ↦ all w low (below w high other) ]
+        where
+          below : (w : ℕ) → w ≤ suc n → (w ≡ suc n → ⊥) → w ≤ n
+          below w high other = elim (cases_lt n w) [ inl g ↦ absurd (other (omega arith)) | inr l ↦ l ]
 
-    desks : List Desk
-    desks = m.machine.desks.items
+      half : (b : Bool) → (desk (suc n)).session.is_half_aborted ≡ b → (MayFlush (desk (suc n)).session (desk (suc n)).log → ⊥) → (desk (suc n)).session.is_half_aborted ≡ true
+      half true e no_room = e
+      half false e no_room = absurd (no_room (law.whole (shape m.machine) (view_of m) (record (desk (suc n)).session { free = m.machine.work.session.free }) (desk (suc n)).log (are.each (suc n) (omega arith) le).holds e))
 
-    go : (b : Bool) → work.session.is_half_aborted ≡ b → (b || any is_half_desk desks) ≡ true → HasHalf m
-    go true q k = record { session = work.session.own; low = turn_low (shape m.machine) (view_of m) work desks are; high = turn_high (shape m.machine) (view_of m) work desks are; half = ap (λ (d : Desk). d.session.is_half_aborted) (desk_own work desks work.session.own refl) ∙ q }
-    go false q k = let f = found desks k in let s = seats work.session.own f.at in record {
-      session = s.0;
-      low = s.1.low;
-      high = high f.at f.within s.1.high;
-      half = ap (λ (d : Desk). d.session.is_half_aborted) (desk_apart work desks s.0 s.1.other) ∙ (ap (λ (i : ℕ). (get_or desks i work).session.is_half_aborted) s.1.place ∙ f.is work);
-    }
-      where
-        high : {w : ℕ} (i : ℕ) → i < length desks → (w ≡ suc (suc i)) ⊎ (w ≡ 1) → w ≤ work.session.workers
-        high i lt (inl e) = let b = are.count in omega arith
-        high i lt (inr e) = let a = turn_low (shape m.machine) (view_of m) work desks are in let b = turn_high (shape m.machine) (view_of m) work desks are in omega arith
+      go : ((w : ℕ) → 0 < w → w ≤ n → MayFlush (desk w).session (desk w).log) → (b : Bool) → finds_room (desk (suc n)).session (desk (suc n)).log ≡ b → ((w : ℕ) → 0 < w → w ≤ suc n → MayFlush (desk w).session (desk w).log) ⊎ IsCramped m
+      go all true e = inl (more all (decided.0 e))
+      go all false e =
+          let no_room : MayFlush (desk (suc n)).session (desk (suc n)).log → ⊥ = λ may. true≢false (sym (decided.1 may) ∙ e) in
+          inr (record { session = suc n; low = omega arith; high = le; half = half (desk (suc n)).session.is_half_aborted refl no_room; cramped = no_room })
+
+  pub cramped_of : (MaySync m.machine → ⊥) → IsCramped m
+  cramped_of not_all = elim (look m.machine.work.session.workers (omega arith)) [ inl all ↦ absurd (not_all all) | inr c ↦ c ]
+
+-- and if each may, none is such
+pub may_all : {D : Type 0} {m : PagedMachine D} → MaySync m.machine → IsCramped m → ⊥
+may_all all c = c.cramped (all c.session c.low c.high)
+
+pub half_in : {D : Type 0} {m : PagedMachine D} → IsCramped m → HasHalf m
+half_in c = record { session = c.session; low = c.low; high = c.high; half = c.half }
 
 -- it was so before what leaves aborts as they were
 pub half_kept : {D : Type 0} {m n : PagedMachine D} → n.machine.work.session.workers ≡ m.machine.work.session.workers → AreKept m.machine n.machine → HasHalf n → HasHalf m
@@ -87,4 +92,4 @@ half_kept many kept h = let high = subst (λ k. h.session ≤ k) many h.high in 
 
 pub spent_from : {D : Type 0} (key : ℕ) (m n : PagedMachine D) → (HasHalf n → HasHalf m) → IsLateOrStuck key n → IsSpent m n
 spent_from key m n f (inl l) = inl l
-spent_from key m n f (inr h) = inr (f h.half)
+spent_from key m n f (inr h) = inr (f (half_in h.cramped))

@@ -205,7 +205,7 @@ module _ {D : Type 0} (story : D → Story) (m n : PagedMachine D) (b : IsBeside
         mirrored = subst (λ (q : D × Provider). IsMirrored (view_of n) q.1 (story q.0)) (λ i. (sym b.disk i, sym b.pager i)) (mirrored_on (shape m.machine) (view_of m) (view_of n) given alone busy m.pager (story m.machine.work.disk) f.mirrored);
       };
       slots = subst (λ (q : Memory × Provider). HasSlots q.0 q.1) (λ i. (sym (memory_is same.0) i, sym b.pager i)) ready.slots;
-      frames = subst (λ (k : Provider). 8 < k.frames) (sym b.pager) ready.frames;
+      frames = subst (λ (k : Provider). 32 ≤ k.frames) (sym b.pager) ready.frames;
       few = subst (λ (k : Provider). k.frames ≤ 2 ^ 16) (sym b.pager) ready.few;
       outside = outside_on (shape m.machine) (view_of m) (view_of n) given alone busy ready.outside;
     }

@@ -1,5 +1,5 @@
 -- A machine whose pages need not all be in frames: what holds between two of its calls.
-use Rattle.std.specs.Prelude.{◌≡◌, ◌<◌, ◌≤◌, ◌^◌, ℕ, false, None}
+use Rattle.std.specs.Prelude.{◌≡◌, ◌≤◌, ◌^◌, ℕ, false, None}
 use Rattle.call_parts.specs.Memory.{Memory}
 use Rattle.core_state.specs.States.{State}
 use Rattle.desk_parts.specs.Pages.{HasSlots}
@@ -29,7 +29,8 @@ abbrev pub IsNobodyInside : State → Type 0
 IsNobodyInside s = (w : ℕ) → s.inside w ≡ None
 
 -- It works. The machine is sound, and each log has the records that the seat has seen; the pager keeps what it has to, no call of it has met a damaged page or a fault, and
--- its slots, one of each page, hold what is saved. There are more frames than a key's way has pages, but no more than pages may be, and nobody holds a page back.
+-- its slots, one of each page, hold what is saved. There are 32 frames at least, which is more than a key's way has pages and enough for an abort to ask for
+-- few syncs, but no more than pages may be; and nobody holds a page back.
 pub record IsReady {D : Type 0} (story : D → Story) (m : PagedMachine D) : Type 0 where
   pub sound : IsSound m.machine
   pub works : Works m.machine
@@ -39,6 +40,6 @@ pub record IsReady {D : Type 0} (story : D → Story) (m : PagedMachine D) : Typ
   pub well : m.pager.broken ≡ false
   pub fed : IsFedIfFaithful (pages m) (story m.machine.work.disk)
   pub slots : HasSlots (memory m) m.pager
-  pub frames : 8 < m.pager.frames
+  pub frames : 32 ≤ m.pager.frames
   pub few : m.pager.frames ≤ 2 ^ 16
   pub outside : IsNobodyInside (state m.machine.seat.view).core

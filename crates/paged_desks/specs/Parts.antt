@@ -14,9 +14,10 @@ use Rattle.rows_trait.specs.declared.view.View.{View}
 use Rattle.rows_trait.specs.Views.{state}
 use Rattle.session_desks.specs.Desks.{desk_of}
 use Rattle.session_desks.specs.Parts.{AreAsMany, SeatFits, here}
+use Rattle.session_state.specs.Syncs.{MayFlush}
 use Rattle.session_state.specs.Ties.{Behind}
 use Rattle.paged_desks.specs.Machines.{memory, view_of}
-use Rattle.paged_desks.specs.Pages.{HasPaged, hot_in}
+use Rattle.paged_desks.specs.Pages.{HasPaged, hot_in, most_a_level}
 use Rattle.paged_desks.specs.declared.machine.PagedMachine.{PagedMachine}
 
 -- so many events at most have the pages of one way
@@ -35,6 +36,7 @@ pub record HasFailed {D : Type 0} (story : D → Story) (m n : PagedMachine D) :
   pub paging : ArePaging events
   pub few : length events ≤ most_a_way
   pub close : length events ≤ 2 * hot_in m + 2 ^ 10
+  pub fewer : length events ≤ 2 * hot_in m + 9 * most_a_level m.machine.work.session.workers
   pub failed : Failed m.machine.work.session.workers true true events (view_of m) (memory m) (story m.machine.work.disk) (story n.machine.work.disk)
   pub same : AreAsMany m.machine n.machine
   pub fits : SeatFits n.machine
@@ -58,14 +60,22 @@ pub record HasHalf {D : Type 0} (m : PagedMachine D) : Type 0 where
   pub high : session ≤ m.machine.work.session.workers
   pub half : (desk_of (here m.machine) m.machine.desks.items session).session.is_half_aborted ≡ true
 
+-- of such a session what it has still to put back finds no room behind a flush of its log
+pub record IsCramped {D : Type 0} (m : PagedMachine D) : Type 0 where
+  pub session : ℕ
+  pub low : 0 < session
+  pub high : session ≤ m.machine.work.session.workers
+  pub half : (desk_of (here m.machine) m.machine.desks.items session).session.is_half_aborted ≡ true
+  pub cramped : MayFlush (desk_of (here m.machine) m.machine.desks.items session).session (desk_of (here m.machine) m.machine.desks.items session).log → ⊥
+
 -- it is late behind the call, or before it an abort was half done, which had met that
 abbrev pub IsSpent : {D : Type 0} → PagedMachine D → PagedMachine D → Type 0
 IsSpent m n = IsLate (view_of n) ⊎ HasHalf m
 
--- where it stopped a page that is needed finds no frame, so a sync is; and an abort is half done, which had met that
+-- where it stopped a page that is needed finds no frame, so a sync is; and an abort is half done whose log may not be flushed
 pub record IsStuck {D : Type 0} (key : ℕ) (n : PagedMachine D) : Type 0 where
   pub tight : IsTight (opening (view_of n).given) (state (view_of n)).core key
-  pub half : HasHalf n
+  pub cramped : IsCramped n
 
 -- it is late behind the call, or it is stuck there
 abbrev pub IsLateOrStuck : {D : Type 0} → (key : ℕ) → PagedMachine D → Type 0

@@ -8,6 +8,7 @@ ghost use Rattle.page_pool.specs.Counts.{EveryFrame};
 ghost use Rattle.page_provider.specs.Amounts.{EveryFew};
 ghost use Rattle.page_provider.specs.Sequels.{EverySequel};
 ghost use Rattle.row_opening.specs.Openings.{EveryNeed, EveryReached};
+ghost use Rattle.session_state.specs.Syncs.{EveryFlush};
 ghost use Rattle.worker_log.specs.Laws.{EveryKept, EveryPrefix};
 
 // The laws of ways, of syncs, of the pager's calls, and of rows in a run.
@@ -15,6 +16,7 @@ pub(crate) fn laws()
     ensures warm { EveryWarm }
     ensures places { EveryWhere }
     ensures low { EveryLow }
+    ensures flush { EveryFlush }
     ensures sync { EverySync }
     ensures few { EveryFew }
     ensures frames { EveryFrame }
@@ -30,6 +32,7 @@ pub(crate) fn laws()
     core_calls::every_where();
     core_covers::every_low();
     core_covers::every_sync();
+    session_state::every_flush();
     page_provider::every_few();
     page_pool::every_frame();
     page_provider::every_sequel();

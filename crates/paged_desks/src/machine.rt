@@ -3,7 +3,7 @@ ghost use Rattle.std.specs.Prelude.{◌≡◌, ◌↔◌, ◌<◌, ◌*◌, ◌^
 ghost use Rattle.lean_disk.specs.Faults.{HasCause};
 ghost use Rattle.page_provider.specs.declared.refusal.Refusal.TheVariants as refusal;
 ghost use Rattle.paged_rows.specs.Warms.{Brings, CanBring, IsRefusedTo, most_a_page};
-ghost use Rattle.session_desks.specs.Parts.{NoneIsHalf};
+ghost use Rattle.session_desks.specs.Parts.{MaySync};
 ghost use Rattle.paged_desks.specs.Machines.{IsReady, pages};
 ghost use Rattle.paged_desks.specs.Inside.{AwayCause, HasBroken, HasDone, IsBeside, LateCause};
 ghost use Rattle.paged_desks.specs.Syncs.{HasNotSynced, IsSynced};
@@ -65,7 +65,7 @@ impl<D: Stages> PagedMachine<D> {
     /// Flushes all logs, and syncs them up to the greatest clock; then the turn is again with whoever has it. The answer is that number.
     pub fn sync(&mut self) -> Result<u64, DiskFault>
         requires ready { IsReady D.story self.old }
-        requires whole { NoneIsHalf self.old.machine }
+        requires may { MaySync self.old.machine }
         ensures ready { IsOk result → IsReady D.story self.new }
         ensures synced { IfOk result (IsSynced D.story self.old self.new) }
         ensures failed { IsErr result → HasNotSynced D.story self.old self.new }
@@ -74,7 +74,6 @@ impl<D: Stages> PagedMachine<D> {
         ensures cause_disk_fault { HasCause (D.faults self.old.machine.work.disk) (D.faults self.new.machine.work.disk) (IsErr result) }
     {
         laws();
-        session_state::every_flush();
         desk_parts::every_disk_part::<D>();
         let own = self.machine.work.session.own;
         let number = self.machine.sync_all()?;

@@ -23,7 +23,7 @@ use worker_log::DiskFault;
 /// Why a page was not brought into a frame.
 #[derive(Clone, Copy, Debug, PartialEq, Eq)]
 pub enum Unwarmed {
-    /// The version of a row, or the global epoch, has come to its last number; or a sync is needed, and an abort is half done, which had met that.
+    /// The version of a row, or the global epoch, has come to its last number; or a sync is needed, and an abort is half done whose log may not be flushed before it is through.
     RowSpent,
     /// The disk failed.
     DiskFault,
@@ -114,7 +114,7 @@ impl<D: Stages> PagedMachine<D> {
         ensures cause_disk_fault { HasCause (D.faults self.old.machine.work.disk) (D.faults self.new.machine.work.disk) (result ≡ Err refused.DiskFault) }
     {
         laws();
-        if self.machine.any_half() {
+        if !self.machine.may_sync() {
             return Err(Unwarmed::RowSpent);
         }
         match self.sync() {
@@ -152,7 +152,7 @@ impl<D: Stages> PagedMachine<D> {
     /// Brings each page on a key's way into a frame. Where a page finds no frame, since each has a page of the way or one above the number up to which all
     /// logs are flushed, it makes a sync first.
     ///
-    /// RowSpent: the version of a row, or the global epoch, has come to its last number; or a sync is needed while an abort is half done. DiskFault, Damaged, Altered: the
+    /// RowSpent: the version of a row, or the global epoch, has come to its last number; or a sync is needed, and an abort is half done whose log may not be flushed before it is through. DiskFault, Damaged, Altered: the
     /// device failed, or a page is not to be had from it, and from then on the machine works no longer.
     pub fn warm(&mut self, key: u64) -> Result<(), Unwarmed>
         requires ready { IsReady D.story self.old }

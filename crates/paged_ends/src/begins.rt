@@ -5,7 +5,7 @@ ghost use Rattle.map_model.specs.declared.call.Refusal.{Refusal};
 ghost use Rattle.lean_disk.specs.Faults.{HasCause};
 ghost use Rattle.engine_trait.specs.Calls.{MayCome};
 ghost use Rattle.row_ends.specs.Tests.{begin_test};
-ghost use Rattle.session_desks.specs.Parts.{AreAsMany, NoneIsHalf, SeatFits, Works};
+ghost use Rattle.session_desks.specs.Parts.{AreAsMany, MaySync, SeatFits, Works};
 ghost use Rattle.paged_desks.specs.Calls.{CallDoes, EndsWork, works_behind};
 ghost use Rattle.paged_desks.specs.Machines.{IsReady};
 ghost use Rattle.paged_ends.specs.Ends.{KeepsFlushed, OnBegin, begin_answer};
@@ -64,7 +64,7 @@ fn begin_synced<D: Stages>(machine: &mut PagedMachine<D>, is_long: bool) -> Resu
     requires ready { IsReady D.story machine.old }
     requires long { is_long ≡ true }
     requires closed { machine.old.machine.work.session.is_open ≡ false }
-    requires whole { NoneIsHalf machine.old.machine }
+    requires may { MaySync machine.old.machine }
     ensures ready { Works machine.new.machine → IsReady D.story machine.new }
     ensures fits { SeatFits machine.new.machine }
     ensures does { CallDoes D.story (OnBegin machine.old.machine.work.session.own is_long) machine.old.machine.work.session.own call.Begin (begin_answer result) machine.old machine.new }
@@ -108,7 +108,7 @@ pub fn begin<D: Stages>(machine: &mut PagedMachine<D>, is_long: bool) -> Result<
     if !machine.machine.work.session.works || !is_long || machine.machine.work.session.is_open {
         return begin_now(machine, is_long);
     }
-    if machine.machine.any_half() {
+    if !machine.machine.may_sync() {
         return Err(Refusal::RowSpent);
     }
     begin_synced(machine, is_long)

@@ -7,9 +7,10 @@ ghost use Rattle.engine_calls.specs.Entries.{EveryEntry};
 ghost use Rattle.page_pool.specs.Pools.{EveryStanding};
 ghost use Rattle.row_opening.specs.Openings.{EveryNeed, EveryReached};
 ghost use Rattle.session_state.specs.Others.{EveryOther};
+ghost use Rattle.session_state.specs.Syncs.{EveryFlush};
 ghost use Rattle.worker_log.specs.Laws.{EveryKept, EveryPrefix};
 
-// The laws of versions, logs, seals and openings, of answers and entries, of other sessions, and of what the pager knows over their steps.
+// The laws of versions, logs, seals and openings, of answers and entries, of other sessions and of flushes, and of what the pager knows over their steps.
 pub(crate) fn laws()
     ensures versions { EveryVersion }
     ensures kept { EveryKept }
@@ -21,6 +22,7 @@ pub(crate) fn laws()
     ensures coming { EveryComing }
     ensures entries { EveryEntry }
     ensures others { EveryOther }
+    ensures flush { EveryFlush }
     ensures standing { EveryStanding }
 {
     call_parts::laws();
@@ -28,5 +30,6 @@ pub(crate) fn laws()
     engine_calls::every_coming();
     engine_calls::every_entry();
     session_state::every_other();
+    session_state::every_flush();
     page_pool::every_standing();
 }

@@ -7,7 +7,7 @@ ghost use Rattle.engine_trait.specs.Calls.{MayCome};
 ghost use Rattle.session_desks.specs.Parts.{AreAsMany, SeatFits, Works};
 ghost use Rattle.paged_desks.specs.Calls.{CallDoes, EndsWork, OnLine, works_behind};
 ghost use Rattle.paged_desks.specs.Machines.{IsReady};
-ghost use Rattle.paged_desks.specs.Parts.{HasHalf};
+ghost use Rattle.paged_desks.specs.Parts.{IsCramped};
 ghost use Rattle.paged_ends.specs.Ends.{sync_answer};
 
 use crate::laws::laws;
@@ -17,7 +17,8 @@ use session_state::Stages;
 use worker_log::DiskFault;
 
 /// Flushes every log, and raises every clock, and what is flushed of every log, to the greatest clock; where some log ends below that, the next master is
-/// written first. The answer is that number. While an abort is half done it is refused, and nothing is done.
+/// written first. The answer is that number. Where an abort is half done and what it has still to put back would find no room behind a flush of its log, it is refused,
+/// and nothing is done.
 pub fn sync<D: Stages>(machine: &mut PagedMachine<D>) -> Result<u64, Refusal>
     requires ready { Works machine.old.machine → IsReady D.story machine.old }
     ensures ready { Works machine.new.machine → IsReady D.story machine.new }
@@ -30,14 +31,14 @@ pub fn sync<D: Stages>(machine: &mut PagedMachine<D>) -> Result<u64, Refusal>
     ensures come { IfErr result (λ why. MayCome 1 why ⊎ EndsWork why) }
 
     ensures cause_broken { (result ≡ Err Refusal.Broken) ↔ (machine.old.machine.work.session.works ≡ false) }
-    ensures cause_spent { result ≡ Err Refusal.RowSpent → HasHalf machine.old }
+    ensures cause_spent { (result ≡ Err Refusal.RowSpent) ↔ (Works machine.old.machine × IsCramped machine.old) }
     ensures cause_disk_fault { HasCause (D.faults machine.old.machine.work.disk) (D.faults machine.new.machine.work.disk) (result ≡ Err Refusal.DiskFault) }
 {
     laws();
     if !machine.machine.work.session.works {
         return Err(Refusal::Broken);
     }
-    if machine.machine.any_half() {
+    if !machine.machine.may_sync() {
         return Err(Refusal::RowSpent);
     }
     match machine.sync() {

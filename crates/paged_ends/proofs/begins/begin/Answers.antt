@@ -1,22 +1,19 @@
-use Rattle.std.proofs.Common.{◌∙◌, refl, sym}
+use Rattle.std.proofs.Common.{◌∙◌, refl, sym, true≢false}
 use Rattle.map_model.specs.declared.call.Call.TheVariants as call
 use Rattle.paged_desks.proofs.EndingLemmas.{Grounds}
-use Rattle.paged_desks.proofs.Late.{half_of}
-use Rattle.paged_desks.proofs.Stops.{whole}
-use Rattle.paged_desks.specs.Machines.{view_of}
-use Rattle.session_desks.specs.Parts.{here, shape}
+use Rattle.paged_desks.proofs.Late.{cramped_of, half_in}
 use Rattle.paged_ends.proofs.BeginLemmas.{same_none}
 use Rattle.paged_ends.proofs.SpentLemmas.{spent_does}
 use Rattle.paged_ends.proofs.begins.begin.Goals as goal
 
-pub returns-then-any_half-clause-does : goal.returns-then-any_half-clause-does
-returns-then-any_half-clause-does g c works h xs many tied halves may =
+pub returns-then-not-may_sync-clause-does : goal.returns-then-not-may_sync-clause-does
+returns-then-not-may_sync-clause-does g c works h xs many tied halves may =
     let e = c.laws.ensures in
     let l : Grounds = record { reached = e.reached; needs = e.needs; versions = e.versions; kept = e.kept; prefixes = e.prefixes; seals = e.seals } in
     let lawful = (g.met.D.Disk g.world.𝓛 g.world.𝓜 g.world.𝓡 ((λ s x. x), (λ x. x), (λ x. x), (λ x. x))).lawful in
     let m = c.args.machine.now in
     let ready = c.requires.ready works in
-    spent_does l e.answers e.coming g.D.Disk.story lawful m ready (half_of m ready.sound.desks (sym c.any_half.ensures ∙ c.if-any_half.true)) m.machine.work.session.own call.Begin (λ g xs. refl) (λ g xs. refl) (λ g s. refl) h xs many tied halves may.0
+    spent_does l e.answers e.coming g.D.Disk.story lawful m ready (half_in (cramped_of m e.flush ready.sound.desks (λ all. true≢false (sym (c.may_sync.ensures.1 all) ∙ c.if-not-may_sync.true)))) m.machine.work.session.own call.Begin (λ g xs. refl) (λ g xs. refl) (λ g s. refl) h xs many tied halves may.0
 
 pub begin_synced-requires-clause-ready : goal.begin_synced-requires-clause-ready
 begin_synced-requires-clause-ready g c κs within = c.requires.ready c.if-not-machine.false

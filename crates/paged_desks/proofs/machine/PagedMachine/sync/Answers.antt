@@ -1,16 +1,10 @@
 use Rattle.std.proofs.Common.{refl, subst, ℕ, ◌<◌, ◌≤◌, sym}
 use Rattle.session_desks.specs.Parts.{here, shape}
-use Rattle.session_desks.proofs.MayFlushes.{may_whole}
 use Rattle.session_desks.proofs.SeatLemmas.{turn_high, turn_low}
 use Rattle.paged_desks.specs.Machines.{view_of}
 use Rattle.paged_desks.proofs.Breaking.{not_synced}
 use Rattle.paged_desks.proofs.Syncing.{ready_synced, synced_is}
 use Rattle.paged_desks.proofs.machine.PagedMachine.sync.Goals as goal
-
-pub sync_all-requires-clause-may : goal.sync_all-requires-clause-may
-sync_all-requires-clause-may g c κs within =
-    let m = c.args.self.now in
-    may_whole c.every_flush.ensures (shape m.machine) (view_of m) (here m.machine) m.machine.desks.items c.requires.ready.sound.desks c.requires.whole
 
 pub turn_to-requires-clause-session : goal.turn_to-requires-clause-session
 turn_to-requires-clause-session g c κs within =

@@ -1,26 +1,23 @@
-use Rattle.std.proofs.Common.{inl, inr, refl, ◌∙◌, ◌+◌, ◌≤◌, arith, sym, suc}
+use Rattle.std.proofs.Common.{inl, inr, refl, true≢false, ◌∙◌, ◌+◌, ◌≤◌, arith, sym, suc}
 use Rattle.lean_disk.specs.Story.{IsLawful}
 use Rattle.session_desks.specs.Parts.{here, shape}
 use Rattle.paged_desks.specs.Machines.{pages, view_of}
 use Rattle.paged_desks.proofs.Breaking.{broken_sync, broken_then, broken_up}
 use Rattle.paged_desks.proofs.Doing.{done_none, done_sync, done_then, done_up}
 use Rattle.paged_desks.proofs.Full.{tight_is}
-use Rattle.paged_desks.proofs.Late.{half_of}
+use Rattle.paged_desks.proofs.Late.{cramped_of}
 use Rattle.paged_desks.proofs.Losses.{unread_err}
-use Rattle.paged_desks.proofs.Stops.{whole}
 use Rattle.paged_desks.proofs.Warmth.{can_after, comes_behind, warm_synced}
 use Rattle.paged_desks.proofs.machine.PagedMachine.sync_and_bring.Goals as goal
 
-pub returns-then-any_half-clause-done : goal.returns-then-any_half-clause-done
-returns-then-any_half-clause-done g c _ =
+pub returns-then-not-may_sync-clause-done : goal.returns-then-not-may_sync-clause-done
+returns-then-not-may_sync-clause-done g c _ =
     let l = c.laws.ensures in
     let lawful : (d : g.row.D.Denot) → IsLawful (g.D.Disk.story d) = λ d. (g.met.D.Disk g.world.𝓛 g.world.𝓜 g.world.𝓡 ((λ s x. x), (λ x. x), (λ x. x), (λ x. x))).lawful d in
     done_up (omega arith) (done_none g.D.Disk.story c.args.key l.places l.kept l.prefixes l.seals l.versions lawful l.reached l.needs c.args.self.now)
 
-pub sync-requires-clause-whole : goal.sync-requires-clause-whole
-sync-requires-clause-whole g c κs within =
-    let m = c.args.self.now in
-    whole (shape m.machine) (view_of m) (here m.machine) m.machine.desks.items c.requires.ready.sound.desks (sym c.any_half.ensures ∙ c.if-any_half.false)
+pub sync-requires-clause-may : goal.sync-requires-clause-may
+sync-requires-clause-may g c κs within = c.may_sync.ensures.0 c.if-not-may_sync.false
 
 pub returns-in-Ok-clause-done : goal.returns-in-Ok-clause-done
 returns-in-Ok-clause-done g c on =
@@ -51,11 +48,11 @@ pub returns-in-Err-clause-broke : goal.returns-in-Err-clause-broke
 returns-in-Err-clause-broke g c _ =
     broken_up (let few : suc c.args.self.now.machine.work.session.workers ≤ 15 + suc c.args.self.now.machine.work.session.workers = omega arith in few) (broken_sync c.args.self.now c.sync.new.self (c.in-Err.ensures.failed refl))
 
-pub returns-then-any_half-clause-stuck : goal.returns-then-any_half-clause-stuck
-returns-then-any_half-clause-stuck g c _ =
+pub returns-then-not-may_sync-clause-stuck : goal.returns-then-not-may_sync-clause-stuck
+returns-then-not-may_sync-clause-stuck g c _ =
     let m = c.args.self.now in
     let t = c.requires.crowded in
-    inr (record { tight = tight_is c.args.key c.args.wanted t.on t.above t.held (pages m) c.requires.ready.outside t.crowded; half = half_of m c.requires.ready.sound.desks (sym c.any_half.ensures ∙ c.if-any_half.true) })
+    inr (record { tight = tight_is c.args.key c.args.wanted t.on t.above t.held (pages m) c.requires.ready.outside t.crowded; cramped = cramped_of m c.laws.ensures.flush c.requires.ready.sound.desks (λ may. true≢false (sym (c.may_sync.ensures.1 may) ∙ c.if-not-may_sync.true)) })
 
 pub returns-in-Ok-clause-stuck : goal.returns-in-Ok-clause-stuck
 returns-in-Ok-clause-stuck g c r = inl (c.bring_again.ensures.spent r)
