@@ -1,6 +1,7 @@
 // The calls of the one session over a quiet disk, each of which leaves a machine that works as it is between two calls.
-ghost use Rattle.std.specs.Prelude.{◌<◌, ◌≤◌, ◌-◌, ◌^◌};
+ghost use Rattle.std.specs.Prelude.{◌≡◌, ◌<◌, ◌≤◌, ◌-◌, ◌^◌};
 ghost use Rattle.page_model.specs.Limits.{tombstone};
+ghost use Rattle.paged_desks.specs.Calls.{works_behind};
 
 use lean_disk::MemDisk;
 use map_model::Refusal;
@@ -20,21 +21,20 @@ const CONTROLS: usize = 6;
 
 const WIDTH: usize = 129;
 
-/// A machine with its pager.
+/// A machine with its pager. Its value is whether it works.
 pub struct Engine {
     machine: PagedMachine<QuietDisk>,
 }
 
 impl Model for Engine {
+    ghost use Rattle.std.specs.Prelude.{Bool};
     ghost use Rattle.disk_file.specs.Untold.{untold};
     ghost use Rattle.paged_desks.specs.Machines.{IsReady};
-    ghost use Rattle.paged_desks.specs.declared.machine.PagedMachine.{PagedMachine};
-    ghost use Rattle.quiet_disk.specs.declared.quiet.QuietDisk.{QuietDisk};
     ghost use Rattle.session_desks.specs.Parts.{Works};
 
-    ghost Value = { PagedMachine QuietDisk };
+    ghost Value = { Bool };
 
-    ghost view = { λ e. e.machine };
+    ghost view = { λ e. e.machine.machine.work.session.works };
 
     ghost invariant = { λ e. Works e.machine.machine → IsReady (λ d. untold) e.machine };
 }
@@ -69,24 +69,31 @@ impl Engine {
     }
 
     /// The number of a transaction that begins, behind a sync if one is due.
-    pub fn begin(&mut self, is_long: bool) -> Result<u64, Refusal> {
+    pub fn begin(&mut self, is_long: bool) -> Result<u64, Refusal>
+        ensures { self.new ≡ works_behind result }
+    {
         paged_ends::begin(&mut self.machine, is_long)
     }
 
     /// The number of the end.
-    pub fn commit(&mut self) -> Result<u64, Refusal> {
+    pub fn commit(&mut self) -> Result<u64, Refusal>
+        ensures { self.new ≡ works_behind result }
+    {
         match paged_ends::commit(&mut self.machine) {
             Ok(ended) => Ok(ended.at),
             Err(why) => Err(why),
         }
     }
 
-    pub fn sync(&mut self) -> Result<u64, Refusal> {
+    pub fn sync(&mut self) -> Result<u64, Refusal>
+        ensures { self.new ≡ works_behind result }
+    {
         paged_ends::sync(&mut self.machine)
     }
 
     pub fn get(&mut self, key: u64) -> Result<Option<u64>, Refusal>
         requires { key < 2 ^ 64 - 1 }
+        ensures { self.new ≡ works_behind result }
     {
         paged_calls::get(&mut self.machine, key)
     }
@@ -94,12 +101,14 @@ impl Engine {
     pub fn put(&mut self, key: u64, value: u64) -> Result<Option<u64>, Refusal>
         requires key { key < 2 ^ 64 - 1 }
         requires value { value < tombstone }
+        ensures { self.new ≡ works_behind result }
     {
         paged_calls::put(&mut self.machine, key, value)
     }
 
     pub fn del(&mut self, key: u64) -> Result<Option<u64>, Refusal>
         requires { key < 2 ^ 64 - 1 }
+        ensures { self.new ≡ works_behind result }
     {
         paged_calls::del(&mut self.machine, key)
     }
