@@ -1,4 +1,6 @@
 // Pages that come where dirty ones leave, over a machine of one session.
+ghost use Rattle.std.specs.Prelude.{◌<◌, ◌^◌};
+
 use quiet_disk::trees::{LEAVES, first_disk, key_of};
 use quiet_engine::Engine;
 use std::alloc::Global;
