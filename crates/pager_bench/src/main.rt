@@ -17,9 +17,6 @@ use rig::{Rig, opened};
 use std::time::Instant;
 use std::{env, io};
 
-/// A leaf that was brought so many ago often cools.
-const BACK: u32 = 15;
-
 // Brings the pages of ways to the leaves in turn: each leaf is cold then, and the page that leaves for it is clean. How many came.
 fn faults(rig: &mut Rig, times: u64) -> u64
     requires stands { Stands rig.old }
@@ -35,22 +32,38 @@ fn faults(rig: &mut Rig, times: u64) -> u64
     came
 }
 
-// The same, and behind each of them an earlier leaf is asked for again, which often cools. How many came.
-fn rescues(rig: &mut Rig, times: u64) -> u64
+// A leaf that cools is asked for again. In how many nanoseconds it came; None: none cools.
+fn rescue(rt: &HostRuntime, rig: &mut Rig) -> io::Result<Option<u128>>
+    requires stands { Stands rig.old }
+    ensures stands { Stands rig.new }
+{
+    let Some(leaf) = rig.cooling() else {
+        return Ok(None);
+    };
+    let start = Instant::now(rt)?;
+    let here = rig.bring(key_of(leaf, 0));
+    let took = start.elapsed(rt)?.as_nanos();
+    match here {
+        Some(false) => Ok(Some(took)),
+        _ => Ok(None),
+    }
+}
+
+// So it is behind each of these calls, which bring leaves in turn. How many came so, and in how many nanoseconds.
+fn rescues(rt: &HostRuntime, rig: &mut Rig, times: u64) -> io::Result<(u64, u128)>
     requires stands { Stands rig.old }
     ensures stands { Stands rig.new }
 {
     let mut came = 0u64;
+    let mut took = 0u128;
     for i in 0..times {
-        let leaf = (i % u64::from(LEAVES)) as u32;
-        if let Some(false) = rig.bring(key_of(leaf, 0)) {
+        let _ = rig.bring(key_of((i % u64::from(LEAVES)) as u32, 0));
+        if let Some(nanos) = rescue(rt, rig)? {
             came = came.wrapping_add(1);
-        }
-        if let Some(false) = rig.bring(key_of((leaf + LEAVES - BACK) % LEAVES, 0)) {
-            came = came.wrapping_add(1);
+            took = took.wrapping_add(nanos);
         }
     }
-    came
+    Ok((came, took))
 }
 
 // Goes down a way whose pages are hot. How often they were.
@@ -121,7 +134,7 @@ fn few(rt: &HostRuntime) -> io::Result<(u64, u64, u64)> {
 fn handful(rt: &HostRuntime) -> io::Result<()> {
     let mut rig = opened(rt.alloc())?;
     let a = faults(&mut rig, 200);
-    let b = rescues(&mut rig, 100);
+    let (b, _took) = rescues(rt, &mut rig, 100)?;
     let c = descents(&mut rig, 100);
     let d = seals(100);
     let e = reads(&mut rig.disk, 100);
@@ -160,9 +173,9 @@ fn time_rescues(rt: &HostRuntime, rig: &mut Rig, times: u64) -> io::Result<()>
     requires { Stands rig.old }
     ensures { Stands rig.new }
 {
-    let start = Instant::now(rt)?;
-    let sum = rescues(rig, times);
-    report(rt, "faults and rescues", sum, start)
+    let (sum, took) = rescues(rt, rig, times)?;
+    let micros = took / 1000;
+    println!(rt; "rescues {sum} {micros} us")
 }
 
 fn time_descents(rt: &HostRuntime, rig: &mut Rig, times: u64) -> io::Result<()>
