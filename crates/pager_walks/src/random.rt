@@ -11,12 +11,14 @@ use std::test::Fail;
 /// The blocks of the log.
 const BLOCKS: u32 = 1024;
 
-// A walk: how it begins, how many steps it has, and of a hundred calls how many are puts, in turn for 250 steps each.
+// A walk: how it begins, how many steps it has, of a hundred calls how many are puts, in turn for 250 steps each, and at each how many
+// steps a disk that a crash leaves is recovered.
 struct Mix {
     name: &'static str,
     seed: u64,
     steps: u32,
     puts: [u32; 2],
+    crashes: u32,
 }
 
 static WALKS: [Mix; 3] = [
@@ -25,23 +27,26 @@ static WALKS: [Mix; 3] = [
         seed: 1,
         steps: 2000,
         puts: [36, 46],
+        crashes: 1,
     },
     Mix {
         name: "few changes, so most pages leave clean",
         seed: 2,
         steps: 500,
         puts: [4, 12],
+        crashes: 10,
     },
     Mix {
         name: "many changes, and hardly a commit",
         seed: 3,
         steps: 500,
         puts: [47, 48],
+        crashes: 10,
     },
 ];
 
-// At each so many steps crashes are tried.
-const CRASHES: u32 = 100;
+// At each so many steps a crash is tried by the plain program.
+const IMAGES: u32 = 20;
 
 static CHOICES: [Choice; 4] = [
     Choice::NoBytes,
@@ -53,9 +58,11 @@ static CHOICES: [Choice; 4] = [
 // A step, and what is wrong behind it.
 fn step(walk: &mut Walk, alloc: Global, mix: &Mix, step: u32) -> Result<(), Wrong> {
     walk.step(alloc, mix.puts[(step / 250 % 2) as usize])?;
-    if step % CRASHES == 0 {
+    if step % IMAGES == 0 {
         walk.recalls(alloc)?;
-        walk.survives(alloc, CHOICES[(step / CRASHES % 4) as usize])?;
+    }
+    if step % mix.crashes.max(1) == 0 {
+        walk.survives(alloc, CHOICES[(step / mix.crashes.max(1) % 4) as usize])?;
     }
     Ok(())
 }
