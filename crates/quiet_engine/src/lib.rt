@@ -1,0 +1,6 @@
+//! One session over a machine whose pages need not be in memory, on a quiet disk: for tests and measurements.
+#![tactic(auto)]
+
+mod engine;
+
+pub use engine::Engine;
