@@ -1,5 +1,5 @@
 -- When a take finds none of the ends: behind a call, and behind a take.
-use Rattle.std.proofs.Common.{◌≡◌, ◌≤◌, ◌<◌, ◌-◌, ℕ, suc, List, length, get_or, take, Option, Some, None, sym, ◌∙◌, subst, arith}
+use Rattle.std.proofs.Common.{◌≡◌, ◌≤◌, ◌<◌, ◌-◌, ℕ, suc, List, length, get_or, take, Option, Some, None, refl, sym, ◌∙◌, subst, arith}
 use Rattle.std.proofs.lemmas.Grind.{same_number_lists}
 use Rattle.std.proofs.lemmas.List.{length-take-le}
 use Rattle.map_model.specs.declared.call.Answer.{Answer}
@@ -7,8 +7,9 @@ use Rattle.group_commit.specs.Queues.{Takes}
 use Rattle.group_commit.specs.Ripeness.{flushed_of}
 use Rattle.group_commit.specs.declared.queue.End.{End}
 use Rattle.group_commit.specs.declared.receipts.Receipt.{Receipt}
-use Rattle.buffered_engine.specs.Inside.Asks.{put_ends}
-use Rattle.buffered_engine.specs.Inside.Calm.{AreSame, IsCalm, calm_behind}
+use Rattle.worker_log.specs.Logs.{Log}
+use Rattle.buffered_engine.specs.Inside.Asks.{AreNumbers, put_ends}
+use Rattle.buffered_engine.specs.Inside.Calm.{AreSame, IsCalm, IsStill, calm_behind}
 use Rattle.buffered_engine.proofs.TakeLemmas.{flushed_take}
 
 -- behind a call
@@ -39,3 +40,14 @@ calm_found logs numbers ends long takes fs same =
 -- so the next would find none
 pub takes_calm : (calm : Option (List ℕ)) (numbers : List ℕ) (logs : ℕ) (ends : List (List End)) → calm ≡ Some numbers → logs ≤ length numbers → IsCalm calm logs ends → Takes (take logs numbers) ends None ends
 takes_calm calm numbers logs ends e long h = subst (λ (o : Option (List ℕ)). IsCalm o logs ends) e h (take logs numbers) (same_taken logs numbers long)
+
+-- what a take by numbers finds that the logs have
+pub record FindsNone (logs : ℕ) (log : ℕ → Log) (ends : List (List End)) : Type 0 where
+  pub numbers : List ℕ
+  pub long : logs ≤ length numbers
+  pub are : AreNumbers logs log numbers
+  pub takes : Takes (take logs numbers) ends None ends
+
+pub finds_none : (calm : Option (List ℕ)) (logs : ℕ) (log : ℕ → Log) (ends : List (List End)) → IsStill calm logs log → IsCalm calm logs ends → FindsNone logs log ends
+finds_none None logs log ends s h = absurd s
+finds_none (Some numbers) logs log ends s h = record { numbers = numbers; long = s.long; are = s.are; takes = takes_calm (Some numbers) numbers logs ends refl s.long h }

@@ -9,6 +9,7 @@ ghost use Rattle.engine_front.specs.Turns.{behind_durables};
 ghost use Rattle.buffered_engine.specs.Calls.{DurableDoes};
 ghost use Rattle.session_desks.specs.Desks.{desk_of, place_of};
 ghost use Rattle.buffered_engine.specs.Inside.Asks.{AreNumbers};
+ghost use Rattle.buffered_engine.specs.Inside.Calm.{AreStill, IsStill};
 ghost use Rattle.session_desks.specs.Parts.{IsSeated, here, logs};
 ghost use Rattle.buffered_engine.specs.Receipts.{IsRipeness};
 ghost use Rattle.buffered_engine.specs.States.{InRun, memory_in};
@@ -86,12 +87,28 @@ fn is_half<D>(machine: &Machine<D>, session: u32) -> bool
         .is_half_aborted
 }
 
-// Whether it is known that no end is ripe by these numbers.
-fn is_calm(calm: &Option<[u64; LOGS]>, numbers: &[u64; LOGS]) -> bool
-    ensures { result ≡ true → calm.now ≡ Some numbers.now }
+// Whether the logs are flushed up to these numbers.
+fn are_flushed_to<D>(machine: &Machine<D>, numbers: &[u64; LOGS]) -> bool
+    requires seated { IsSeated machine.now }
+    requires few { machine.now.work.session.workers ≤ most_sessions }
+    ensures { result ≡ true → AreStill machine.now.work.session.workers (logs machine.now) numbers.now }
+{
+    for session in 1..machine.work.session.workers + 1 {
+        if numbers[session as usize - 1] != flushed_of(machine, session) {
+            return false;
+        }
+    }
+    true
+}
+
+// Whether it is known that no end is ripe, since the logs are flushed as they were when none was.
+fn is_calm<D>(calm: &Option<[u64; LOGS]>, machine: &Machine<D>) -> bool
+    requires seated { IsSeated machine.now }
+    requires few { machine.now.work.session.workers ≤ most_sessions }
+    ensures { result ≡ true → IsStill calm.now machine.now.work.session.workers (logs machine.now) }
 {
     match calm {
-        Some(known) => *known == *numbers,
+        Some(numbers) => are_flushed_to(machine, numbers),
         None => false,
     }
 }
@@ -152,8 +169,8 @@ impl<D: Disk> Engine<D> {
         requires works { self.old.works ≡ true }
         ensures { DurableDoes result self.old self.new }
     {
-        let numbers = flushed_numbers(&self.machine.machine);
-        if !is_calm(&self.calm, &numbers) {
+        if !is_calm(&self.calm, &self.machine.machine) {
+            let numbers = flushed_numbers(&self.machine.machine);
             return self.take_durable(numbers);
         }
         // So it is behind most lines: nothing was flushed since none was ripe.

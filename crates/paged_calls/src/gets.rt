@@ -19,6 +19,7 @@ use paged_desks::PagedMachine;
 use session_state::Stages;
 
 /// The value that a key has. Where a page of the key's way is in no frame, the pages of the way are brought into frames.
+#[inline(always)]
 pub fn get<D: Stages>(machine: &mut PagedMachine<D>, key: u64) -> Result<Option<u64>, Refusal>
     requires ready { Works machine.old.machine → IsReady D.story machine.old }
     requires key { key < 2 ^ 64 - 1 }

@@ -16,6 +16,7 @@ use row_changes::{Cold, read_held};
 use session_state::Stages;
 
 // Reads the key in its leaf, unless a page of its way is not hot.
+#[inline(always)]
 fn read<D: Stages>(machine: &mut PagedMachine<D>, key: u64) -> Result<Option<u64>, Cold>
     requires ready { IsReady D.story machine.old }
     requires holds { Holds key machine.old }
@@ -38,6 +39,7 @@ fn read<D: Stages>(machine: &mut PagedMachine<D>, key: u64) -> Result<Option<u64
 }
 
 // Reads the key in its leaf; where a page of its way is not hot, behind the coming of these pages.
+#[inline(always)]
 pub(crate) fn read_warm<D: Stages>(
     machine: &mut PagedMachine<D>,
     key: u64,

@@ -12,6 +12,7 @@ use row_changes::take_row;
 use session_state::Stages;
 
 // The session whose turn it is takes the lock row of a key.
+#[inline(always)]
 pub(crate) fn take<D: Stages>(
     machine: &mut PagedMachine<D>,
     key: u64,

@@ -39,7 +39,7 @@ static TREES: [Tree; 5] = [
             lines: 80,
             ends: 12,
         },
-        scripts: 100,
+        scripts: 60,
     },
     Tree {
         pages: "400",
@@ -52,7 +52,7 @@ static TREES: [Tree; 5] = [
             lines: 250,
             ends: 1,
         },
-        scripts: 60,
+        scripts: 62,
     },
     Tree {
         pages: "1024",
@@ -91,7 +91,7 @@ static TREES: [Tree; 5] = [
             lines: 150,
             ends: 5,
         },
-        scripts: 40,
+        scripts: 80,
     },
 ];
 
@@ -319,9 +319,9 @@ fn run_once<R: Threads + Wait + Sync + Abort>(
 }
 
 // Goes through the scripts of a tree.
-fn go<R: Threads + Wait + Sync + Abort>(rt: &R, alloc: Global, place: usize) {
+fn go<R: Threads + Wait + Sync + Abort>(rt: &R, alloc: Global, place: usize, seed: u64) {
     let tree = TREES.get(place).expect(rt, "a tree");
-    let mut random = Pcg32::new(41, place as u64);
+    let mut random = Pcg32::new(seed, 4);
     let (mut disk, mut map) = grown(rt, alloc, tree);
     for number in 1..=tree.scripts {
         let (left, found) = run_once(rt, alloc, &mut random, tree, number, &map, &disk);
@@ -332,27 +332,32 @@ fn go<R: Threads + Wait + Sync + Abort>(rt: &R, alloc: Global, place: usize) {
 
 #[test]
 fn random_scripts_over_200_pages_are_answered_as_by_a_plain_map(rt: HostRuntime) {
-    go(&rt, rt.alloc(), 0);
+    go(&rt, rt.alloc(), 0, 41);
+}
+
+#[test]
+fn further_scripts_over_200_pages_are_answered_as_by_a_plain_map(rt: HostRuntime) {
+    go(&rt, rt.alloc(), 0, 47);
 }
 
 #[test]
 fn long_transactions_over_200_pages_are_answered_as_by_a_plain_map(rt: HostRuntime) {
-    go(&rt, rt.alloc(), 1);
+    go(&rt, rt.alloc(), 1, 53);
 }
 
 #[test]
 fn random_scripts_over_600_pages_are_answered_as_by_a_plain_map(rt: HostRuntime) {
-    go(&rt, rt.alloc(), 2);
+    go(&rt, rt.alloc(), 2, 59);
 }
 
 #[test]
 fn random_scripts_over_2000_pages_are_answered_as_by_a_plain_map(rt: HostRuntime) {
-    go(&rt, rt.alloc(), 3);
+    go(&rt, rt.alloc(), 3, 61);
 }
 
 #[test]
 fn scripts_of_one_session_print_the_same_in_few_frames(rt: HostRuntime) {
-    go(&rt, rt.alloc(), 4);
+    go(&rt, rt.alloc(), 4, 67);
 }
 
 // Each call of the disk behind the reads of the opening, until the run makes no more.

@@ -4,6 +4,8 @@ use Rattle.group_commit.specs.Queues.{Takes}
 use Rattle.group_commit.specs.Ripeness.{flushed_of}
 use Rattle.group_commit.specs.declared.queue.End.{End}
 use Rattle.group_commit.specs.declared.receipts.Receipt.{Receipt}
+use Rattle.worker_log.specs.Logs.{Log}
+use Rattle.buffered_engine.specs.Inside.Asks.{AreNumbers}
 
 -- so many numbers, the same as these
 pub record AreSame (logs : ℕ) (numbers fs : List ℕ) : Type 0 where
@@ -19,3 +21,12 @@ IsCalm (Some numbers) logs ends = (fs : List ℕ) → AreSame logs numbers fs �
 abbrev pub calm_behind : Option (List ℕ) → Option Receipt → Option (List ℕ)
 calm_behind calm None = calm
 calm_behind calm (Some r) = None
+
+-- so many logs are flushed as they were then
+pub record AreStill (logs : ℕ) (log : ℕ → Log) (numbers : List ℕ) : Type 0 where
+  pub long : logs ≤ length numbers
+  pub are : AreNumbers logs log numbers
+
+abbrev pub IsStill : Option (List ℕ) → (logs : ℕ) → (log : ℕ → Log) → Type 0
+IsStill None logs log = ⊥
+IsStill (Some numbers) logs log = AreStill logs log numbers

@@ -1,0 +1,8 @@
+use Rattle.std.proofs.Common.{◌≡◌, ◌<◌, ℕ}
+use Rattle.group_commit.specs.Ripeness.{flushed_of}
+use Rattle.session_desks.specs.Parts.{here}
+use Rattle.session_desks.specs.Desks.{log_of}
+use Rattle.buffered_engine.proofs.durables.are_flushed_to.Given as goal
+
+abbrev pub invariant-loop-session : goal.invariant-loop-session
+invariant-loop-session g l = (w : ℕ) → 0 < w → w < l.session → flushed_of l.numbers w ≡ (log_of (here l.machine) l.machine.desks.items w).flushed
