@@ -70,13 +70,13 @@ fn next_behind(works: bool, next: Next, answer: &Answer) -> Next
     }
 }
 
-// No end that waits was ripe by these numbers, and none is behind a call that ended nothing.
-fn calm_behind(calm: Option<[u64; LOGS]>, receipt: &Option<Receipt>) -> Option<[u64; LOGS]>
-    ensures { result ≡ calm_behind calm receipt.now }
+// Behind a call that ended something it is not known any more that no end is ripe.
+#[inline(always)]
+fn end_calm(calm: &mut Option<[u64; LOGS]>, receipt: &Option<Receipt>)
+    ensures { calm.new ≡ calm_behind calm.old receipt.now }
 {
-    match receipt {
-        Some(_) => None,
-        None => calm,
+    if receipt.is_some() {
+        *calm = None;
     }
 }
 
@@ -129,7 +129,7 @@ impl<D: Stages> Engine<D> {
         let is_long = is_long(&self.unripe, session, call);
         let response = ask(&mut self.machine, session, call, is_long);
         put_end(&mut self.unripe, response);
-        self.calm = calm_behind(self.calm, &response.receipt);
+        end_calm(&mut self.calm, &response.receipt);
         self.next = next_behind(
             self.machine.machine.work.session.works,
             self.next,
@@ -154,7 +154,7 @@ impl<D: Stages> Engine<D> {
         core_commit::every_rise();
         let response = abort(&mut self.machine);
         put_end(&mut self.unripe, response);
-        self.calm = calm_behind(self.calm, &response.receipt);
+        end_calm(&mut self.calm, &response.receipt);
         self.next = next_behind(
             self.machine.machine.work.session.works,
             self.next,

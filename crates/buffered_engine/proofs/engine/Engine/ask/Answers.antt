@@ -23,8 +23,8 @@ invariant_of-self g c =
     let e = c.ask-response.ensures in (
       asked_engine c.every_reached.ensures c.every_outcome.ensures c.every_rise.ensures g.D.Disk.story g.D.Disk.faults m n c.self.inside.next c.next_behind-self-inside.result c.self.inside.unripe c.put_end.new.unripe (search rules) c.self.invariant.0 c.ask-response.result c.next_behind-self-inside.ensures c.put_end.ensures
           c.args.session c.args.call.now c.is_long-is_long.result (ap (λ s. s.next) c.self.view_is ∙ c.requires.next) (subst (λ s. IsAsked s.sessions c.args.session c.args.call.now) (sym c.self.view_is) c.requires.asked) c.is_long-is_long.ensures e.turn e.went,
-      calm_behind_put c.self.inside.calm c.calm_behind-self-inside.result c.ask-response.result.receipt c.ask-response.result.answer m.machine.work.session.workers n.machine.work.session.workers c.self.inside.unripe c.put_end.new.unripe
-          c.calm_behind-self-inside.ensures c.put_end.ensures e.went.session.0 c.self.invariant.1,
+      calm_behind_put c.self.inside.calm c.end_calm.new.calm c.ask-response.result.receipt c.ask-response.result.answer m.machine.work.session.workers n.machine.work.session.workers c.self.inside.unripe c.put_end.new.unripe
+          c.end_calm.ensures c.put_end.ensures e.went.session.0 c.self.invariant.1,
     )
 
 pub ask-response-requires-clause-ready : goal.ask-response-requires-clause-ready

@@ -22,8 +22,8 @@ invariant_of-self g c =
     let e = c.abort-response.ensures in (
       abort_engine c.every_reached.ensures c.every_outcome.ensures c.every_rise.ensures g.D.Disk.story g.D.Disk.faults m n c.self.inside.next c.next_behind-self-inside.result c.self.inside.unripe c.put_end.new.unripe (search rules) c.self.invariant.0 c.abort-response.result c.next_behind-self-inside.ensures c.put_end.ensures
           (ap (λ s. s.next) c.self.view_is ∙ c.requires.next) e.turn e.went e.due,
-      calm_behind_put c.self.inside.calm c.calm_behind-self-inside.result c.abort-response.result.receipt c.abort-response.result.answer m.machine.work.session.workers n.machine.work.session.workers c.self.inside.unripe c.put_end.new.unripe
-          c.calm_behind-self-inside.ensures c.put_end.ensures e.went.session.0 c.self.invariant.1,
+      calm_behind_put c.self.inside.calm c.end_calm.new.calm c.abort-response.result.receipt c.abort-response.result.answer m.machine.work.session.workers n.machine.work.session.workers c.self.inside.unripe c.put_end.new.unripe
+          c.end_calm.ensures c.put_end.ensures e.went.session.0 c.self.invariant.1,
     )
 
 pub abort-response-requires-clause-ready : goal.abort-response-requires-clause-ready
