@@ -16,8 +16,8 @@ pub(crate) struct Scene<'a> {
     pub plain: &'a Plain,
 }
 
-// The lines of a map in a dump.
-fn pairs_of<R: Abort>(rt: &R, alloc: Global, map: &BTreeMap<u64, u64>) -> String {
+/// The lines of a map in a dump.
+pub(crate) fn pairs_of<R: Abort>(rt: &R, alloc: Global, map: &BTreeMap<u64, u64>) -> String {
     let mut lines = String::new(alloc);
     for (key, value) in map {
         let line = format!(in alloc; "pair {key} {value}\n").expect(rt, MEMORY);
@@ -27,8 +27,8 @@ fn pairs_of<R: Abort>(rt: &R, alloc: Global, map: &BTreeMap<u64, u64>) -> String
     lines
 }
 
-// The number behind this word in a line, up to a space.
-fn number_behind(line: &str, word: &str) -> Option<u64> {
+/// The number behind this word in a line, up to a space.
+pub(crate) fn number_behind(line: &str, word: &str) -> Option<u64> {
     let rest = line.strip_prefix(word)?;
     let mut number = 0u64;
     for byte in rest.bytes() {

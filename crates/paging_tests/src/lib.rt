@@ -4,9 +4,13 @@
 #[cfg(test)]
 mod cases;
 #[cfg(test)]
+mod flawed;
+#[cfg(test)]
 mod found;
 #[cfg(test)]
 mod plain;
+#[cfg(test)]
+mod rows;
 #[cfg(test)]
 mod runs;
 #[cfg(test)]

@@ -17,8 +17,8 @@ pub(crate) const MEMORY: &str = "memory";
 // The areas of a disk of sixteen sessions.
 const AREAS: u32 = 18;
 
-// Holds no worker.
-struct Open;
+/// Holds no worker.
+pub(crate) struct Open;
 
 impl Gate for Open {
     fn pass(&self, _: u32, _: u64) {}
@@ -40,6 +40,16 @@ impl Outcome {
     }
 }
 
+/// The words of a command.
+pub(crate) fn words_of<R: Abort>(rt: &R, alloc: Global, command: &[&str]) -> Vec<String> {
+    let mut words = Vec::new(alloc);
+    for word in command {
+        let copy = String::from_str(alloc, word).expect(rt, MEMORY);
+        words.push(copy).expect(rt, MEMORY);
+    }
+    words
+}
+
 /// Runs a command that reads this text.
 pub(crate) fn run_command<R: Threads + Wait + Sync + Abort>(
     rt: &R,
@@ -48,11 +58,7 @@ pub(crate) fn run_command<R: Threads + Wait + Sync + Abort>(
     text: &str,
     disk: MemDisk,
 ) -> Outcome {
-    let mut words = Vec::new(alloc);
-    for word in command {
-        let copy = String::from_str(alloc, word).expect(rt, MEMORY);
-        words.push(copy).expect(rt, MEMORY);
-    }
+    let words = words_of(rt, alloc, command);
     let mut source = MemSource::new(alloc, text.as_bytes(), 4096).expect(rt, MEMORY);
     let mut sink = TimedSink::new(alloc);
     let Ended { status, disk } = run(rt, alloc, &words, &mut source, &mut sink, disk, &Open);

@@ -15,19 +15,19 @@ use std::process::Abort;
 use std::sync::Wait;
 use std::thread::Threads;
 
-// A disk, its tree, the frames, and how many scripts run on it, one after another.
-struct Tree {
-    pages: &'static str,
-    blocks: &'static str,
-    frames: &'static str,
+/// A disk, its tree, the frames, and how many scripts run on it, one after another.
+pub(crate) struct Tree {
+    pub pages: &'static str,
+    pub blocks: &'static str,
+    pub frames: &'static str,
     // How many calls of the pages' area an opening makes.
-    reads: u64,
-    walk: Walk,
-    scripts: u64,
+    pub reads: u64,
+    pub walk: Walk,
+    pub scripts: u64,
 }
 
-// Trees of some 200, 600 and 2,000 pages: put in rising order, each leaf has 30 of the even keys.
-static TREES: [Tree; 5] = [
+/// Trees of some 200, 600 and 2,000 pages: put in rising order, each leaf has 30 of the even keys.
+pub(crate) static TREES: [Tree; 5] = [
     Tree {
         pages: "400",
         blocks: "512",
@@ -110,8 +110,8 @@ const AREAS: u32 = 5;
 // How many keys a transaction puts that makes a tree.
 const PUTS: u64 = 60;
 
-// Puts each even key below a bound. The map, and the disk with no block to redo.
-fn grown<R: Threads + Wait + Sync + Abort>(
+/// Puts each even key below a bound. The map, and the disk with no block to redo.
+pub(crate) fn grown<R: Threads + Wait + Sync + Abort>(
     rt: &R,
     alloc: Global,
     tree: &Tree,
@@ -154,9 +154,14 @@ fn is_due<R: Abort>(rt: &R, alloc: Global, due: &mut Vec<String>, line: &str) ->
     is_found && is_first
 }
 
-// Whether these lines are those that are wanted, from the first on, and among them each commit durable once, behind its answer, and before the line behind the next
-// sync. How many of those that are wanted were there; none where one is another.
-fn count_met<R: Abort>(rt: &R, alloc: Global, printed: &str, wanted: &[Wanted]) -> Option<usize> {
+/// Whether these lines are those that are wanted, from the first on, and among them each commit durable once, behind its answer, and before the line behind the next
+/// sync. How many of those that are wanted were there; none where one is another.
+pub(crate) fn count_met<R: Abort>(
+    rt: &R,
+    alloc: Global,
+    printed: &str,
+    wanted: &[Wanted],
+) -> Option<usize> {
     let mut wants = wanted.iter();
     let mut met = 0usize;
     let mut due = Vec::new(alloc);
@@ -188,8 +193,8 @@ fn count_met<R: Abort>(rt: &R, alloc: Global, printed: &str, wanted: &[Wanted]) 
     Some(met)
 }
 
-// What is printed behind the first line.
-fn behind_first(printed: &str) -> &str {
+/// What is printed behind the first line.
+pub(crate) fn behind_first(printed: &str) -> &str {
     match printed.split_once('\n') {
         Some((_, rest)) => rest,
         None => "",
