@@ -12,7 +12,7 @@ use Rattle.map_model.specs.Outputs.{Reply, answers_told}
 use Rattle.map_model.specs.Pairings.{answers_in, counted, in_turn, script_of}
 use Rattle.map_model.specs.Transcripts as model
 use Rattle.image_model.specs.Images.{map_of}
-use Rattle.lean_disk.specs.Area.{Area, Leaves}
+use Rattle.lean_disk.specs.Area.{Area}
 use Rattle.lean_disk.specs.Calls.{Noted}
 use Rattle.lean_disk.specs.Faults.{HasCause}
 use Rattle.lean_disk.specs.Moments.{LeavesOnly}
