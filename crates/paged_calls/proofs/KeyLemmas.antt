@@ -1,7 +1,7 @@
 -- A call of a key, in one run to which its machine is tied: where it is refused, and how far it has come behind its row.
-use Rattle.std.proofs.Common.{◌≡◌, ◌∙◌, ◌⊎◌, inl, inr, ◌≤◌, ◌<◌, ◌+◌, ◌^◌, ◌%◌, ◌++◌, ◌||◌, ℕ, Bool, true, false, List, [], ◌∷◌, length, Some, ap, refl, sym, subst, arith, append-nil, true≢false}
+use Rattle.std.proofs.Common.{◌≡◌, ◌∙◌, ◌⊎◌, inl, inr, ◌≤◌, ◌<◌, ◌^◌, ◌%◌, ◌++◌, ◌||◌, ℕ, Bool, true, false, List, [], ◌∷◌, length, Some, ap, refl, sym, subst, arith, append-nil, true≢false}
 use Rattle.std.proofs.lemmas.List.{length-append}
-use Rattle.map_model.specs.Lists.{all, any, keep}
+use Rattle.map_model.specs.Lists.{any, keep}
 use Rattle.map_model.specs.declared.call.Answer.TheVariants as answer
 use Rattle.map_model.specs.declared.call.Call.{Call}
 use Rattle.map_model.specs.declared.call.Call.TheVariants as call

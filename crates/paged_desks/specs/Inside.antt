@@ -16,7 +16,7 @@ use Rattle.paged_rows.specs.declared.wanted.Wanted.TheVariants as want
 use Rattle.row_words.specs.declared.event.Event.{Event}
 use Rattle.rows_trait.specs.declared.view.View.{View}
 use Rattle.rows_trait.specs.Views.{state}
-use Rattle.session_desks.specs.Parts.{AreAsMany, SeatFits, logs, shape}
+use Rattle.session_desks.specs.Parts.{AreAsMany, SeatFits, shape}
 use Rattle.paged_desks.specs.Machines.{memory, pages, view_of}
 use Rattle.paged_desks.specs.Pages.{ArePaging, HasPaged, hot_in}
 use Rattle.paged_desks.specs.Parts.{IsLate, StandsNowhere}
