@@ -28,7 +28,7 @@ use Rattle.core_covers.specs.Changes.{EveryChange}
 use Rattle.core_covers.specs.Covers.{EveryCover, IsSettled}
 use Rattle.checkpointer.specs.Increments.{AreSaves, IncrementFails, Increments, KeepsSome, KnowsCovers, is_save}
 use Rattle.checkpointer.specs.Inside.{AreLow, AreSaved, Going, Looked}
-use Rattle.checkpointer.specs.Savers.{KeepsRun, PagesGo, Reaches, SameLogs, Saves, Settles, firm_of}
+use Rattle.checkpointer.specs.Savers.{KeepsRun, PagesGo, SameLogs, Saves, Settles, firm_of}
 
 -- ## States
 

@@ -23,7 +23,6 @@ use Rattle.core_state.specs.Needs.{is_held_by, may, may_hold, value_in}
 use Rattle.core_state.specs.Openings.{Opening}
 use Rattle.core_state.specs.States.{State, Worker}
 use Rattle.core_state.specs.States.{start as core_start}
-use Rattle.core_state.specs.Steps as core
 use Rattle.core_state.specs.Steps.{AllMet, at_pages, at_row, happens, state_after}
 use Rattle.core_state.proofs.Runs.{run_more}
 use Rattle.disk_image.specs.Records.{entry_of}

@@ -21,7 +21,7 @@ use Rattle.core_paging.specs.Paging.{EveryResidence}
 use Rattle.core_state.proofs.Runs.{run_more}
 use Rattle.core_state.specs.Events as happening
 use Rattle.core_state.specs.Local.{is_sync}
-use Rattle.core_state.specs.Needs.{may, needs, value_in}
+use Rattle.core_state.specs.Needs.{may, value_in}
 use Rattle.core_state.specs.Openings.{Opening}
 use Rattle.core_state.specs.States.{State, Worker}
 use Rattle.core_state.specs.States.{start as core_start}

@@ -4,7 +4,6 @@ use Rattle.std.proofs.lemmas.Bool.{and_from, and_parts, eq-eqb}
 use Rattle.map_model.specs.Lists.{Has}
 use Rattle.map_model.specs.declared.call.Refusal.{Refusal}
 use Rattle.map_model.specs.declared.call.Refusal.TheVariants as refusal
-use Rattle.core_calls.specs.Fronts.{Done}
 use Rattle.core_calls.specs.Warms.{IsWarmFrom}
 use Rattle.core_calls.specs.Room.{EveryRoom, free_list, is_full_at, room_takes}
 use Rattle.core_paging.specs.Paging.{EveryResidence, Residence}

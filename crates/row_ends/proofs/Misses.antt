@@ -3,7 +3,7 @@ use Rattle.std.proofs.Common.{◌≡◌, ◌∙◌, true, false, List, [], ◌�
 use Rattle.map_model.specs.Lists.{all, any}
 use Rattle.core_state.specs.Openings.{Opening}
 use Rattle.core_state.specs.States.{State}
-use Rattle.core_state.specs.Steps.{AllMet, run}
+use Rattle.core_state.specs.Steps.{AllMet}
 use Rattle.core_calls.specs.LogEvents.{is_log}
 use Rattle.core_calls.specs.Steps.{is_step, is_structure}
 use Rattle.disk_runs.specs.Quiet.{is_quiet}

@@ -1,7 +1,7 @@
 -- No number of a disk that a run leaves is far above those on entry.
 use Rattle.std.proofs.Common.{◌≡◌, ◌⊎◌, inl, inr, ⊎_elim, ◌≤◌, ◌<◌, ◌++◌, ℕ, suc, List, [], ◌∷◌, length, refl, sym, ◌∙◌, ap, subst, arith}
 use Rattle.std.proofs.lemmas.List.{length-append}
-use Rattle.map_model.proofs.ListLemmas.{has_right, keep_has, order_has}
+use Rattle.map_model.proofs.ListLemmas.{order_has}
 use Rattle.map_model.specs.Lists.{Has}
 use Rattle.image_model.specs.Entries.{Entry, earlier}
 use Rattle.image_model.specs.Images.{Image, bases, found, gathered, page_or, sorted}
