@@ -1,11 +1,11 @@
 -- A cut in a run.
-use Rattle.std.proofs.Common.{◌≡◌, inl, inr, ⊎_elim, ◌≤◌, ◌<◌, ◌+◌, ◌-◌, ◌^◌, ◌++◌, ℕ, zero, suc, max, true, List, [], ◌∷◌, drop, length, slice_index, Option, refl, sym, ap, ◌∙◌, subst, arith}
+use Rattle.std.proofs.Common.{◌≡◌, ◌≤◌, ◌<◌, ◌+◌, ◌-◌, ◌^◌, ℕ, zero, suc, List, [], ◌∷◌, length, slice_index, Option, refl, sym, ap, ◌∙◌, subst, arith}
 use Rattle.image_model.specs.Fair.{piece}
 use Rattle.core_state.specs.Openings.{Opening}
 use Rattle.core_state.specs.States.{flushed_by_all}
 use Rattle.core_state.specs.Events.{Event}
 use Rattle.core_state.specs.Steps.{state_after}
-use Rattle.core_disk.specs.Versions.{EveryVersion, then}
+use Rattle.core_disk.specs.Versions.{EveryVersion}
 use Rattle.disk_image.specs.Laws.{EverySealed}
 use Rattle.disk_image.specs.Shown.{head_of}
 use Rattle.disk_slots.specs.Masters.{IsMaster}
@@ -22,17 +22,17 @@ use Rattle.log_calls.specs.Calls.{Anything}
 use Rattle.log_calls.specs.Cuts.{CutsOn}
 use Rattle.log_calls.specs.Cuts as master_cuts
 use Rattle.disk_runs.specs.MasterLaws.{with_cut}
-use Rattle.disk_runs.specs.Masters.{IsNextOf, slot_of}
+use Rattle.disk_runs.specs.Masters.{slot_of}
 use Rattle.disk_runs.specs.Moments.{LeavesSome}
 use Rattle.disk_runs.specs.Rings.{IsNextCut, heads_of, passed_of}
-use Rattle.disk_runs.specs.Stands.{Known, LeavesRun, Stands}
+use Rattle.disk_runs.specs.Stands.{Known, LeavesRun}
 use Rattle.disk_runs.proofs.LineLemmas as lines
 use Rattle.disk_runs.proofs.MasterLemmas.{is_slot}
 use Rattle.disk_runs.proofs.MomentLemmas.{every_moment}
 use Rattle.disk_runs.proofs.RingLemmas.{every_still_cut}
 use Rattle.disk_runs.proofs.StandLemmas.{every_rest}
-use Rattle.checkpointer.specs.Cuts.{ArePassed, AreRings, CutGoes, IsCutOff, IsDue, KeepsCut}
-use Rattle.checkpointer.specs.Inside.{AreHeads, AreHeadsTo, next_cut}
+use Rattle.checkpointer.specs.Cuts.{ArePassed, AreRings, IsCutOff, IsDue, KeepsCut}
+use Rattle.checkpointer.specs.Inside.{AreHeads, next_cut}
 use Rattle.checkpointer.specs.Numbers.{IsNumber}
 
 -- ## Numbers

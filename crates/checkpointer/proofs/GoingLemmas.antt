@@ -1,9 +1,9 @@
 -- An increment from frame to frame.
-use Rattle.std.proofs.Common.{◌≡◌, ◌⊎◌, inl, inr, ⊎_elim, ◌≤◌, ◌<◌, ℕ, Bool, true, false, cond, ltb, List, [], ◌∷◌, ◌++◌, Result, Ok, Err, OnOk, refl, sym, ap, ◌∙◌, subst, arith, append_assoc, true≢false}
+use Rattle.std.proofs.Common.{◌≡◌, ◌⊎◌, ⊎_elim, ◌≤◌, ◌<◌, ℕ, Bool, true, false, cond, ltb, List, [], ◌∷◌, ◌++◌, Result, Ok, Err, OnOk, refl, sym, ap, ◌∙◌, subst, arith, append_assoc, true≢false}
 use Rattle.std.proofs.lemmas.Bool.{and_from, and_parts, cond-true, ltb-true}
 use Rattle.std.proofs.lemmas.List.{append-nil}
 use Rattle.map_model.specs.Lists.{all, upd}
-use Rattle.image_model.specs.Entries.{Contents, Entry}
+use Rattle.image_model.specs.Entries.{Contents}
 use Rattle.map_model.proofs.ListLemmas.{upd_same}
 use Rattle.core_commit.proofs.Copies.{at_place}
 use Rattle.core_state.specs.Openings.{Opening}
@@ -16,20 +16,19 @@ use Rattle.core_paging.specs.Paging.{EveryResidence}
 use Rattle.disk_image.specs.Laws.{EverySealed}
 use Rattle.worker_log.specs.Laws.{EveryKept, EveryPrefix}
 use Rattle.lean_disk.specs.Moments.{Framed, LeavesOnly}
-use Rattle.lean_disk.specs.Story.{Crash, IsLawful, Story}
+use Rattle.lean_disk.specs.Story.{IsLawful, Story}
 use Rattle.lean_disk.proofs.MomentLemmas as moments
 use Rattle.lean_disk.proofs.MomentLemmas.{framed, started, weaker}
-use Rattle.disk_runs.specs.Masters.{IsNoEarlier}
 use Rattle.disk_runs.specs.Moments.{LeavesSome}
 use Rattle.disk_runs.specs.Stands.{Known, LeavesRun, Stands}
 use Rattle.disk_runs.proofs.LineLemmas as lines
 use Rattle.disk_runs.proofs.MomentLemmas.{every_moment}
 use Rattle.disk_runs.proofs.StandLemmas.{every_rest}
 use Rattle.core_covers.specs.Changes.{EveryChange}
-use Rattle.core_covers.specs.Covers.{AreCovers, EveryCover, IsSettled, shard_of}
+use Rattle.core_covers.specs.Covers.{EveryCover, IsSettled}
 use Rattle.checkpointer.specs.Increments.{AreSaves, IncrementFails, Increments, KeepsSome, KnowsCovers, is_save}
 use Rattle.checkpointer.specs.Inside.{AreLow, AreSaved, Going, Looked}
-use Rattle.checkpointer.specs.Savers.{IsFound, KeepsRun, KnowsFirm, MaySave, PagesGo, Reaches, SameLogs, Saves, Settles, firm_of}
+use Rattle.checkpointer.specs.Savers.{KeepsRun, PagesGo, SameLogs, Saves, Settles, firm_of}
 
 -- ## States
 

@@ -1,17 +1,15 @@
 -- The number of a cut.
-use Rattle.std.proofs.Common.{◌≡◌, ◌⊎◌, inl, inr, ⊎_elim, ◌≤◌, ◌<◌, ◌+◌, ℕ, min, List, Option, Some, None, refl, sym, ap, ◌∙◌, subst, arith}
+use Rattle.std.proofs.Common.{◌≡◌, ⊎_elim, ◌≤◌, ◌<◌, ◌+◌, ℕ, min, List, Option, ap, arith}
 use Rattle.std.proofs.lemmas.Bool.{cases_lt}
 use Rattle.core_state.specs.Openings.{Opening}
-use Rattle.core_state.specs.States.{State, flushed_by_all}
-use Rattle.core_state.specs.Events.{Event}
+use Rattle.core_state.specs.States.{State}
 use Rattle.core_state.specs.Steps.{state_after}
-use Rattle.core_covers.specs.Cuts.{EveryCutMet, EveryCutNumber, IsLeastOf}
-use Rattle.core_covers.specs.Firsts.{IsBelowFirsts, first_of}
-use Rattle.disk_image.specs.Formats.{format_of}
+use Rattle.core_covers.specs.Cuts.{EveryCutMet, EveryCutNumber}
+use Rattle.core_covers.specs.Firsts.{IsBelowFirsts}
 use Rattle.page_model.specs.Nodes.{Format}
 use Rattle.lean_disk.specs.Story.{Story}
 use Rattle.checkpointer.specs.Inside.{IsLeastCover}
-use Rattle.checkpointer.specs.Numbers.{EveryMayCut, EveryNumber, IsBelow, IsFirstOfAll, IsNumber, cover_of}
+use Rattle.checkpointer.specs.Numbers.{EveryMayCut, EveryNumber, IsBelow, IsFirstOfAll, cover_of}
 use Rattle.checkpointer.specs.Savers.{firm_of}
 
 -- below the first of all is below each

@@ -1,17 +1,16 @@
 -- An increment: the dirty pages of one shard are saved, and the pages are synced.
-use Rattle.std.specs.Prelude.{◌≡◌, ◌<◌, ◌≤◌, ◌++◌, ◌∷◌, [], ℕ, Bool, true, false, List}
+use Rattle.std.specs.Prelude.{◌≡◌, ◌<◌, ◌++◌, ℕ, Bool, true, false, List}
 use Rattle.map_model.specs.Lists.{all, upd}
 use Rattle.core_state.specs.Openings.{Opening}
-use Rattle.core_state.specs.States.{State, in_frame}
+use Rattle.core_state.specs.States.{State}
 use Rattle.core_state.specs.Events.{Event}
-use Rattle.core_state.specs.Needs.{is_dirty}
 use Rattle.core_state.specs.Steps.{AllMet, state_after}
-use Rattle.lean_disk.specs.Moments.{Framed, LeavesOnly}
+use Rattle.lean_disk.specs.Moments.{LeavesOnly}
 use Rattle.lean_disk.specs.Story.{Crash, Story}
 use Rattle.disk_runs.specs.Moments.{LeavesSome}
 use Rattle.disk_runs.specs.Stands.{Known, Stands}
 use Rattle.core_covers.specs.Covers.{AreCovers, shard_of}
-use Rattle.checkpointer.specs.Savers.{IsDirtyIn, PagesGo, Reaches, firm_of}
+use Rattle.checkpointer.specs.Savers.{IsDirtyIn, PagesGo, firm_of}
 use Rattle.checkpointer.specs.declared.increment.Unsaved.{Unsaved}
 use Rattle.checkpointer.specs.declared.increment.Unsaved.TheVariants.{Again, DiskFault}
 

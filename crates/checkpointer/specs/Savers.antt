@@ -1,5 +1,5 @@
 -- Who saves the pages that stand in frames: what its calls say, in the words of a run over a disk.
-use Rattle.std.specs.Prelude.{◌≡◌, ◌<◌, ◌≤◌, ◌++◌, ◌∷◌, [], ℕ, true, List, Option, Some, None}
+use Rattle.std.specs.Prelude.{◌≡◌, ◌≤◌, ◌++◌, ◌∷◌, [], ℕ, true, List, Option, Some, None}
 use Rattle.core_state.specs.Openings.{Opening}
 use Rattle.core_state.specs.States.{State, flushed_by_all, in_frame}
 use Rattle.core_state.specs.Events.{Event}
@@ -8,7 +8,6 @@ use Rattle.core_state.specs.Steps.{state_after}
 use Rattle.lean_disk.specs.Moments.{LeavesOnly}
 use Rattle.lean_disk.specs.Story.{Crash, Story}
 use Rattle.page_store.specs.Bases.{image_page}
-use Rattle.disk_runs.specs.Moments.{LeavesSome}
 use Rattle.disk_runs.specs.Stands.{Known, LeavesRun, Stands}
 use Rattle.core_covers.specs.Covers.{IsSettled}
 use Rattle.checkpointer.specs.declared.saver.Dirty.{Dirty}

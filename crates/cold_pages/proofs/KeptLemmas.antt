@@ -1,19 +1,19 @@
 -- What a page is that is as it was kept, and how the table stays right.
-use Rattle.std.proofs.Common.{◌≡◌, ◌≢◌, ◌⊎◌, inl, inr, ◌<◌, ℕ, zero, suc, Bool, true, false, ◌==◌, ◌&&◌, ltb, List, [], ◌∷◌, length, set, Option, Some, None, refl, sym, ap, ◌∙◌, subst, arith, true≢false}
+use Rattle.std.proofs.Common.{◌≡◌, ◌≢◌, ◌⊎◌, inl, inr, ◌<◌, ℕ, Bool, true, false, ◌==◌, ◌&&◌, List, [], ◌∷◌, length, set, Option, Some, None, refl, sym, ap, ◌∙◌, subst, arith, true≢false}
 use Rattle.std.proofs.lemmas.Bool.{cases_eq, cond-true, cond-false, eq-eqb, ne_eqb}
 use Rattle.std.proofs.lemmas.List.{length-set, get_or-set_same, get_or-set_other}
 use Rattle.image_model.specs.Entries.{Contents}
-use Rattle.page_model.specs.Pairs.{Pair, Has, Span, spans}
+use Rattle.page_model.specs.Pairs.{Pair, Has, Span}
 use Rattle.page_model.specs.Nodes.{Format, Node, free, is_leaf}
 use Rattle.page_model.specs.Tree.{Names, IsTree}
 use Rattle.page_model.specs.Needs.{key_at}
 use Rattle.page_model.specs.Page.{Page, word_at}
-use Rattle.page_model.proofs.Tree.{child_page, only, not_free}
+use Rattle.page_model.proofs.Tree.{child_page, only}
 use Rattle.btree_node.specs.Words.{IsOrdered}
 use Rattle.cold_pages.specs.declared.kept.Kept.{Kept}
 use Rattle.cold_pages.specs.Kept.{nothing, kept_of, level_of, children, own, named, left, come}
-use Rattle.cold_pages.specs.Compared.{HasFields, IsKeptUnder, AreAsKept, IsAsKept}
-use Rattle.cold_pages.specs.Laws.{IsOf, NamesFrom, IsRight, contents, IsButEntries, KeptLaws, EveryKept}
+use Rattle.cold_pages.specs.Compared.{IsKeptUnder, AreAsKept, IsAsKept}
+use Rattle.cold_pages.specs.Laws.{IsOf, NamesFrom, IsRight, contents, IsButEntries, EveryKept}
 use Rattle.cold_pages.proofs.PairLemmas.{pair_at, place_of, pair_of_span, span_of_pair, AllIn, same_ordered}
 use Rattle.cold_pages.proofs.TableLemmas.{children_inner, children_none, IsOff, Naming, named_or_off, named_but, named_off, named_on, length-named}
 

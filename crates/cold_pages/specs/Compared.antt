@@ -1,5 +1,5 @@
 -- When a page that was loaded is as it was kept.
-use Rattle.std.specs.Prelude.{◌≡◌, ◌<◌, ℕ, true, false, List, length, Some}
+use Rattle.std.specs.Prelude.{◌≡◌, ◌<◌, ℕ, false, List, length, Some}
 use Rattle.page_model.specs.Pairs.{Pair}
 use Rattle.page_model.specs.Needs.{key_at}
 use Rattle.page_model.specs.Page.{Page, word_at}

@@ -1,8 +1,7 @@
--- Read Limits, Refusals, Rooms, Logs, Areas, Calls and Turns in this order.
+-- Read Limits, Refusals, Rooms, Logs, Areas and Calls in this order.
 pub mod Limits
 pub mod Refusals
 pub mod Rooms
 pub mod Logs
 pub mod Areas
 pub mod Calls
-pub mod Turns

@@ -1,6 +1,5 @@
-//! An engine of several sessions, as whoever executes a script on it sees it: what each call says of itself.
+//! An engine of several sessions, as whoever executes a script on it sees it: what may be asked, when a call is refused, and what its events do to the tree
+//! and to the logs.
 //!
-//! Nothing of its inside is named here. Read specs/Limits, specs/Refusals, specs/Rooms, specs/Logs, specs/Calls and specs/Turns, then the trait.
+//! Nothing of its inside is named here, and nothing runs. Read specs/Limits, specs/Refusals, specs/Rooms, specs/Logs, specs/Areas and specs/Calls.
 #![tactic(auto)]
-
-pub mod calls;

@@ -1,5 +1,5 @@
 -- A call that changes its key, in one run to which its machine is tied.
-use Rattle.std.proofs.Common.{◌≡◌, ◌∙◌, ◌⊎◌, inl, inr, ◌≤◌, ◌<◌, ◌+◌, ◌^◌, ◌%◌, ◌==◌, ◌&&◌, ◌||◌, ◌++◌, ℕ, suc, Bool, true, false, cond, leb, List, [], ◌∷◌, length, Option, Some, None, ap, refl, sym, subst, arith, append-nil, append_assoc, true≢false}
+use Rattle.std.proofs.Common.{◌≡◌, ◌∙◌, ◌⊎◌, inl, inr, ◌≤◌, ◌<◌, ◌^◌, ◌%◌, ◌&&◌, ◌||◌, ◌++◌, ℕ, suc, Bool, true, false, cond, leb, List, [], ◌∷◌, length, Option, Some, None, ap, refl, sym, subst, arith, append-nil, true≢false}
 use Rattle.std.proofs.lemmas.Bool.{and_from, le-leb, leb-true, lt-leb}
 use Rattle.std.proofs.lemmas.List.{length-append}
 use Rattle.map_model.proofs.ListLemmas.{upd_same}
@@ -10,9 +10,9 @@ use Rattle.map_model.specs.declared.call.Call.{Call}
 use Rattle.map_model.specs.declared.call.Call.TheVariants as call
 use Rattle.map_model.specs.declared.call.Refusal.{Refusal}
 use Rattle.map_model.specs.declared.call.Refusal.TheVariants as refusal
-use Rattle.core_calls.specs.Deeds.{Absent, Deed, Deleted, answered, asked, marks_by, marks_of, reads_of}
+use Rattle.core_calls.specs.Deeds.{Absent, Deed, answered, asked, marks_by, marks_of, reads_of}
 use Rattle.core_calls.specs.Fronts.{Done, front, outcomes}
-use Rattle.core_calls.specs.LogEvents.{IsPressedYet, IsTight, RefusedLogs, SyncsWhere}
+use Rattle.core_calls.specs.LogEvents.{IsTight, RefusedLogs, SyncsWhere}
 use Rattle.core_calls.specs.Marks.{Mark, is_half}
 use Rattle.core_state.specs.Local.{is_sync}
 use Rattle.core_calls.specs.Refusals.{Hinders, IsCause}
@@ -23,7 +23,6 @@ use Rattle.core_state.specs.Needs.{is_held_by, may, may_hold, value_in}
 use Rattle.core_state.specs.Openings.{Opening}
 use Rattle.core_state.specs.States.{State, Worker}
 use Rattle.core_state.specs.States.{start as core_start}
-use Rattle.core_state.specs.Steps as core
 use Rattle.core_state.specs.Steps.{AllMet, at_pages, at_row, happens, state_after}
 use Rattle.core_state.proofs.Runs.{run_more}
 use Rattle.disk_image.specs.Records.{entry_of}
@@ -35,7 +34,7 @@ use Rattle.engine_calls.specs.Clauses.{EveryComing, IsNewLine}
 use Rattle.engine_calls.specs.Entries.{change_record}
 use Rattle.engine_calls.specs.Parts.{behind_first}
 use Rattle.engine_calls.specs.Puts.{IsRead, IsWrite, changed_by, is_alone, read_by, taking}
-use Rattle.engine_calls.specs.Refused.{TakesRows, refused_by}
+use Rattle.engine_calls.specs.Refused.{TakesRows}
 use Rattle.engine_trait.specs.Calls.{call_behind, is_half_done}
 use Rattle.engine_trait.specs.Limits.{limits}
 use Rattle.engine_trait.specs.Refusals.{IsRefusedFor, change_refusal, in_transaction, lock_refusal, met_refusal, refusal_in}
@@ -68,10 +67,10 @@ use Rattle.worker_log.specs.Logs.{Log, limit, used}
 use Rattle.call_parts.proofs.SightLemmas.{every_enter}
 use Rattle.call_parts.proofs.MemoryLemmas.{every_memory}
 use Rattle.call_parts.proofs.OwnLemmas.{every_own}
-use Rattle.call_parts.proofs.RunLemmas.{behind_more, core_is}
+use Rattle.call_parts.proofs.RunLemmas.{core_is}
 use Rattle.call_parts.specs.Areas.{is_save}
 use Rattle.call_parts.specs.Deeds.{Answers, Fails}
-use Rattle.call_parts.specs.Memory.{IsSame, Memory, with_own}
+use Rattle.call_parts.specs.Memory.{IsSame, with_own}
 use Rattle.call_parts.specs.Parts.{Failed, Part}
 use Rattle.call_parts.specs.Rooms.{AreRoom, IsRoomFor, is_paging as pages_come, looks, may_save}
 use Rattle.call_parts.specs.Steps.{Stages}
@@ -84,7 +83,7 @@ use Rattle.paged_desks.specs.Pages.{ArePaging, is_paging}
 use Rattle.paged_desks.specs.Parts.{most_a_way}
 use Rattle.paged_desks.specs.declared.machine.PagedMachine.{PagedMachine}
 use Rattle.paged_desks.specs.Calls.{AreHalf, DoesTied, Tied}
-use Rattle.paged_calls.specs.Changes.{FailsStaging, HasChanged, HasFoundNone, HasStopped, MayStill}
+use Rattle.paged_calls.specs.Changes.{MayStill}
 use Rattle.paged_desks.specs.Calls.{IsAside}
 use Rattle.paged_calls.specs.Steps.{HasCome, HasTaken}
 use Rattle.paged_desks.specs.Calls.{IsBeside}
@@ -92,8 +91,8 @@ use Rattle.paged_calls.specs.Tests.{change_test, is_going}
 use Rattle.paged_desks.proofs.AsideLemmas.{halves_aside, memory_aside}
 use Rattle.paged_calls.proofs.ChangeTests.{free_of, gate, gate_more, gate_none, gate_of, hindered_of, long_of, no_abort, refusal_is, room_in, test_is, tests_in}
 use Rattle.paged_calls.proofs.Conflicts.{lock_free, lock_refused}
-use Rattle.paged_desks.proofs.EndingLemmas.{IsOr, does_tied, end_laws, half_own, line_call, refused_tied, workers_of}
-use Rattle.paged_calls.proofs.EventLemmas.{length_events, locked_room, room_of}
+use Rattle.paged_desks.proofs.EndingLemmas.{IsOr, does_tied, end_laws, half_own, refused_tied}
+use Rattle.paged_calls.proofs.EventLemmas.{locked_room, room_of}
 use Rattle.paged_calls.proofs.GoingLemmas.{goes, not_going}
 use Rattle.paged_calls.proofs.KeyLemmas as keys
 use Rattle.paged_calls.proofs.KeyLemmas.{IsOfKey}

@@ -1,7 +1,6 @@
 -- A machine behind a try to delete, by its answer.
-use Rattle.std.proofs.Common.{◌≡◌, ◌∙◌, ◌%◌, ◌++◌, ℕ, Bool, true, false, List, [], ◌∷◌, Option, Some, None, Result, Ok, Err, ap, refl, sym, subst, true≢false}
+use Rattle.std.proofs.Common.{◌≡◌, ℕ, true, Option, Some, None, Result, Ok, Err, ap, sym, true≢false}
 use Rattle.lean_disk.specs.Story.{Story}
-use Rattle.map_model.specs.declared.call.Refusal.{Refusal}
 use Rattle.map_model.specs.declared.call.Refusal.TheVariants as refusal
 use Rattle.btree_descent.specs.declared.descent.TheConstants.{TOMBSTONE}
 use Rattle.page_pool.specs.Pools.{EveryStanding}
@@ -10,12 +9,11 @@ use Rattle.row_changes.specs.Puts.{works_behind}
 use Rattle.row_changes.specs.declared.ways.Unmade.{Unmade}
 use Rattle.row_changes.specs.declared.ways.Unmade.TheVariants as unmade
 use Rattle.row_words.specs.declared.event.Event.TheVariants as told
-use Rattle.session_desks.specs.Parts.{SeatFits, here, shape}
+use Rattle.session_desks.specs.Parts.{SeatFits, shape}
 use Rattle.session_state.proofs.OtherLemmas.{is_own, no_steps, one_step}
 use Rattle.session_state.specs.Holds.{Holds, IsSameSession}
 use Rattle.session_state.specs.Others.{EveryOther}
 use Rattle.session_state.specs.declared.work.Work.{Work}
-use Rattle.worker_log.specs.Logs.{Log}
 use Rattle.paged_desks.specs.Machines.{IsReady, view_of}
 use Rattle.paged_desks.specs.declared.machine.PagedMachine.{PagedMachine}
 use Rattle.paged_desks.specs.Calls.{IsAside}

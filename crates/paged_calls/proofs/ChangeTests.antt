@@ -1,6 +1,6 @@
 -- What a call that changes its key is tested for, and what its tests say of a state.
-use Rattle.std.proofs.Common.{◌≡◌, ◌∙◌, ◌⊎◌, inl, inr, ◌↔◌, ◌≤◌, ◌<◌, ◌^◌, ◌||◌, ◌&&◌, ℕ, suc, Bool, true, false, cond, leb, List, [], ◌∷◌, length, Option, Some, None, Result, Err, ap, refl, sym, subst, arith, true≢false}
-use Rattle.std.proofs.lemmas.Bool.{leb-false, leb-true}
+use Rattle.std.proofs.Common.{◌≡◌, ◌∙◌, ◌⊎◌, inl, inr, ◌↔◌, ◌≤◌, ◌<◌, ◌^◌, ℕ, Bool, true, false, cond, leb, length, Option, Some, None, Result, Err, ap, refl, sym, subst, true≢false}
+use Rattle.std.proofs.lemmas.Bool.{leb-false}
 use Rattle.map_model.specs.declared.call.Call.{Call}
 use Rattle.map_model.specs.declared.call.Call.TheVariants as call
 use Rattle.map_model.specs.declared.call.Refusal.{Refusal}
@@ -11,7 +11,7 @@ use Rattle.core_state.specs.Openings.{Opening}
 use Rattle.core_state.specs.States.{State}
 use Rattle.engine_trait.specs.Calls.{MayCome}
 use Rattle.engine_trait.specs.Limits.{limits}
-use Rattle.engine_trait.specs.Refusals.{change_refusal, clock_refusal, in_transaction, is_full_for, lock_refusal, log_refusal, met_refusal, refusal_in, room_refusal}
+use Rattle.engine_trait.specs.Refusals.{change_refusal, in_transaction, is_full_for, lock_refusal, met_refusal, refusal_in, room_refusal}
 use Rattle.session_state.proofs.UndoLemmas.{many_of}
 use Rattle.session_state.specs.Holds.{IsOf}
 use Rattle.session_state.specs.declared.session.Session.{Session}

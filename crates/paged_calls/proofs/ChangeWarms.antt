@@ -1,5 +1,5 @@
 -- What a del did behind the taking of its row: at once, or behind the coming of the pages of its way.
-use Rattle.std.proofs.Common.{◌≡◌, ◌∙◌, ◌⊎◌, inl, inr, ◌≤◌, ◌<◌, ◌^◌, ◌%◌, ◌++◌, ℕ, Bool, true, false, List, [], ◌∷◌, Option, Some, None, Result, Ok, Err, length, ap, refl, sym, subst, arith, true≢false}
+use Rattle.std.proofs.Common.{◌≡◌, ◌∙◌, inl, inr, ◌<◌, ◌%◌, ℕ, true, false, List, Option, Some, None, Result, Ok, Err, length, ap, refl, sym, subst, arith, true≢false}
 use Rattle.map_model.specs.declared.call.Refusal.{Refusal}
 use Rattle.map_model.specs.declared.call.Refusal.TheVariants as refusal
 use Rattle.btree_descent.specs.declared.descent.TheConstants.{TOMBSTONE}
@@ -28,15 +28,14 @@ use Rattle.row_changes.specs.declared.ways.Unmade.{Unmade}
 use Rattle.row_changes.specs.declared.ways.Unmade.TheVariants as unmade
 use Rattle.paged_desks.specs.Machines.{IsReady, memory, view_of}
 use Rattle.paged_desks.specs.Pages.{goes_on}
-use Rattle.paged_desks.specs.Parts.{HasFailed, HasGone, IsSpent, StandsNowhere}
+use Rattle.paged_desks.specs.Parts.{HasFailed, HasGone}
 use Rattle.paged_desks.specs.declared.machine.PagedMachine.{PagedMachine}
 use Rattle.paged_desks.specs.declared.warming.Unwarmed.{Unwarmed}
 use Rattle.paged_desks.specs.declared.warming.Unwarmed.TheVariants as stopped
 use Rattle.paged_desks.specs.Calls.{works_behind as is_working}
-use Rattle.paged_calls.specs.Changes.{DelsWarm, FailsStaging, HasChanged, HasFoundNone, HasStopped, MayStill, as_made}
+use Rattle.paged_calls.specs.Changes.{DelsWarm, MayStill, as_made}
 use Rattle.paged_desks.specs.Calls.{IsAside}
 use Rattle.paged_calls.specs.Steps.{FailsWarm, HasCome, HasTaken, IsStill, ReadsWarm}
-use Rattle.paged_desks.specs.Calls.{IsBeside}
 use Rattle.paged_calls.specs.Tests.{change_test, refusal_of}
 use Rattle.paged_calls.proofs.ChangeSteps.{beside_of}
 use Rattle.paged_calls.proofs.ChangeTests.{IsFree, free_of, works_of}

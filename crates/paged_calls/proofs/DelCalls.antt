@@ -1,8 +1,7 @@
 -- A del by its answer: what a script is told, and what is left behind it.
-use Rattle.std.proofs.Common.{◌≡◌, ◌∙◌, ◌⊎◌, inl, inr, ℕ, Bool, true, false, Option, Some, None, Result, Ok, Err, IfErr, IsErrAnd, ap, refl, sym, subst, true≢false}
+use Rattle.std.proofs.Common.{◌≡◌, ◌⊎◌, inl, inr, ℕ, true, Option, Some, None, Result, Ok, Err, IfErr, IsErrAnd, refl, sym, subst}
 use Rattle.map_model.specs.declared.call.Refusal.{Refusal}
 use Rattle.map_model.specs.declared.call.Refusal.TheVariants as refusal
-use Rattle.core_state.specs.Openings.{Opening}
 use Rattle.engine_trait.specs.Calls.{MayCome}
 use Rattle.engine_trait.specs.Refusals.{clock_refusal}
 use Rattle.key_locks.specs.declared.mode.Mode.{Mode}
@@ -10,11 +9,7 @@ use Rattle.lean_disk.specs.Story.{Story}
 use Rattle.row_changes.proofs.StepLemmas.{clock_at_end}
 use Rattle.row_changes.specs.Takes.{NotTaken}
 use Rattle.rows_trait.specs.declared.view.View.{View}
-use Rattle.session_desks.specs.Parts.{AreAsMany, SeatFits}
-use Rattle.session_state.specs.declared.session.Session.{Session}
 use Rattle.paged_desks.specs.declared.machine.PagedMachine.{PagedMachine}
-use Rattle.paged_desks.specs.declared.warming.Unwarmed.{Unwarmed}
-use Rattle.paged_desks.specs.declared.warming.Unwarmed.TheVariants as stopped
 use Rattle.paged_desks.specs.Calls.{EndsWork, works_behind}
 use Rattle.paged_calls.specs.Calls.{IsEarly}
 use Rattle.paged_calls.specs.Changes.{DelsWarm}

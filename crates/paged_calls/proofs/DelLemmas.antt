@@ -1,15 +1,14 @@
 -- A del, in each run to which its machine is tied.
-use Rattle.std.proofs.Common.{◌≡◌, ◌∙◌, ◌⊎◌, inl, inr, ◌≤◌, ◌<◌, ◌^◌, ◌%◌, ◌++◌, ℕ, Bool, true, false, cond, leb, List, [], ◌∷◌, Option, Some, None, Result, Ok, Err, length, ap, refl, sym, subst, arith, true≢false}
+use Rattle.std.proofs.Common.{◌≡◌, ◌∙◌, inl, inr, ◌≤◌, ◌<◌, ◌^◌, ◌%◌, ℕ, true, false, cond, List, [], ◌∷◌, Option, Some, None, Result, Ok, Err, ap, refl, sym, subst, true≢false}
 use Rattle.std.proofs.lemmas.Bool.{lt-leb}
 use Rattle.map_model.specs.declared.call.Answer.{Answer}
 use Rattle.map_model.specs.declared.call.Answer.TheVariants as answer
-use Rattle.map_model.specs.declared.call.Call.{Call}
 use Rattle.map_model.specs.declared.call.Call.TheVariants as call
 use Rattle.map_model.specs.declared.call.Refusal.{Refusal}
 use Rattle.map_model.specs.declared.call.Refusal.TheVariants as refusal
 use Rattle.btree_descent.specs.declared.descent.TheConstants.{TOMBSTONE}
 use Rattle.core_calls.specs.Deeds.{Deleted}
-use Rattle.core_calls.specs.Fronts.{Done, front, outcomes}
+use Rattle.core_calls.specs.Fronts.{Done, front}
 use Rattle.core_calls.specs.LogEvents.{IsPressedYet, SyncsWhere}
 use Rattle.core_calls.specs.Runs.{Tells}
 use Rattle.core_state.specs.Events as happening
@@ -26,7 +25,6 @@ use Rattle.lean_disk.specs.Story.{IsLawful, Story}
 use Rattle.log_record.specs.declared.record.Record.{Record}
 use Rattle.page_model.specs.Nodes.{Format}
 use Rattle.row_words.specs.Moments.{events_of}
-use Rattle.session_desks.specs.Desks.{desk_of}
 use Rattle.session_desks.specs.Parts.{here}
 use Rattle.session_desks.specs.declared.desk.Desk.{Desk}
 use Rattle.session_desks.proofs.DeskLemmas.{desk_own}
@@ -49,8 +47,7 @@ use Rattle.paged_calls.proofs.KeyLemmas as keys
 use Rattle.paged_desks.proofs.EndingLemmas.{Grounds}
 use Rattle.paged_calls.proofs.PieceLemmas.{none_part}
 use Rattle.paged_desks.proofs.StandLemmas.{halves_are}
-use Rattle.paged_calls.proofs.TakingLemmas.{none_is, some_is}
-use Rattle.paged_calls.proofs.WarmLemmas.{beside_self}
+use Rattle.paged_calls.proofs.TakingLemmas.{none_is}
 
 -- what a test refuses is told by no fault
 comes_tested : (x : Session) (log : Log) (why : Refusal) → x.works ≡ true → change_test x log ≡ Some why → (does fails never : Type 0) → does → Comes (answer.Refused why) does fails never

@@ -12,7 +12,7 @@ use Rattle.core_state.specs.Needs.{are_hot, is_free, is_held_by, may, may_put, n
 use Rattle.core_state.specs.Openings.{Opening}
 use Rattle.core_state.specs.States.{Row, State, Worker, nodes_of, gsns_of}
 use Rattle.core_state.specs.Steps as core
-use Rattle.core_state.specs.Steps.{at_pages, at_row, happens, locked, moves, synced}
+use Rattle.core_state.specs.Steps.{at_pages, at_row, happens, locked, moves}
 use Rattle.engine_trait.specs.Refusals.{is_full_for, lock_refusal, met_refusal, room_refusal}
 use Rattle.image_model.specs.Entries.{Kind}
 use Rattle.page_model.proofs.Laws.{every_tree}

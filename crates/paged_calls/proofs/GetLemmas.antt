@@ -1,7 +1,7 @@
 -- A get, in each run to which its machine is tied.
-use Rattle.std.proofs.Common.{◌≡◌, ◌∙◌, ◌⊎◌, inl, inr, ◌≤◌, ◌<◌, ◌+◌, ◌^◌, ◌%◌, ◌++◌, ℕ, true, false, cond, List, [], ◌∷◌, length, Option, Some, None, Err, ap, refl, sym, subst, arith}
+use Rattle.std.proofs.Common.{◌≡◌, ◌∙◌, ◌⊎◌, inl, inr, ◌≤◌, ◌<◌, ◌^◌, ◌%◌, ◌++◌, ℕ, true, false, cond, List, [], ◌∷◌, length, Option, Some, None, Err, ap, refl, sym, subst, arith}
 use Rattle.std.proofs.lemmas.List.{length-append}
-use Rattle.map_model.specs.Lists.{all, any}
+use Rattle.map_model.specs.Lists.{any}
 use Rattle.map_model.specs.declared.call.Answer.TheVariants as answer
 use Rattle.map_model.specs.declared.call.Call.TheVariants as call
 use Rattle.map_model.specs.declared.call.Refusal.{Refusal}
@@ -60,7 +60,7 @@ use Rattle.paged_calls.specs.Steps.{HasCome, HasNotTaken, HasReadWarm, HasTaken,
 use Rattle.paged_desks.specs.Calls.{IsBeside}
 use Rattle.paged_calls.specs.Tests.{is_going, refusal_of}
 use Rattle.paged_calls.proofs.Conflicts.{lock_refused}
-use Rattle.paged_desks.proofs.EndingLemmas.{IsOr, begins, does_tied, half_own}
+use Rattle.paged_desks.proofs.EndingLemmas.{IsOr, does_tied, half_own}
 use Rattle.paged_calls.proofs.GoingLemmas.{goes, not_going, tests_as}
 use Rattle.paged_calls.proofs.KeyLemmas as keys
 use Rattle.paged_desks.proofs.EndingLemmas.{Grounds}

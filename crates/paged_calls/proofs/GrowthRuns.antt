@@ -1,8 +1,7 @@
 -- A put behind the taking of its row, in one run to which its machine is tied: pages came and room was made, and then it ended so.
-use Rattle.std.proofs.Common.{◌≡◌, ◌∙◌, ◌⊎◌, inl, inr, ◌≤◌, ◌<◌, ◌+◌, ◌^◌, ◌%◌, ◌==◌, ◌&&◌, ◌||◌, ◌++◌, not, ltb, ℕ, suc, Bool, true, false, cond, leb, List, [], ◌∷◌, length, Option, Some, None, ap, refl, sym, subst, arith, append-nil, append_assoc, true≢false}
-use Rattle.std.proofs.lemmas.Bool.{and_from, and_parts, eq-eqb, eqb-true, le-leb, lt-leb, ltb-true}
+use Rattle.std.proofs.Common.{◌≡◌, ◌∙◌, ◌⊎◌, inl, inr, ◌≤◌, ◌<◌, ◌+◌, ◌^◌, ◌%◌, ◌==◌, ◌&&◌, ◌||◌, ◌++◌, not, ℕ, suc, Bool, true, false, cond, leb, List, [], ◌∷◌, length, Option, Some, None, ap, refl, sym, subst, arith, append-nil, true≢false}
+use Rattle.std.proofs.lemmas.Bool.{eq-eqb, le-leb, lt-leb}
 use Rattle.std.proofs.lemmas.List.{length-append}
-use Rattle.map_model.proofs.ListLemmas.{upd_same}
 use Rattle.map_model.specs.Lists.{all, any, keep}
 use Rattle.map_model.specs.declared.call.Answer.TheVariants as answer
 use Rattle.map_model.specs.declared.call.Call.{Call}
@@ -15,7 +14,6 @@ use Rattle.core_calls.specs.Fronts.{Done, front, outcomes}
 use Rattle.core_calls.specs.LogEvents.{IsPressedYet, IsTight, RefusedLogs, SyncsWhere}
 use Rattle.core_calls.specs.Marks.{is_half}
 use Rattle.core_calls.specs.Refusals.{IsCause, IsFull}
-use Rattle.core_calls.specs.Room.{free_list, is_all_full, room_takes}
 use Rattle.core_calls.specs.Runs.{EachTells, Tells}
 use Rattle.core_calls.specs.Scans.{StopsOnWay}
 use Rattle.core_calls.specs.Steps.{TakesRow, Tries, is_behind_row, is_step, is_structure}
@@ -23,12 +21,12 @@ use Rattle.core_paging.specs.Paging.{EveryResidence}
 use Rattle.core_state.proofs.Runs.{run_more}
 use Rattle.core_state.specs.Events as happening
 use Rattle.core_state.specs.Local.{is_sync}
-use Rattle.core_state.specs.Needs.{are_hot, is_free, is_held_by, may, may_put, needs, value_in}
+use Rattle.core_state.specs.Needs.{may, value_in}
 use Rattle.core_state.specs.Openings.{Opening}
-use Rattle.core_state.specs.States.{State, Worker, nodes_of}
+use Rattle.core_state.specs.States.{State, Worker}
 use Rattle.core_state.specs.States.{start as core_start}
 use Rattle.core_state.specs.Steps as core
-use Rattle.core_state.specs.Steps.{AllMet, at_pages, at_row, happens, state_after}
+use Rattle.core_state.specs.Steps.{AllMet, at_pages, happens, state_after}
 use Rattle.disk_image.specs.Records.{entry_of}
 use Rattle.disk_runs.specs.Stands.{Stands}
 use Rattle.engine_calls.proofs.EntryLemmas.{every_entry}
@@ -38,7 +36,7 @@ use Rattle.engine_calls.specs.Clauses.{EveryComing, IsNewLine}
 use Rattle.engine_calls.specs.Entries.{change_record}
 use Rattle.engine_calls.specs.Parts.{behind_first}
 use Rattle.engine_calls.specs.Puts.{IsWrite, changed_by, taking}
-use Rattle.engine_calls.specs.Refused.{IsRefusal, TakesRows, refused_by}
+use Rattle.engine_calls.specs.Refused.{TakesRows, refused_by}
 use Rattle.engine_trait.specs.Calls.{call_behind, is_half_done}
 use Rattle.engine_trait.specs.Limits.{limits}
 use Rattle.engine_trait.specs.Refusals.{IsRefusedFor, change_refusal, in_transaction, is_full_for, lock_refusal, met_refusal, refusal_in, room_refusal}
@@ -49,12 +47,11 @@ use Rattle.key_locks.specs.Rows.{event_mode}
 use Rattle.lean_disk.specs.Story.{IsLawful, Story}
 use Rattle.log_record.specs.declared.record.Body.TheVariants as body
 use Rattle.log_record.specs.declared.record.Record.{Record}
-use Rattle.page_model.specs.Nodes.{Format, Node, holds}
-use Rattle.page_model.specs.Pairs.{find}
+use Rattle.page_model.specs.Nodes.{Format, holds}
 use Rattle.page_model.specs.Redo.{has_key, is_some}
 use Rattle.row_words.specs.declared.event.Event.{Event}
 use Rattle.row_words.specs.declared.event.Event.TheVariants as told
-use Rattle.row_words.specs.Moments.{event_of, events_of}
+use Rattle.row_words.specs.Moments.{events_of}
 use Rattle.row_words.specs.Openings.{opening}
 use Rattle.rows_trait.specs.declared.view.View.{View}
 use Rattle.rows_trait.specs.Views.{Shape, state}
@@ -75,7 +72,7 @@ use Rattle.call_parts.proofs.RunLemmas.{behind_more, core_is}
 use Rattle.call_parts.proofs.SightLemmas.{every_enter}
 use Rattle.call_parts.specs.Areas.{is_save}
 use Rattle.call_parts.specs.Deeds.{Answers, Fails, IsSure, is_fetch}
-use Rattle.call_parts.specs.Memory.{IsSame, Memory, with_own}
+use Rattle.call_parts.specs.Memory.{IsSame, with_own}
 use Rattle.call_parts.specs.Parts.{Failed, Part}
 use Rattle.call_parts.specs.Rooms.{AreRoom, IsRoomFor, looks, may_save, takes_row, gives_room, is_paging as pages_come}
 use Rattle.call_parts.specs.Steps.{Stages}
@@ -83,16 +80,15 @@ use Rattle.row_changes.specs.Paths.{IsUnfit}
 use Rattle.row_changes.specs.Puts.{IsChanged}
 use Rattle.paged_desks.specs.Calls.{AreHalf, DoesTied, IsAside, StandsNot, Tied}
 use Rattle.paged_desks.specs.Machines.{IsReady, memory, view_of}
-use Rattle.paged_desks.specs.Parts.{HasFailed, IsSpent, StandsNowhere, most_a_way}
+use Rattle.paged_desks.specs.Parts.{HasFailed, IsSpent, StandsNowhere}
 use Rattle.paged_desks.specs.declared.machine.PagedMachine.{PagedMachine}
 use Rattle.paged_desks.proofs.AsideLemmas.{halves_aside, memory_aside}
-use Rattle.paged_desks.proofs.EndingLemmas.{Grounds, IsAnswerTo, IsOr, does_tied, end_laws, fails_by, half_own, refused_tied}
+use Rattle.paged_desks.proofs.EndingLemmas.{Grounds, IsOr, does_tied, end_laws, fails_by, half_own, refused_tied}
 use Rattle.paged_calls.specs.Growths.{AreLike, AreMaking, HasMade, HasWay, IsGoing, IsRoom}
 use Rattle.paged_calls.specs.Steps.{HasTaken}
-use Rattle.paged_calls.specs.Tests.{change_test, is_going}
+use Rattle.paged_calls.specs.Tests.{change_test}
 use Rattle.paged_calls.proofs.ChangeRuns as runs
-use Rattle.paged_calls.proofs.ChangeTests.{IsFree, free_of, gate, gate_of, refusal_is, room_in, tests_in}
-use Rattle.paged_calls.proofs.Conflicts.{lock_free}
+use Rattle.paged_calls.proofs.ChangeTests.{IsFree, free_of, gate, refusal_is, room_in, tests_in}
 use Rattle.paged_calls.proofs.EventLemmas.{length_events, locked_room, room_of, structure_of}
 use Rattle.paged_calls.proofs.FullLemmas.{IsTaken, all_more, all_three, fetch_first, making_room, making_steps, not_full, room_kind, short_is, tall_is, taken_alone, taken_passes, taken_stays}
 use Rattle.paged_calls.proofs.GoingLemmas.{goes}
@@ -101,7 +97,7 @@ use Rattle.paged_calls.proofs.KeyLemmas as keys
 use Rattle.paged_calls.proofs.LikeLemmas.{like_same, like_then, run_like, run_same}
 use Rattle.paged_calls.proofs.MadeLemmas.{core_paging, makes_join, makes_none, resides}
 use Rattle.paged_calls.proofs.PieceLemmas.{joins_at}
-use Rattle.paged_calls.proofs.TakingLemmas.{key_free, key_row, late_end, none_is, some_is}
+use Rattle.paged_calls.proofs.TakingLemmas.{late_end, none_is, some_is}
 use Rattle.paged_calls.proofs.WayLemmas.{full_as, full_on, has_below, refusal_as, room_like, way_back}
 
 -- the record of a change in a page of this format

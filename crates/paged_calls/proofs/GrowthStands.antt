@@ -1,6 +1,6 @@
 -- A machine stands while the session whose turn it is changes the tree, and its log has the record; and that is a part of a call.
-use Rattle.std.proofs.Common.{◌≡◌, ◌∙◌, ◌≤◌, ◌<◌, ◌+◌, ◌*◌, ◌++◌, ◌==◌, ◌||◌, ◌&&◌, inl, inr, ℕ, suc, Bool, true, false, List, [], ◌∷◌, None, length, ap, refl, sym, subst, arith, true≢false, append-nil}
-use Rattle.std.proofs.lemmas.Bool.{and_from, and_parts, cond-false, eq-eqb, ne_eqb}
+use Rattle.std.proofs.Common.{◌≡◌, ◌∙◌, ◌≤◌, ◌<◌, ◌==◌, ◌||◌, ◌&&◌, inl, inr, ℕ, suc, true, false, List, [], ◌∷◌, None, ap, refl, sym, subst, arith}
+use Rattle.std.proofs.lemmas.Bool.{and_from, and_parts, cond-false, eq-eqb}
 use Rattle.map_model.specs.Lists.{all, any}
 use Rattle.btree_smo.specs.Outcomes.{AreMisses}
 use Rattle.core_calls.specs.Fronts.{Done}
@@ -13,7 +13,7 @@ use Rattle.core_state.specs.Openings.{Opening}
 use Rattle.core_state.specs.States.{Place, State, is_hot, nodes_of, gsns_of}
 use Rattle.core_state.specs.Lists.{count_below}
 use Rattle.core_state.specs.Steps as core
-use Rattle.core_state.specs.Steps.{AllMet, at_pages, happens, page_entry}
+use Rattle.core_state.specs.Steps.{AllMet, at_pages, page_entry}
 use Rattle.disk_image.specs.Records.{entry_of}
 use Rattle.disk_runs.specs.Quiet.{is_quiet}
 use Rattle.engine_calls.specs.Parts.{behind_first}
@@ -21,18 +21,15 @@ use Rattle.engine_trait.specs.Refusals.{is_full_for, room_refusal}
 use Rattle.engine_trait.specs.Rooms.{IsNextRoom}
 use Rattle.image_model.specs.Entries.{Entry, Kind, touches, written}
 use Rattle.lean_disk.specs.Story.{IsLawful, Story}
-use Rattle.log_record.specs.declared.record.Record.{Record}
 use Rattle.page_model.specs.Needs.{lift_record, split_record}
 use Rattle.page_pool.specs.Counts.{hot_pages}
 use Rattle.page_pool.specs.Pools.{EveryStanding}
 use Rattle.row_growth.specs.Rooms.{IsGrown, IsGrowth, IsSpentBehind}
-use Rattle.row_opening.specs.Openings.{EveryNeed, EveryReached}
 use Rattle.row_words.specs.declared.event.Event.{Event}
 use Rattle.row_words.specs.declared.event.Event.TheVariants as told
 use Rattle.row_words.specs.Moments.{Moment, event_of, events_of}
 use Rattle.row_words.specs.Openings.{opening}
-use Rattle.rows_trait.specs.declared.view.View.{View}
-use Rattle.rows_trait.specs.Views.{after_all, state}
+use Rattle.rows_trait.specs.Views.{state}
 use Rattle.session_desks.proofs.DeskLemmas.{desk_own}
 use Rattle.session_desks.proofs.SeatLemmas.{holds_of, turn_high, turn_low}
 use Rattle.session_desks.specs.Parts.{SeatFits, here, shape}
@@ -46,7 +43,7 @@ use Rattle.worker_log.specs.Logs.{Log}
 use Rattle.call_parts.proofs.MemoryLemmas.{every_memory}
 use Rattle.call_parts.proofs.OwnLemmas.{every_own}
 use Rattle.call_parts.proofs.RunLemmas.{core_is, run_core}
-use Rattle.call_parts.specs.Memory.{IsSame, with_own}
+use Rattle.call_parts.specs.Memory.{with_own}
 use Rattle.call_parts.specs.Parts.{Part}
 use Rattle.call_parts.specs.Steps.{Stages, is_entered}
 use Rattle.paged_desks.specs.Calls.{IsAside, IsBeside}
@@ -61,7 +58,7 @@ use Rattle.paged_calls.proofs.ChangeSteps.{beside_of}
 use Rattle.paged_calls.proofs.MadeLemmas.{makes_none}
 use Rattle.paged_calls.proofs.PieceLemmas.{as_beside, steps_at}
 use Rattle.paged_calls.proofs.RecordStands.{Enters, clock_met, other_page, ready_entered}
-use Rattle.paged_calls.proofs.WayLemmas.{full_as, next_as, refusal_as, way_of}
+use Rattle.paged_calls.proofs.WayLemmas.{next_as, refusal_as, way_of}
 
 -- ## Which record it enters
 

@@ -1,7 +1,7 @@
 -- A call of a key, in one run to which its machine is tied: where it is refused, and how far it has come behind its row.
-use Rattle.std.proofs.Common.{◌≡◌, ◌∙◌, ◌⊎◌, inl, inr, ◌≤◌, ◌<◌, ◌+◌, ◌^◌, ◌%◌, ◌++◌, ◌||◌, ℕ, Bool, true, false, List, [], ◌∷◌, length, Some, ap, refl, sym, subst, arith, append-nil, true≢false}
+use Rattle.std.proofs.Common.{◌≡◌, ◌∙◌, ◌⊎◌, inl, inr, ◌≤◌, ◌<◌, ◌^◌, ◌%◌, ◌++◌, ◌||◌, ℕ, Bool, true, false, List, [], ◌∷◌, length, Some, ap, refl, sym, subst, arith, append-nil, true≢false}
 use Rattle.std.proofs.lemmas.List.{length-append}
-use Rattle.map_model.specs.Lists.{all, any, keep}
+use Rattle.map_model.specs.Lists.{any, keep}
 use Rattle.map_model.specs.declared.call.Answer.TheVariants as answer
 use Rattle.map_model.specs.declared.call.Call.{Call}
 use Rattle.map_model.specs.declared.call.Call.TheVariants as call
@@ -32,7 +32,6 @@ use Rattle.engine_trait.specs.Rooms.{IsNextRoom, MakesItsRoom, MakesRoom}
 use Rattle.key_locks.specs.declared.mode.Mode.{Mode}
 use Rattle.key_locks.specs.Rows.{event_mode}
 use Rattle.lean_disk.specs.Story.{IsLawful, Story}
-use Rattle.row_words.specs.declared.event.Event.{Event}
 use Rattle.row_words.specs.declared.event.Event.TheVariants as told
 use Rattle.row_words.specs.Moments.{events_of, mode_of}
 use Rattle.rows_trait.specs.declared.view.View.{View}
@@ -58,7 +57,6 @@ use Rattle.paged_desks.specs.Calls.{AreHalf, DoesTied, StandsNot, Tied}
 use Rattle.paged_calls.specs.Steps.{FailsWarm, HasCome, HasTaken}
 use Rattle.paged_desks.proofs.EndingLemmas.{IsAnswerTo, IsOr, begins, fails_by, line_call, refused_tied}
 use Rattle.paged_calls.proofs.EventLemmas.{length_events, locked_room, paging_steps, paging_structure, room_of, structure_of}
-use Rattle.paged_calls.proofs.GoingLemmas.{goes}
 use Rattle.paged_desks.proofs.HalfLates.{half_late}
 use Rattle.paged_desks.proofs.EndingLemmas.{Grounds}
 use Rattle.paged_calls.proofs.PieceLemmas.{failed_from, joins_at, lock_part, taken_own}

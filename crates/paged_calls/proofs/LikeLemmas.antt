@@ -1,5 +1,5 @@
 -- What pages contain while others come: each is as it was, but for the entries of leaves that are read again.
-use Rattle.std.proofs.Common.{◌≡◌, ◌∙◌, ◌⊎◌, inl, inr, ◌||◌, ◌&&◌, ◌==◌, ◌++◌, ltb, ℕ, Bool, true, false, cond, List, [], ◌∷◌, ap, refl, sym, subst, true≢false}
+use Rattle.std.proofs.Common.{◌≡◌, ◌∙◌, ◌⊎◌, inl, inr, ◌||◌, ◌&&◌, ◌==◌, ltb, ℕ, Bool, true, false, cond, List, [], ◌∷◌, ap, refl, sym, true≢false}
 use Rattle.std.proofs.lemmas.Bool.{and_from, and_parts, eq-eqb}
 use Rattle.map_model.proofs.ListLemmas.{at_upd}
 use Rattle.map_model.specs.Lists.{all, any}

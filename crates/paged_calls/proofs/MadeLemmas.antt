@@ -1,6 +1,6 @@
 -- Room that was made, put together: pages that came, changes of the tree, and one behind the other.
-use Rattle.std.proofs.Common.{◌≡◌, ◌∙◌, ◌⊎◌, inl, inr, ◌≤◌, ◌<◌, ◌+◌, ◌*◌, ◌++◌, ◌&&◌, ◌||◌, ◌==◌, ℕ, suc, Bool, true, false, cond, List, [], ◌∷◌, length, None, ap, refl, sym, subst, arith, append-nil, true≢false}
-use Rattle.std.proofs.lemmas.Bool.{and_from, and_parts, eq-eqb}
+use Rattle.std.proofs.Common.{◌≡◌, ◌∙◌, ◌⊎◌, inl, inr, ◌≤◌, ◌+◌, ◌++◌, ◌||◌, ℕ, Bool, true, false, List, [], ◌∷◌, ap, refl, sym, subst, arith, true≢false}
+use Rattle.std.proofs.lemmas.Bool.{and_from, and_parts}
 use Rattle.std.proofs.lemmas.List.{length-append}
 use Rattle.map_model.specs.Lists.{all, any}
 use Rattle.core_calls.proofs.WhereLemmas.{syncs_more}
@@ -10,15 +10,13 @@ use Rattle.core_calls.specs.Steps.{is_structure}
 use Rattle.core_paging.specs.Paging.{EveryResidence, Residence}
 use Rattle.core_state.proofs.Runs.{run_more}
 use Rattle.core_state.specs.Events as happening
-use Rattle.core_state.specs.Needs.{may}
 use Rattle.core_state.specs.Openings.{Opening}
 use Rattle.core_state.specs.States.{State}
 use Rattle.core_state.specs.States.{start as core_start}
 use Rattle.core_state.specs.Steps as core
-use Rattle.core_state.specs.Steps.{AllMet, happens, state_after}
+use Rattle.core_state.specs.Steps.{AllMet}
 use Rattle.engine_calls.proofs.MarkLemmas.{any_append}
 use Rattle.engine_calls.specs.Parts.{behind_first}
-use Rattle.engine_trait.specs.Refusals.{is_full_for, room_refusal}
 use Rattle.engine_trait.specs.Rooms.{IsNextRoom, MakesRoom}
 use Rattle.lean_disk.specs.Story.{IsLawful, Story}
 use Rattle.page_pool.specs.Counts.{hot_pages}
@@ -26,15 +24,11 @@ use Rattle.row_words.specs.declared.event.Event.{Event}
 use Rattle.row_words.specs.declared.event.Event.TheVariants as told
 use Rattle.row_words.specs.Moments.{event_of, events_of}
 use Rattle.row_words.specs.Openings.{opening}
-use Rattle.rows_trait.specs.declared.view.View.{View}
-use Rattle.rows_trait.specs.Views.{after_all, state}
-use Rattle.session_desks.specs.Desks.{desk_of}
-use Rattle.session_desks.specs.Parts.{AreAsMany, here}
+use Rattle.rows_trait.specs.Views.{after_all}
 use Rattle.session_state.proofs.Moments.{events_more}
 use Rattle.session_state.specs.Ties.{Behind}
 use Rattle.session_state.specs.declared.session.Session.{Session}
 use Rattle.call_parts.proofs.RunLemmas.{behind_more, first_more, front_is}
-use Rattle.call_parts.specs.Memory.{Memory}
 use Rattle.call_parts.specs.Parts.{Part}
 use Rattle.call_parts.specs.Rooms.{is_paging as pages_come}
 use Rattle.paged_desks.specs.Machines.{memory, view_of}

@@ -1,5 +1,5 @@
 -- A put by its answer: what a script is told, and what is left behind it.
-use Rattle.std.proofs.Common.{◌≡◌, ◌∙◌, ◌⊎◌, inl, inr, ℕ, Bool, true, false, Option, Some, None, Result, Ok, Err, IfErr, IsErrAnd, ap, refl, sym, subst, true≢false}
+use Rattle.std.proofs.Common.{◌≡◌, ◌⊎◌, inl, inr, ℕ, Option, Result, Ok, Err, IfErr, IsErrAnd, refl, subst}
 use Rattle.map_model.specs.declared.call.Refusal.{Refusal}
 use Rattle.map_model.specs.declared.call.Refusal.TheVariants as refusal
 use Rattle.engine_trait.specs.Calls.{MayCome}
@@ -8,11 +8,10 @@ use Rattle.lean_disk.specs.Story.{Story}
 use Rattle.row_changes.specs.declared.ways.Unmade.{Unmade}
 use Rattle.row_changes.specs.declared.ways.Unmade.TheVariants as unmade
 use Rattle.row_growth.specs.declared.steps.Stepped.{Stepped}
-use Rattle.row_growth.specs.declared.steps.Stepped.TheVariants as stepped
-use Rattle.paged_desks.specs.Calls.{EndsWork, works_behind}
+use Rattle.paged_desks.specs.Calls.{EndsWork}
 use Rattle.paged_desks.specs.declared.machine.PagedMachine.{PagedMachine}
 use Rattle.paged_calls.specs.Calls.{IsEarly}
-use Rattle.paged_calls.specs.Rounds.{Rounds, as_stepped, round_of}
+use Rattle.paged_calls.specs.Rounds.{Rounds, round_of}
 use Rattle.paged_calls.proofs.WarmLemmas.{cause_as}
 
 -- ## What comes before all else

@@ -1,11 +1,11 @@
 -- A put, in each run to which its machine is tied.
-use Rattle.std.proofs.Common.{◌≡◌, ◌∙◌, ◌⊎◌, inl, inr, ◌≤◌, ◌<◌, ◌+◌, ◌*◌, ◌^◌, ◌%◌, ◌++◌, ℕ, suc, Bool, true, false, List, [], ◌∷◌, Option, Some, None, Result, Ok, Err, IfErr, IsErrAnd, length, ap, refl, sym, subst, arith, true≢false}
+use Rattle.std.proofs.Common.{◌≡◌, ◌∙◌, inl, inr, ◌≤◌, ◌<◌, ◌+◌, ◌^◌, ◌%◌, ℕ, true, false, List, ◌∷◌, Option, Some, None, Result, Ok, Err, length, ap, refl, sym, subst, arith, true≢false}
 use Rattle.map_model.specs.declared.call.Answer.{Answer}
 use Rattle.map_model.specs.declared.call.Answer.TheVariants as answer
 use Rattle.map_model.specs.declared.call.Call.TheVariants as call
 use Rattle.map_model.specs.declared.call.Refusal.{Refusal}
 use Rattle.map_model.specs.declared.call.Refusal.TheVariants as refusal
-use Rattle.core_calls.specs.Fronts.{Done, front, outcomes}
+use Rattle.core_calls.specs.Fronts.{Done, front}
 use Rattle.core_calls.specs.LogEvents.{IsPressedYet, SyncsWhere}
 use Rattle.core_paging.specs.Paging.{EveryResidence}
 use Rattle.core_state.specs.Events as happening
@@ -13,7 +13,6 @@ use Rattle.core_state.specs.Openings.{Opening}
 use Rattle.core_state.specs.Steps.{state_after}
 use Rattle.engine_calls.specs.Answers.{EveryAnswer}
 use Rattle.engine_calls.specs.Clauses.{EveryComing}
-use Rattle.engine_trait.specs.Calls.{MayCome, is_half_done}
 use Rattle.engine_trait.specs.Refusals.{clock_refusal}
 use Rattle.key_locks.specs.declared.mode.Mode.TheVariants.{Alone}
 use Rattle.lean_disk.specs.Story.{IsLawful, Story}
@@ -31,16 +30,15 @@ use Rattle.call_parts.specs.Deeds.{Fails}
 use Rattle.paged_desks.proofs.Doing.{hot_few}
 use Rattle.paged_desks.proofs.EndingLemmas.{Grounds}
 use Rattle.paged_desks.proofs.StandLemmas.{halves_are}
-use Rattle.paged_desks.specs.Calls.{AreHalf, CallDoes, Comes, DoesTied, EndsWork, OnLine, Tied, works_behind}
+use Rattle.paged_desks.specs.Calls.{AreHalf, CallDoes, Comes, DoesTied, OnLine, Tied, works_behind}
 use Rattle.paged_desks.specs.Machines.{IsReady, memory, view_of}
 use Rattle.paged_desks.specs.declared.machine.PagedMachine.{PagedMachine}
-use Rattle.paged_calls.specs.Calls.{IsEarly, put_answer}
+use Rattle.paged_calls.specs.Calls.{put_answer}
 use Rattle.paged_calls.specs.Changes.{MayStill}
 use Rattle.paged_calls.specs.Growths.{HasMade}
 use Rattle.paged_calls.specs.Rounds.{FailsComing, Rounds, most_a_put, round_of}
 use Rattle.paged_calls.specs.Steps.{HasCome, HasNotTaken, HasTaken}
 use Rattle.paged_calls.specs.Tests.{change_test}
-use Rattle.paged_calls.specs.declared.growing.Round.TheVariants as round
 use Rattle.paged_calls.proofs.ChangeRuns as runs
 use Rattle.paged_calls.proofs.ChangeTests.{by_test}
 use Rattle.paged_calls.proofs.GrowthRuns as grown

@@ -1,20 +1,17 @@
 -- What a put did behind the taking of its row, round by round.
-use Rattle.std.proofs.Common.{◌≡◌, ◌∙◌, ◌⊎◌, inl, inr, ◌≤◌, ◌<◌, ◌+◌, ◌*◌, ◌^◌, ◌%◌, ◌-◌, ◌++◌, ◌==◌, ◌&&◌, cond, ℕ, suc, Bool, true, false, List, [], ◌∷◌, Option, Some, None, Result, Ok, Err, IfOk, length, ap, refl, sym, subst, arith, true≢false}
+use Rattle.std.proofs.Common.{◌≡◌, ◌∙◌, ◌⊎◌, inl, inr, ◌≤◌, ◌<◌, ◌+◌, ◌*◌, ◌^◌, ◌%◌, ◌-◌, ◌++◌, ◌==◌, ◌&&◌, cond, ℕ, suc, true, false, List, [], ◌∷◌, Option, Some, None, Result, Ok, Err, length, ap, refl, sym, subst, arith, true≢false}
 use Rattle.std.proofs.lemmas.Bool.{and_from, and_parts, eq-eqb}
 use Rattle.map_model.specs.Lists.{Has}
 use Rattle.map_model.specs.declared.call.Refusal.{Refusal}
 use Rattle.map_model.specs.declared.call.Refusal.TheVariants as refusal
-use Rattle.core_calls.specs.Fronts.{Done, front}
 use Rattle.core_calls.specs.Warms.{IsWarmFrom}
 use Rattle.core_calls.specs.Room.{EveryRoom, free_list, is_full_at, room_takes}
 use Rattle.core_paging.specs.Paging.{EveryResidence, Residence}
-use Rattle.core_state.specs.Events as happening
 use Rattle.core_state.specs.Needs.{is_held_by}
 use Rattle.core_state.specs.Openings.{Opening}
 use Rattle.core_state.specs.States.{State}
 use Rattle.core_state.specs.Steps as core
-use Rattle.disk_runs.specs.Stands.{Stands}
-use Rattle.lean_disk.specs.Story.{Crash, IsLawful, Story}
+use Rattle.lean_disk.specs.Story.{IsLawful, Story}
 use Rattle.page_model.specs.Nodes.{covers, is_leaf}
 use Rattle.page_pool.specs.Pools.{EveryStanding}
 use Rattle.row_changes.proofs.TakesLemmas.{takes_most}
@@ -35,10 +32,9 @@ use Rattle.row_words.specs.declared.given.Given.{Given}
 use Rattle.row_words.specs.Moments.{Moment, events_of}
 use Rattle.row_words.specs.Sealed.{begun}
 use Rattle.row_words.specs.Openings.{opening}
-use Rattle.rows_trait.specs.declared.view.View.{View}
 use Rattle.rows_trait.specs.Views.{after_all, state}
 use Rattle.session_desks.proofs.SeatLemmas.{holds_of}
-use Rattle.session_desks.specs.Parts.{AreAsMany, SeatFits, here, shape}
+use Rattle.session_desks.specs.Parts.{SeatFits, here, shape}
 use Rattle.session_state.proofs.Moments.{seen_state}
 use Rattle.session_state.proofs.OtherLemmas.{no_steps}
 use Rattle.session_state.proofs.UndoLemmas.{room_to_stage}
@@ -50,14 +46,13 @@ use Rattle.session_state.specs.Undo.{HasRoomToStage}
 use Rattle.engine_trait.specs.Refusals.{room_refusal}
 use Rattle.session_state.specs.declared.session.Session.{Session}
 use Rattle.session_state.specs.declared.work.Work.{Work}
-use Rattle.worker_log.specs.Logs.{Log, limit, used}
+use Rattle.worker_log.specs.Logs.{Log}
 use Rattle.call_parts.proofs.RunLemmas.{behind_more, run_core}
-use Rattle.call_parts.specs.Memory.{IsOf}
 use Rattle.paged_desks.proofs.EndingLemmas.{Grounds}
 use Rattle.paged_desks.proofs.StandLemmas.{looked_same, ready_on}
 use Rattle.paged_desks.specs.Calls.{IsAside}
 use Rattle.paged_desks.specs.Calls.{works_behind as is_working}
-use Rattle.paged_desks.specs.Machines.{IsReady, memory, pages, view_of}
+use Rattle.paged_desks.specs.Machines.{IsReady, pages, view_of}
 use Rattle.paged_desks.specs.Pages.{HasPaged, IsKept, goes_on, most_a_level}
 use Rattle.paged_desks.specs.Parts.{HasFailed, HasGone, IsSpent, StandsNowhere}
 use Rattle.paged_desks.specs.declared.machine.PagedMachine.{PagedMachine}
@@ -77,7 +72,7 @@ use Rattle.paged_calls.proofs.EventLemmas.{paging_structure}
 use Rattle.paged_calls.proofs.GrowthStands.{made_grown, made_missed, ready_grown, ready_missed}
 use Rattle.paged_calls.proofs.LikeLemmas.{run_like}
 use Rattle.paged_calls.proofs.MadeLemmas.{core_paging, made_gone, made_none, made_then, made_up, making_paging}
-use Rattle.paged_calls.proofs.RoomLemmas.{IsNoFuller, gone_no_fuller, rows_kept}
+use Rattle.paged_calls.proofs.RoomLemmas.{gone_no_fuller, rows_kept}
 use Rattle.paged_calls.proofs.WarmLemmas.{kept_own}
 use Rattle.paged_calls.proofs.WayLemmas.{has_below, takes_least}
 

@@ -1,7 +1,7 @@
 -- A machine stands while the session whose turn it is enters a record: a change, or a change of the tree.
-use Rattle.std.proofs.Common.{◌≡◌, ◌∙◌, ◌≤◌, ◌<◌, ◌+◌, ◌==◌, ◌||◌, ◌&&◌, ◌++◌, ◌^◌, ◌⊎◌, inl, inr, ℕ, suc, Bool, true, false, IsTrue, List, [], ◌∷◌, Global, Vec, Option, length, ap, refl, sym, subst, arith, true≢false}
-use Rattle.std.proofs.lemmas.Bool.{and_parts, cases_eq, cases_lt, cond-false, eq-eqb, ne_eqb}
-use Rattle.map_model.specs.Lists.{Has, any}
+use Rattle.std.proofs.Common.{◌≡◌, ◌∙◌, ◌≤◌, ◌<◌, ◌+◌, ◌==◌, ◌||◌, ◌++◌, ◌^◌, ◌⊎◌, inl, inr, ℕ, suc, true, false, IsTrue, List, [], ◌∷◌, Global, Vec, Option, length, ap, refl, sym, subst, arith, true≢false}
+use Rattle.std.proofs.lemmas.Bool.{and_parts, cases_eq, cases_lt, cond-false, ne_eqb}
+use Rattle.map_model.specs.Lists.{Has}
 use Rattle.core_paging.specs.Paging.{Waiting}
 use Rattle.core_state.specs.Events as happening
 use Rattle.core_state.specs.Needs.{are_hot, may, needs}
@@ -15,7 +15,6 @@ use Rattle.lean_disk.specs.Area.{Area}
 use Rattle.lean_disk.specs.Moments.{Framed}
 use Rattle.lean_disk.specs.Story.{Story, Tells}
 use Rattle.lean_proto.specs.Still.{Stood}
-use Rattle.log_calls.specs.Wholes.{EndsInRecord}
 use Rattle.log_block.specs.Block.{records_text}
 use Rattle.log_record.specs.declared.record.Record.{Record}
 use Rattle.page_calls.specs.Mirrors.{HoldsLast, Mirrors}

@@ -4,10 +4,9 @@ use Rattle.std.proofs.lemmas.Bool.{cases_eq}
 use Rattle.core_calls.specs.Room.{room_takes}
 use Rattle.core_state.specs.Needs.{is_held_by, may}
 use Rattle.core_state.specs.Openings.{Opening}
-use Rattle.core_state.specs.States.{Row, State}
+use Rattle.core_state.specs.States.{State}
 use Rattle.core_state.specs.Steps as core
 use Rattle.core_state.specs.Steps.{happens}
-use Rattle.disk_runs.specs.MasterLaws.{raised}
 use Rattle.engine_trait.specs.Logs.{Logs, LogsOne}
 use Rattle.lean_disk.specs.Story.{Story}
 use Rattle.row_changes.proofs.TakesLemmas.{takes_most}

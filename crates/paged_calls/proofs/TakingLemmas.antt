@@ -21,7 +21,6 @@ use Rattle.key_locks.specs.declared.mode.Mode.{Mode}
 use Rattle.key_locks.specs.Rows.{core_mode, event_mode}
 use Rattle.row_changes.proofs.TakeLemmas.{row_is, same_mode, with_count}
 use Rattle.row_changes.specs.Takes.{IsHindered, NotTaken, Takes}
-use Rattle.row_words.specs.declared.event.Event.{Event}
 use Rattle.row_words.specs.Moments.{events_of, mode_of}
 use Rattle.row_opening.specs.Openings.{EveryNeed, EveryReached}
 use Rattle.rows_trait.specs.declared.view.View.{View}

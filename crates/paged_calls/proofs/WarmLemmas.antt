@@ -1,5 +1,5 @@
 -- A key was read behind the coming of the pages of its way.
-use Rattle.std.proofs.Common.{◌≡◌, ◌∙◌, ◌⊎◌, inl, inr, ◌+◌, ◌%◌, ◌++◌, ℕ, Bool, true, false, [], Option, Result, Ok, Err, ap, refl, sym, subst, arith, true≢false}
+use Rattle.std.proofs.Common.{◌≡◌, ◌∙◌, ◌⊎◌, inl, inr, ◌%◌, ◌++◌, ℕ, Bool, true, false, [], Option, Result, Ok, Err, ap, refl, sym, subst, arith, true≢false}
 use Rattle.map_model.specs.Lists.{Has}
 use Rattle.core_calls.specs.Fronts.{front}
 use Rattle.lean_disk.specs.Faults.{HasCause}

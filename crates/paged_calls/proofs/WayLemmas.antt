@@ -1,9 +1,7 @@
 -- Room for a key hangs on the pages that are no leaves, where its leaf is full.
-use Rattle.std.proofs.Common.{◌≡◌, ◌∙◌, ◌⊎◌, inl, inr, ◌≤◌, ◌<◌, ◌||◌, ◌&&◌, ◌==◌, not, ltb, ℕ, zero, suc, Bool, true, false, cond, ◌∷◌, length, Option, Some, None, ap, refl, sym, subst, arith, true≢false}
-use Rattle.std.proofs.lemmas.Bool.{and_from, and_parts, cases_eq, eq-eqb, eqb-true, ltb-true, ne_eqb}
-use Rattle.map_model.specs.declared.call.Refusal.{Refusal}
+use Rattle.std.proofs.Common.{◌≡◌, ◌∙◌, ◌⊎◌, inl, inr, ◌≤◌, ◌<◌, ◌||◌, ◌&&◌, ◌==◌, not, ltb, ℕ, zero, suc, Bool, true, false, cond, ◌∷◌, length, Some, None, ap, refl, sym, subst, arith, true≢false}
+use Rattle.std.proofs.lemmas.Bool.{and_from, and_parts, cases_eq, eqb-true, ltb-true, ne_eqb}
 use Rattle.map_model.specs.declared.call.Refusal.TheVariants.{NoPages, TooTall}
-use Rattle.image_model.specs.Entries.{Contents}
 use Rattle.page_model.specs.Check.{some_below}
 use Rattle.page_model.specs.Nodes.{Format, Node, covers, holds, is_leaf}
 use Rattle.page_model.specs.Redo.{has_key}

@@ -7,7 +7,6 @@ use Rattle.core_state.specs.Needs.{is_held_by}
 use Rattle.btree_descent.specs.declared.descent.TheConstants.{TOMBSTONE}
 use Rattle.lean_disk.specs.Story.{Story}
 use Rattle.rows_trait.specs.Views.{state}
-use Rattle.session_desks.specs.Parts.{AreAsMany, shape}
 use Rattle.session_state.specs.Holds.{IsSameSession}
 use Rattle.session_state.specs.Staging.{KeepsLog}
 use Rattle.worker_log.specs.Logs.{limit, used}

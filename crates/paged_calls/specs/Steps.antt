@@ -16,7 +16,7 @@ use Rattle.call_parts.specs.Parts.{Part}
 use Rattle.session_state.specs.Staging.{IsButClock}
 use Rattle.session_state.specs.Ties.{Behind}
 use Rattle.session_desks.specs.Desks.{desk_of}
-use Rattle.session_desks.specs.Parts.{AreAsMany, here, shape}
+use Rattle.session_desks.specs.Parts.{AreAsMany, here}
 use Rattle.row_changes.specs.Reads.{HasRead}
 use Rattle.row_changes.specs.Takes.{NotTaken, Takes}
 use Rattle.paged_desks.specs.Calls.{IsBeside}

@@ -1,7 +1,6 @@
 -- Why a RowSpent comes.
-use Rattle.std.proofs.Common.{◌≡◌, ◌∙◌, ◌≤◌, ◌<◌, ◌+◌, ◌*◌, ◌^◌, ◌⊎◌, ◌||◌, ◌↔◌, inl, inr, ℕ, zero, suc, Bool, true, false, Option, Result, Ok, Err, IfErr, List, [], ◌∷◌, length, get_or, ap, refl, sym, subst, arith, true≢false}
+use Rattle.std.proofs.Common.{◌≡◌, ◌∙◌, ◌≤◌, ◌<◌, ◌⊎◌, ◌↔◌, inl, inr, ℕ, zero, suc, Bool, true, false, Option, Result, Ok, Err, IfErr, length, ap, refl, sym, subst, arith, true≢false}
 use Rattle.std.proofs.lemmas.Bool.{cases_eq, cases_lt}
-use Rattle.map_model.specs.Lists.{any}
 use Rattle.page_provider.specs.declared.refusal.Refusal.{Refusal}
 use Rattle.page_provider.specs.declared.refusal.Refusal.TheVariants as refusal
 use Rattle.page_provider.specs.Refusals.{Caused}
@@ -10,15 +9,11 @@ use Rattle.paged_rows.specs.Warms.{IsRefusedTo}
 use Rattle.paged_rows.specs.declared.wanted.Wanted.{Wanted}
 use Rattle.rows_trait.specs.Causes.{EveryLow}
 use Rattle.rows_trait.specs.declared.view.View.{View}
-use Rattle.rows_trait.specs.Views.{AreLow, Shape}
+use Rattle.rows_trait.specs.Views.{AreLow}
 use Rattle.session_desks.specs.Desks.{desk_of}
 use Rattle.session_desks.specs.Machines.{AreDesks}
 use Rattle.session_desks.specs.Parts.{MaySync, here, shape}
-use Rattle.session_desks.specs.Syncs.{has_half, is_half_desk}
 use Rattle.session_desks.specs.declared.desk.Desk.{Desk}
-use Rattle.session_desks.proofs.DeskLemmas.{desk_apart, desk_own}
-use Rattle.session_desks.proofs.SeatLemmas.{turn_high, turn_low}
-use Rattle.session_desks.proofs.SyncNeeds.{seats}
 use Rattle.session_state.specs.Syncs.{EveryFlush, MayFlush, finds_room}
 use Rattle.session_state.specs.declared.session.Session.{Session}
 use Rattle.paged_desks.specs.Inside.{IsOfPage, LateCause, stopped_by}

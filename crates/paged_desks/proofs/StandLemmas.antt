@@ -1,5 +1,5 @@
 -- A machine stands while the session whose turn it is begins, takes a row, or reads.
-use Rattle.std.proofs.Common.{◌≡◌, ◌∙◌, ◌≤◌, ◌<◌, ◌++◌, ◌^◌, ◌⊎◌, inl, inr, ℕ, zero, suc, Bool, true, false, cond, List, [], ◌∷◌, Global, Vec, get_or, ap, refl, sym, subst, true≢false}
+use Rattle.std.proofs.Common.{◌≡◌, ◌∙◌, ◌≤◌, ◌++◌, ◌^◌, ◌⊎◌, inl, inr, ℕ, zero, suc, Bool, true, false, cond, List, [], ◌∷◌, Global, Vec, get_or, ap, refl, sym, subst, true≢false}
 use Rattle.std.proofs.lemmas.Bool.{cases_eq}
 use Rattle.core_paging.specs.Paging.{Waiting}
 use Rattle.core_state.specs.Events as happening

@@ -19,7 +19,7 @@ use Rattle.row_words.specs.Openings.{opening}
 use Rattle.rows_trait.specs.declared.view.View.{View}
 use Rattle.rows_trait.specs.Views.{Shape, state}
 use Rattle.session_desks.specs.Desks.{desk_of, log_of}
-use Rattle.session_desks.specs.Machines.{AreDesks, AreLogged, IsDesk, IsMachine}
+use Rattle.session_desks.specs.Machines.{AreDesks, AreLogged}
 use Rattle.session_desks.specs.Parts.{IsSound, SeatFits, here, logs, shape}
 use Rattle.session_desks.specs.Syncs.{HasOpening}
 use Rattle.session_desks.specs.declared.desk.Desk.{Desk}

@@ -1,5 +1,5 @@
 -- A key's way that is hot from a level up, behind what is done to pages.
-use Rattle.std.proofs.Common.{◌≡◌, ◌∙◌, ◌≤◌, ◌<◌, ◌-◌, ◌&&◌, ◌==◌, ℕ, true, false, Result, Ok, Err, IfOk, IfErr, Option, Some, None, ap, refl, sym, subst, arith}
+use Rattle.std.proofs.Common.{◌≡◌, ◌∙◌, ◌≤◌, ◌<◌, ◌-◌, ◌&&◌, ◌==◌, ℕ, false, Result, Ok, Err, IfOk, IfErr, Option, Some, None, ap, refl, sym, subst, arith}
 use Rattle.btree_descent.specs.Known.{Sound}
 use Rattle.cold_pages.specs.Laws.{IsButEntries}
 use Rattle.core_calls.specs.Room.{free_list}

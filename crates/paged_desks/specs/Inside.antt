@@ -13,12 +13,11 @@ use Rattle.paged_rows.specs.Paged.{IsWarm}
 use Rattle.paged_rows.specs.Warms.{IsCrowded, ReadsUnlessSaved}
 use Rattle.paged_rows.specs.declared.wanted.Wanted.{Wanted}
 use Rattle.paged_rows.specs.declared.wanted.Wanted.TheVariants as want
-use Rattle.row_words.specs.declared.event.Event.{Event}
 use Rattle.rows_trait.specs.declared.view.View.{View}
 use Rattle.rows_trait.specs.Views.{state}
-use Rattle.session_desks.specs.Parts.{AreAsMany, SeatFits, logs, shape}
+use Rattle.session_desks.specs.Parts.{AreAsMany, SeatFits, shape}
 use Rattle.paged_desks.specs.Machines.{memory, pages, view_of}
-use Rattle.paged_desks.specs.Pages.{ArePaging, HasPaged, hot_in}
+use Rattle.paged_desks.specs.Pages.{HasPaged, hot_in}
 use Rattle.paged_desks.specs.Parts.{IsLate, StandsNowhere}
 use Rattle.paged_desks.specs.declared.machine.PagedMachine.{PagedMachine}
 use Rattle.paged_desks.specs.declared.warming.Unwarmed.{Unwarmed}

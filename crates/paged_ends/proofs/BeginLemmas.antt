@@ -1,5 +1,5 @@
 -- A begin in every run.
-use Rattle.std.proofs.Common.{◌≡◌, ◌∙◌, ◌≤◌, ◌<◌, ◌^◌, ◌⊎◌, ◌↔◌, inl, inr, ◌++◌, ℕ, leb, Bool, true, false, cond, List, [], length, Option, Some, None, Result, Ok, Err, IfOk, IfErr, IsErr, ap, refl, sym, subst, arith, append-nil, true≢false}
+use Rattle.std.proofs.Common.{◌≡◌, ◌∙◌, ◌≤◌, ◌<◌, ◌^◌, ◌⊎◌, ◌↔◌, inl, inr, ℕ, leb, Bool, true, false, cond, List, [], length, Some, None, Result, Ok, Err, IfOk, IfErr, IsErr, ap, refl, sym, subst, arith, append-nil, true≢false}
 use Rattle.map_model.specs.Lists.{keep}
 use Rattle.map_model.specs.declared.call.Answer.TheVariants as answer
 use Rattle.map_model.specs.declared.call.Call.TheVariants as call
@@ -23,7 +23,7 @@ use Rattle.lean_disk.specs.Faults.{HasCause}
 use Rattle.lean_disk.specs.Story.{IsLawful, Story}
 use Rattle.row_words.specs.Moments.{events_of}
 use Rattle.rows_trait.specs.Views.{state}
-use Rattle.row_ends.proofs.BeginLemmas.{begin_comes, begin_told, test_is}
+use Rattle.row_ends.proofs.BeginLemmas.{begin_told, test_is}
 use Rattle.row_ends.specs.Tests.{begin_test}
 use Rattle.session_state.specs.Holds.{Holds, IsOf}
 use Rattle.session_state.specs.Syncs.{flushed_of}
@@ -37,13 +37,12 @@ use Rattle.worker_log.specs.Logs.{Log, limit, used}
 use Rattle.call_parts.proofs.RunLemmas.{core_is, front_is}
 use Rattle.call_parts.proofs.StepLemmas.{every_step}
 use Rattle.paged_desks.specs.Calls as calls
-use Rattle.paged_desks.specs.Calls.{AreHalf, CallDoes, DoesTied, Tied}
+use Rattle.paged_desks.specs.Calls.{AreHalf, DoesTied, Tied}
 use Rattle.paged_desks.specs.Machines.{IsReady, memory, view_of}
 use Rattle.paged_desks.specs.Pages.{IsKept}
 use Rattle.paged_desks.specs.Syncs.{IsSynced}
 use Rattle.paged_desks.specs.declared.machine.PagedMachine.{PagedMachine}
 use Rattle.paged_desks.proofs.EndingLemmas.{Grounds}
-use Rattle.paged_desks.proofs.Moments.{length_events}
 use Rattle.paged_ends.proofs.BeginRuns.{Comes, at_p, began, not_begun}
 use Rattle.paged_ends.proofs.StayLemmas.{begin_by, limit_of, stays_closed, used_of}
 use Rattle.paged_ends.proofs.SyncEvents.{sync_logs, sync_none}

@@ -1,6 +1,6 @@
 -- A begin in a run, behind a sync or none: its transaction began, or it was refused.
-use Rattle.std.proofs.Common.{◌≡◌, ◌∙◌, ◌≤◌, ◌<◌, ◌+◌, ◌^◌, ◌⊎◌, inl, inr, ◌++◌, ◌||◌, ◌==◌, ℕ, suc, cond, leb, Bool, true, false, List, [], ◌∷◌, length, Some, None, ap, refl, sym, subst, arith, true≢false}
-use Rattle.std.proofs.lemmas.Bool.{cases_eq, leb-true}
+use Rattle.std.proofs.Common.{◌≡◌, ◌∙◌, ◌≤◌, ◌<◌, ◌^◌, inl, ◌++◌, ℕ, suc, cond, leb, Bool, true, false, List, [], ◌∷◌, length, Some, None, ap, refl, sym, subst, arith}
+use Rattle.std.proofs.lemmas.Bool.{leb-true}
 use Rattle.std.proofs.lemmas.List.{length-append}
 use Rattle.map_model.specs.Lists.{any, keep}
 use Rattle.map_model.specs.declared.call.Answer.TheVariants as answer
@@ -35,7 +35,6 @@ use Rattle.lean_disk.specs.Story.{IsLawful, Story}
 use Rattle.row_words.specs.declared.event.Event.{Event}
 use Rattle.row_words.specs.declared.event.Event.TheVariants as told
 use Rattle.row_words.specs.Moments.{events_of}
-use Rattle.rows_trait.specs.declared.view.View.{View}
 use Rattle.rows_trait.specs.Views.{state}
 use Rattle.session_state.proofs.Moments.{events_more}
 use Rattle.session_state.specs.Ties.{Behind}

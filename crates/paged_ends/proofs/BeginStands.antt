@@ -1,5 +1,5 @@
 -- A machine behind a begin.
-use Rattle.std.proofs.Common.{◌≡◌, ◌∙◌, ◌++◌, ℕ, true, List, [], ◌∷◌, ap, refl, sym, subst, append-nil}
+use Rattle.std.proofs.Common.{◌∙◌, ◌++◌, ℕ, List, [], ◌∷◌, ap, refl, sym, subst}
 use Rattle.engine_calls.proofs.MoveLemmas.{every_move}
 use Rattle.lean_disk.specs.Story.{IsLawful, Story}
 use Rattle.row_words.specs.declared.event.Event.{Event}

@@ -1,24 +1,21 @@
 -- A commit in every run: it was refused by a test, or answered so.
-use Rattle.std.proofs.Common.{◌≡◌, ◌∙◌, ◌≤◌, ◌<◌, ◌⊎◌, inl, inr, ◌↔◌, ℕ, Bool, true, false, List, Some, Result, Ok, Err, ap, refl, sym, subst, true≢false}
+use Rattle.std.proofs.Common.{◌≡◌, ◌∙◌, ◌⊎◌, inl, inr, ◌↔◌, true, false, Some, Result, Ok, Err, ap, refl, sym, subst, true≢false}
 use Rattle.map_model.specs.declared.call.Answer.TheVariants as answer
 use Rattle.map_model.specs.declared.call.Call.TheVariants as call
 use Rattle.map_model.specs.declared.call.Refusal.{Refusal}
 use Rattle.map_model.specs.declared.call.Refusal.TheVariants as refusal
-use Rattle.core_calls.specs.Fronts.{Done}
-use Rattle.core_state.specs.Openings.{Opening}
 use Rattle.engine_calls.specs.Answers.{EveryAnswer}
 use Rattle.engine_calls.specs.Clauses.{EveryComing}
 use Rattle.engine_calls.specs.Entries.{EveryEntry}
 use Rattle.engine_trait.specs.Calls.{MayCome}
 use Rattle.lean_disk.specs.Story.{IsLawful, Story}
 use Rattle.row_ends.proofs.GoingLemmas.{Tested, tested}
-use Rattle.row_ends.specs.Outcomes.{Commits}
-use Rattle.row_ends.specs.Tests.{call_test, is_going}
+use Rattle.row_ends.specs.Tests.{call_test}
 use Rattle.row_ends.specs.declared.ending.Ended as replies
 use Rattle.session_state.specs.Holds.{IsSameSession}
 use Rattle.session_state.specs.declared.session.Session.{Session}
-use Rattle.paged_desks.specs.Calls.{CallDoes, DoesTied, EndsWork, IsAside, OnLine, ends_work, works_behind}
-use Rattle.paged_desks.specs.Machines.{IsReady, memory, view_of}
+use Rattle.paged_desks.specs.Calls.{CallDoes, EndsWork, IsAside, OnLine, ends_work, works_behind}
+use Rattle.paged_desks.specs.Machines.{IsReady}
 use Rattle.paged_desks.specs.declared.machine.PagedMachine.{PagedMachine}
 use Rattle.paged_desks.proofs.EndingLemmas.{Grounds}
 use Rattle.paged_ends.proofs.CommitLemmas.{committed, fails_commit}

@@ -1,20 +1,18 @@
 -- A commit in every run, by its answer.
-use Rattle.std.proofs.Common.{◌≡◌, ◌∙◌, ◌≤◌, ◌<◌, ◌^◌, ◌⊎◌, inl, inr, ◌++◌, ◌&&◌, ◌||◌, ℕ, suc, Bool, true, false, leb, List, [], ◌∷◌, length, Some, None, Result, Ok, Err, IfErr, ap, refl, sym, subst, arith, append-nil, true≢false}
+use Rattle.std.proofs.Common.{◌≡◌, ◌∙◌, ◌≤◌, ◌<◌, ◌⊎◌, inl, inr, ◌++◌, ℕ, suc, Bool, true, false, List, [], ◌∷◌, ap, refl, sym, subst, arith, append-nil, true≢false}
 use Rattle.std.proofs.lemmas.Bool.{cases_eq, le-leb, lt-leb}
 use Rattle.map_model.proofs.ListLemmas.{upd_other, upd_same}
 use Rattle.map_model.specs.Lists.{upd}
 use Rattle.map_model.specs.declared.call.Answer.TheVariants as answer
 use Rattle.map_model.specs.declared.call.Call.{Call}
 use Rattle.map_model.specs.declared.call.Call.TheVariants as call
-use Rattle.map_model.specs.declared.call.Refusal.{Refusal}
-use Rattle.map_model.specs.declared.call.Refusal.TheVariants as refusal
 use Rattle.core_calls.specs.Fronts.{Done, front, outcomes}
 use Rattle.core_state.specs.Events as happening
 use Rattle.core_state.specs.Openings.{Opening}
 use Rattle.core_state.specs.Steps.{AllMet, state_after}
 use Rattle.engine_calls.specs.Answers.{EveryAnswer}
-use Rattle.engine_calls.specs.Clauses.{EveryComing, IsNewLine}
-use Rattle.engine_calls.specs.Commits.{ending, flush_if}
+use Rattle.engine_calls.specs.Clauses.{IsNewLine}
+use Rattle.engine_calls.specs.Commits.{ending}
 use Rattle.engine_calls.specs.Entries.{EveryEntry}
 use Rattle.engine_trait.specs.Calls.{is_half_done}
 use Rattle.lean_disk.specs.Story.{IsLawful, Story}
@@ -23,9 +21,9 @@ use Rattle.row_words.specs.declared.event.Event.TheVariants as told
 use Rattle.row_words.specs.Moments.{events_of}
 use Rattle.row_words.specs.Openings.{opening}
 use Rattle.rows_trait.specs.declared.view.View.{View}
-use Rattle.row_ends.specs.Ends.{gives, waiting_session}
+use Rattle.row_ends.specs.Ends.{gives}
 use Rattle.worker_log.specs.Logs.{Log}
-use Rattle.row_ends.specs.Outcomes.{Commits, FailsToCommit, HasCommitted, HasEnded, IsGrouped}
+use Rattle.row_ends.specs.Outcomes.{FailsToCommit, HasCommitted, IsGrouped}
 use Rattle.row_ends.specs.declared.ending.Ended as replies
 use Rattle.session_state.proofs.Moments.{events_more}
 use Rattle.session_state.specs.Holds.{Holds, IsSameSession}
@@ -40,8 +38,8 @@ use Rattle.call_parts.proofs.MemoryLemmas.{every_memory}
 use Rattle.call_parts.proofs.OwnLemmas.{every_own}
 use Rattle.call_parts.proofs.SightLemmas.{every_enter}
 use Rattle.call_parts.specs.Deeds.{Fails}
-use Rattle.call_parts.specs.Memory.{IsSame, Memory, with_own}
-use Rattle.call_parts.specs.Parts.{Failed, Part}
+use Rattle.call_parts.specs.Memory.{IsSame, with_own}
+use Rattle.call_parts.specs.Parts.{Part}
 use Rattle.paged_desks.specs.Calls.{AreHalf, DoesTied, IsAside, Tied}
 use Rattle.paged_desks.specs.Machines.{IsReady, memory, view_of}
 use Rattle.paged_desks.specs.declared.machine.PagedMachine.{PagedMachine}

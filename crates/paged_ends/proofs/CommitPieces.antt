@@ -1,8 +1,7 @@
 -- A machine behind a commit that a test did not refuse, by its answer; and a commit that is refused, in every run.
-use Rattle.std.proofs.Common.{◌≡◌, ◌∙◌, ◌≤◌, ◌<◌, ◌+◌, ◌^◌, ◌⊎◌, inl, inr, ◌↔◌, ◌++◌, ◌==◌, ℕ, suc, Bool, true, false, cond, List, [], length, Global, Vec, Some, None, Result, Ok, Err, IfErr, IfOk, ap, refl, sym, subst, arith, append-nil, true≢false}
-use Rattle.std.proofs.lemmas.Bool.{cases_eq}
+use Rattle.std.proofs.Common.{◌≡◌, ◌∙◌, ◌≤◌, ◌<◌, ◌^◌, ◌⊎◌, inl, inr, ◌↔◌, ◌++◌, ℕ, suc, Bool, true, false, cond, List, [], length, Some, None, Result, Ok, Err, IfErr, ap, refl, sym, subst, arith, append-nil, true≢false}
 use Rattle.std.proofs.lemmas.List.{length-append}
-use Rattle.map_model.specs.Lists.{any, keep}
+use Rattle.map_model.specs.Lists.{keep}
 use Rattle.map_model.specs.declared.call.Answer.TheVariants as answer
 use Rattle.map_model.specs.declared.call.Call.{Call}
 use Rattle.map_model.specs.declared.call.Call.TheVariants as call
@@ -13,9 +12,8 @@ use Rattle.core_calls.specs.Deeds.{marks_by}
 use Rattle.core_calls.specs.Fronts.{Done, front, outcomes}
 use Rattle.core_calls.specs.LogEvents.{is_log}
 use Rattle.core_calls.specs.Marks.{is_half}
-use Rattle.core_calls.specs.Refusals.{IsCause}
 use Rattle.core_calls.specs.Scans.{StopsOnWay}
-use Rattle.core_calls.specs.Steps.{Tries, call_behind, is_step, is_structure}
+use Rattle.core_calls.specs.Steps.{Tries, call_behind, is_step}
 use Rattle.core_state.specs.Events as happening
 use Rattle.core_state.specs.Openings.{Opening}
 use Rattle.core_state.specs.States.{State}
@@ -24,10 +22,10 @@ use Rattle.engine_calls.proofs.MarkLemmas.{keep_none}
 use Rattle.engine_calls.specs.Answers.{EveryAnswer}
 use Rattle.engine_calls.specs.Clauses.{EveryComing, IsNewLine}
 use Rattle.engine_calls.specs.Parts.{behind_first}
-use Rattle.engine_calls.specs.Refused.{IsRefusal, TakesRows, refused_by}
+use Rattle.engine_calls.specs.Refused.{TakesRows, refused_by}
 use Rattle.engine_trait.specs.Calls.{MayCome, is_half_done}
 use Rattle.engine_trait.specs.Limits.{limits}
-use Rattle.engine_trait.specs.Refusals.{IsRefusedFor, refusal_in}
+use Rattle.engine_trait.specs.Refusals.{refusal_in}
 use Rattle.engine_trait.specs.Rooms.{MakesItsRoom}
 use Rattle.lean_disk.proofs.MomentLemmas.{framed}
 use Rattle.lean_disk.specs.Moments.{Framed}
@@ -35,30 +33,28 @@ use Rattle.lean_disk.specs.Story.{IsLawful, Story}
 use Rattle.row_words.specs.declared.event.Event.{Event}
 use Rattle.row_words.specs.Moments.{events_of}
 use Rattle.row_words.specs.Openings.{opening}
-use Rattle.rows_trait.specs.declared.view.View.{View}
-use Rattle.rows_trait.specs.Views.{Shape, state}
+use Rattle.rows_trait.specs.Views.{state}
 use Rattle.row_ends.proofs.GoingLemmas.{not_going, tests_as}
-use Rattle.row_ends.proofs.Misses.{misses_core, misses_log, misses_met, misses_quiet, misses_run, misses_steps, misses_structure}
+use Rattle.row_ends.proofs.Misses.{misses_core, misses_log, misses_met, misses_quiet, misses_steps, misses_structure}
 use Rattle.row_ends.specs.Outcomes.{Commits, IsSpent}
-use Rattle.row_ends.specs.Tests.{call_test, is_going}
+use Rattle.row_ends.specs.Tests.{is_going}
 use Rattle.row_ends.specs.declared.ending.Ended as replies
 use Rattle.session_state.proofs.Moments.{seen_state}
-use Rattle.session_state.specs.Holds.{Holds, IsOf, IsSameSession}
+use Rattle.session_state.specs.Holds.{Holds, IsSameSession}
 use Rattle.session_state.specs.Others.{EveryOther, Steps}
 use Rattle.session_state.specs.Ties.{Behind}
 use Rattle.session_state.specs.declared.session.Session.{Session}
 use Rattle.session_desks.proofs.DeskLemmas.{desk_own}
 use Rattle.session_desks.proofs.SeatLemmas.{holds_of, turn_high, turn_low}
-use Rattle.session_desks.specs.Desks.{desk_of}
 use Rattle.session_desks.specs.Machines.{AreLogged}
-use Rattle.session_desks.specs.Parts.{HasLogs, SeatFits, here, logs, shape}
+use Rattle.session_desks.specs.Parts.{SeatFits, here, shape}
 use Rattle.session_desks.specs.declared.desk.Desk.{Desk}
 use Rattle.worker_log.specs.Logs.{Log}
 use Rattle.call_parts.proofs.RunLemmas.{behind_more, core_is}
 use Rattle.call_parts.proofs.StepLemmas.{every_step}
 use Rattle.call_parts.specs.Memory.{Memory}
 use Rattle.call_parts.specs.Parts.{Part}
-use Rattle.paged_desks.specs.Calls.{AreHalf, DoesTied, EndsWork, IsAside, IsBeside, Tied, ends_work, works_behind}
+use Rattle.paged_desks.specs.Calls.{AreHalf, DoesTied, EndsWork, IsAside, IsBeside, Tied, works_behind}
 use Rattle.paged_desks.specs.Machines.{IsReady, memory, view_of}
 use Rattle.paged_desks.specs.declared.machine.PagedMachine.{PagedMachine}
 use Rattle.paged_desks.proofs.AsideLemmas.{ready_aside}

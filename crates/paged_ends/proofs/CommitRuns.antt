@@ -1,15 +1,13 @@
 -- A commit in a run: which outcome it is, or what is left where the log's device failed.
-use Rattle.std.proofs.Common.{◌≡◌, ◌∙◌, ◌≤◌, ◌<◌, ◌+◌, ◌^◌, ◌⊎◌, inl, inr, ◌++◌, ◌&&◌, ◌||◌, ◌==◌, ℕ, suc, cond, leb, Bool, true, false, List, [], ◌∷◌, length, Some, None, Result, Ok, Err, ap, refl, sym, subst, arith, append-nil, true≢false}
-use Rattle.std.proofs.lemmas.Bool.{le-leb, lt-leb}
-use Rattle.std.proofs.lemmas.List.{append_assoc, length-append}
-use Rattle.map_model.proofs.ListLemmas.{upd_other, upd_same}
-use Rattle.map_model.specs.Lists.{all, any, upd}
+use Rattle.std.proofs.Common.{◌≡◌, ◌∙◌, ◌≤◌, ◌<◌, ◌^◌, ◌++◌, ◌||◌, ℕ, suc, cond, leb, Bool, true, false, List, [], ◌∷◌, length, Some, None, ap, refl, sym, subst, arith}
+use Rattle.std.proofs.lemmas.List.{length-append}
+use Rattle.map_model.proofs.ListLemmas.{upd_same}
+use Rattle.map_model.specs.Lists.{all, any}
 use Rattle.map_model.specs.declared.call.Answer.TheVariants as answer
 use Rattle.map_model.specs.declared.call.Call.{Call}
 use Rattle.map_model.specs.declared.call.Call.TheVariants as call
 use Rattle.map_model.specs.declared.call.Refusal.{Refusal}
 use Rattle.map_model.specs.declared.call.Refusal.TheVariants as refusal
-use Rattle.image_model.specs.Entries.{Entry, Kind}
 use Rattle.rfa_model.specs.Reaches.{least}
 use Rattle.core_calls.specs.Fronts.{Done, front, outcomes}
 use Rattle.core_calls.specs.LogEvents as log_events
@@ -18,12 +16,12 @@ use Rattle.core_calls.specs.Steps.{call_behind, is_structure}
 use Rattle.core_state.specs.Events as happening
 use Rattle.core_state.specs.Needs.{holds_row}
 use Rattle.core_state.specs.Openings.{Opening}
-use Rattle.core_state.specs.States.{State, flushed_by_all}
+use Rattle.core_state.specs.States.{State}
 use Rattle.core_state.specs.Steps.{AllMet, state_after}
 use Rattle.disk_image.specs.Records.{entry_of}
 use Rattle.disk_runs.specs.Quiet.{is_quiet}
 use Rattle.engine_calls.proofs.MoveLemmas.{every_move}
-use Rattle.engine_calls.proofs.UnlockLemmas.{no_structure, unlocks_quiet}
+use Rattle.engine_calls.proofs.UnlockLemmas.{unlocks_quiet}
 use Rattle.engine_calls.specs.Answers.{EveryAnswer}
 use Rattle.engine_calls.specs.Clauses.{IsNewLine}
 use Rattle.engine_calls.specs.Commits.{IsCommit, committed_by, ending, flush_if, unlocks}
@@ -31,7 +29,7 @@ use Rattle.engine_calls.specs.Entries.{EveryEntry, commit_record}
 use Rattle.engine_calls.specs.Parts.{behind_first}
 use Rattle.engine_trait.specs.Calls.{is_half_done}
 use Rattle.engine_trait.specs.Limits.{limits}
-use Rattle.engine_trait.specs.Refusals.{in_transaction, refusal_in}
+use Rattle.engine_trait.specs.Refusals.{refusal_in}
 use Rattle.engine_trait.specs.Rooms.{MakesItsRoom}
 use Rattle.lean_disk.specs.Story.{IsLawful, Story}
 use Rattle.log_record.specs.declared.record.Body.TheVariants as body
@@ -46,7 +44,6 @@ use Rattle.row_ends.proofs.LatchLemmas.{gives_events}
 use Rattle.row_ends.specs.Ends.{HasFlushed, gives, waiting_session}
 use Rattle.row_ends.specs.Outcomes.{HasEnded, end_record}
 use Rattle.row_ends.specs.declared.ending.Ended as replies
-use Rattle.session_state.proofs.Moments.{events_more}
 use Rattle.session_state.specs.Holds.{Holds, IsOf}
 use Rattle.session_state.specs.Staging.{KeepsLog}
 use Rattle.session_state.specs.Ties.{Behind}

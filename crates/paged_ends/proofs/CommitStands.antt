@@ -1,5 +1,5 @@
 -- A machine behind a commit, and its logs.
-use Rattle.std.proofs.Common.{◌≡◌, ◌∙◌, ◌≤◌, ◌<◌, ◌+◌, ◌⊎◌, inl, inr, ◌++◌, ℕ, suc, Bool, true, false, cond, List, [], ◌∷◌, length, ap, refl, sym, subst, arith, true≢false}
+use Rattle.std.proofs.Common.{◌≡◌, ◌∙◌, ◌≤◌, ◌<◌, ◌⊎◌, inl, inr, ℕ, suc, Bool, true, false, cond, List, [], ◌∷◌, ap, refl, sym, subst, arith}
 use Rattle.std.proofs.lemmas.Bool.{cases_eq}
 use Rattle.map_model.proofs.ListLemmas.{upd_other, upd_same}
 use Rattle.map_model.specs.Lists.{Has}
@@ -12,7 +12,6 @@ use Rattle.core_state.specs.Steps.{end_entry, ends, happens, run, step}
 use Rattle.engine_calls.specs.Commits.{unlocks}
 use Rattle.lean_disk.specs.Moments.{Framed}
 use Rattle.lean_disk.specs.Story.{Story}
-use Rattle.log_calls.specs.Wholes.{EndsInRecord}
 use Rattle.row_words.specs.declared.event.Event.TheVariants as told
 use Rattle.row_words.specs.Openings.{opening}
 use Rattle.rows_trait.specs.declared.view.View.{View}
@@ -20,7 +19,7 @@ use Rattle.rows_trait.specs.Views.{Shape, state}
 use Rattle.row_ends.proofs.CommitLemmas.{core_w, entries_w, flushed_w}
 use Rattle.row_ends.proofs.OutcomeLemmas.{next}
 use Rattle.row_ends.specs.Ends.{HasFlushed, waiting_session}
-use Rattle.row_ends.specs.Outcomes.{Commits, HasCommitted, HasEnded, IsGrouped}
+use Rattle.row_ends.specs.Outcomes.{HasCommitted, HasEnded, IsGrouped}
 use Rattle.row_ends.specs.declared.ending.Ended as replies
 use Rattle.session_state.proofs.Frames.{framed_then}
 use Rattle.session_state.proofs.Moments.{met_core, seen_state}
@@ -30,7 +29,6 @@ use Rattle.session_state.specs.Others.{EveryOther, Steps}
 use Rattle.session_state.specs.declared.session.Session.{Session}
 use Rattle.session_desks.proofs.DeskLemmas.{desk_own}
 use Rattle.session_desks.proofs.SeatLemmas.{holds_of, turn_high, turn_low}
-use Rattle.session_desks.specs.Desks.{desk_of}
 use Rattle.session_desks.specs.Machines.{IsLogged}
 use Rattle.session_desks.specs.Parts.{HasLogs, SeatFits, here, logs, shape}
 use Rattle.session_desks.specs.declared.desk.Desk.{Desk}

@@ -1,5 +1,5 @@
 -- A begin and a sync that are refused while an abort is half done.
-use Rattle.std.proofs.Common.{◌≡◌, ◌∙◌, ◌≤◌, ◌<◌, ◌^◌, ◌⊎◌, inl, inr, ◌==◌, ◌++◌, ℕ, Bool, true, false, cond, List, [], length, ap, refl, sym, subst, arith, append-nil}
+use Rattle.std.proofs.Common.{◌≡◌, ◌∙◌, ◌≤◌, ◌^◌, inl, inr, ◌==◌, ℕ, Bool, true, false, cond, List, [], length, refl, sym, subst, arith, append-nil}
 use Rattle.map_model.specs.declared.call.Answer.TheVariants as answer
 use Rattle.map_model.specs.declared.call.Call.{Call}
 use Rattle.map_model.specs.declared.call.Refusal.TheVariants as refusal
@@ -16,14 +16,11 @@ use Rattle.core_state.specs.Steps.{state_after}
 use Rattle.engine_calls.specs.Answers.{EveryAnswer}
 use Rattle.engine_calls.specs.Clauses.{EveryComing, IsNewLine}
 use Rattle.engine_calls.specs.Refused.{IsRefusal, refused_by}
-use Rattle.engine_trait.specs.Calls.{is_half_done}
 use Rattle.engine_trait.specs.Limits.{limits}
 use Rattle.engine_trait.specs.Rooms.{MakesItsRoom}
 use Rattle.lean_disk.specs.Story.{IsLawful, Story}
 use Rattle.call_parts.proofs.StepLemmas.{every_step}
 use Rattle.call_parts.specs.Parts.{Part}
-use Rattle.session_desks.specs.Desks.{desk_of}
-use Rattle.session_desks.specs.Parts.{here}
 use Rattle.paged_desks.specs.Calls.{AreHalf, DoesTied, Tied}
 use Rattle.paged_desks.specs.Machines.{IsReady, memory, view_of}
 use Rattle.paged_desks.specs.Parts.{HasHalf}

@@ -1,11 +1,10 @@
 -- A sync in each run.
-use Rattle.std.proofs.Common.{◌≡◌, ◌∙◌, ◌≤◌, ◌<◌, ◌+◌, ◌^◌, ◌==◌, ◌||◌, ◌++◌, ℕ, suc, Bool, true, false, cond, List, [], ◌∷◌, None, Some, length, ap, refl, sym, subst, arith, true≢false}
-use Rattle.map_model.specs.Lists.{all, any, keep}
+use Rattle.std.proofs.Common.{◌≡◌, ◌∙◌, ◌≤◌, ◌^◌, ◌==◌, ◌||◌, ℕ, suc, Bool, true, false, cond, List, [], ◌∷◌, None, Some, length, ap, refl, sym, subst, arith, true≢false}
+use Rattle.map_model.specs.Lists.{all, any}
 use Rattle.map_model.specs.declared.call.Answer.TheVariants as answer
 use Rattle.map_model.specs.declared.call.Call.{Call}
 use Rattle.map_model.specs.declared.call.Call.TheVariants as call
 use Rattle.map_model.specs.declared.call.Refusal.{Refusal}
-use Rattle.map_model.specs.declared.call.Refusal.TheVariants as refusal
 use Rattle.core_calls.specs.Deeds.{Synced}
 use Rattle.core_calls.specs.Fronts.{Done, front, outcomes}
 use Rattle.core_calls.specs.Marks.{Mark}
@@ -27,7 +26,6 @@ use Rattle.row_words.specs.Moments.{events_of}
 use Rattle.call_parts.specs.Deeds.{Answers, Fails}
 use Rattle.call_parts.specs.Rooms.{IsRoomFor, makes_sync, may_save}
 use Rattle.session_desks.proofs.SeatLemmas.{holds_of}
-use Rattle.session_desks.specs.Desks.{desk_of}
 use Rattle.session_desks.specs.Parts.{here, shape}
 use Rattle.session_state.specs.declared.session.Session.{Session}
 use Rattle.paged_desks.specs.Calls.{AreHalf, DoesTied, Tied}

@@ -11,7 +11,6 @@ use Rattle.engine_trait.specs.Rooms.{needs_sync}
 use Rattle.row_ends.specs.declared.ending.Ended.{Ended}
 use Rattle.session_desks.specs.Parts.{logs}
 use Rattle.paged_desks.specs.declared.machine.PagedMachine.{PagedMachine}
-use Rattle.worker_log.specs.Logs.{Log}
 
 -- a begin on a new line, where so many ends of the session wait that a sync is due, or not
 abbrev pub OnBegin : (own : ℕ) → (is_long : Bool) → Opening → List Done → Type 0

@@ -3,7 +3,6 @@ use Rattle.std.proofs.Common.{◌≡◌, ◌≤◌, ◌<◌, ◌+◌, ◌-◌, �
 use Rattle.image_model.specs.Laws.{EveryUndone}
 use Rattle.core_state.specs.Openings.{Opening}
 use Rattle.core_state.specs.States as core
-use Rattle.core_state.specs.States.{start}
 use Rattle.draw_trait.specs.declared.staged.Staged.{Staged}
 use Rattle.disk_runs.specs.Openings as runs
 use Rattle.disk_slots.specs.declared.master.Master.{Master}

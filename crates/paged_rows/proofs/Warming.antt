@@ -1,5 +1,5 @@
 -- A way that is brought into frames page by page.
-use Rattle.std.proofs.Common.{◌≡◌, ◌∙◌, ◌<◌, ◌≤◌, ◌+◌, ◌*◌, ◌-◌, ℕ, suc, Bool, true, false, List, [], ap, arith, refl, subst, sym, ◌&&◌, ◌==◌, leb, ltb}
+use Rattle.std.proofs.Common.{◌≡◌, ◌∙◌, ◌<◌, ◌≤◌, ◌-◌, ℕ, suc, Bool, true, false, List, [], ap, arith, refl, subst, sym, ◌&&◌, ◌==◌, leb, ltb}
 use Rattle.std.proofs.lemmas.Bool.{and_from, and_parts, eqb-true, le-leb, lt-ltb, or_cases}
 use Rattle.core_calls.specs.Warms.{EveryWarm, IsWarmFrom}
 use Rattle.core_state.specs.Openings.{Opening}
@@ -20,7 +20,6 @@ use Rattle.page_provider.specs.Moves.{Moved}
 use Rattle.page_provider.specs.Providers.{Provider}
 use Rattle.page_provider.specs.Sequels.{EverySequel}
 use Rattle.page_provider.specs.declared.refusal.Refusal.{Refusal}
-use Rattle.rows_trait.proofs.Runs.{ran_none}
 use Rattle.paged_rows.specs.Paged.{IsFedIfFaithful, IsFree, IsPaged}
 use Rattle.page_calls.specs.Mirrors.{Mirrors}
 use Rattle.page_provider.specs.Mirrored.{KeepsMirrored}
@@ -42,8 +41,8 @@ use Rattle.page_pool.specs.Full.{IsTaken}
 use Rattle.cold_pages.specs.Laws.{IsButEntries}
 use Rattle.page_provider.specs.Moves.{is_on, way}
 use Rattle.core_state.specs.States.{is_cold}
-use Rattle.std.proofs.Common.{◌++◌, ◌||◌, append-nil}
-use Rattle.std.proofs.Common.{Result, IfErr, IfOk, Ok, Err, Option, Some, None, ◌∷◌, inl, inr, length, zero}
+use Rattle.std.proofs.Common.{◌++◌, append-nil}
+use Rattle.std.proofs.Common.{Result, IfErr, IfOk, Ok, Err, Some, None, ◌∷◌, inl, inr, length, zero}
 use Rattle.std.specs.Prelude.{slice_index}
 use Rattle.std.proofs.lemmas.Bool.{cond-true, eq-eqb}
 use Rattle.lean_proto.specs.Paths.{above}
@@ -57,7 +56,7 @@ use Rattle.btree_descent.specs.declared.reach.Way.TheVariants.{Cold, Leaf}
 use Rattle.btree_descent.specs.Descents.{Sized}
 use Rattle.page_provider.specs.Descents.{EveryDescent}
 use Rattle.page_provider.specs.Ends.{HasRefused}
-use Rattle.page_provider.specs.Faults.{ColdCause, FaultCause, FullCause, HasPlaced, IsDescent, IsWanted, LeadsTo, LostCause}
+use Rattle.page_provider.specs.Faults.{ColdCause, FaultCause, HasPlaced, IsDescent, IsWanted, LeadsTo, LostCause}
 use Rattle.page_provider.specs.Providers.{Keeps}
 use Rattle.page_provider.specs.declared.refusal.Refusal.TheVariants as refusal
 

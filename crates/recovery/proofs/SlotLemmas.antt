@@ -1,13 +1,11 @@
 -- The slots that recovery gives, where the disk told of its pages.
-use Rattle.std.proofs.Common.{◌≡◌, ◌<◌, ◌≤◌, ℕ, Bool, false, List, length, get_or, Some, slice_get, IsTrue, refl, sym, ◌∙◌, ap, subst, arith}
-use Rattle.std.proofs.lemmas.Option.{slice_get-get_or}
+use Rattle.std.proofs.Common.{◌≡◌, ◌<◌, ◌≤◌, ℕ, false, List, length, get_or, Some, slice_get, IsTrue, refl, sym, ◌∙◌, ap, subst, arith}
 use Rattle.lean_disk.specs.Area.{Area, synced}
 use Rattle.lean_disk.specs.Moments.{Framed}
 use Rattle.lean_disk.specs.Story.{Story, Tells, areas_of}
 use Rattle.lean_disk.specs.declared.disk.Did.{Did}
 use Rattle.lean_disk.specs.declared.disk.Did.TheVariants.{Done}
-use Rattle.page_model.specs.Nodes.{free}
-use Rattle.page_model.specs.Page.{Page, new_page}
+use Rattle.page_model.specs.Page.{Page}
 use Rattle.disk_slots.specs.declared.master.Master.{Master}
 use Rattle.disk_image.specs.Shown.{page_slot_in}
 use Rattle.page_store.specs.Runs.{IsReady}

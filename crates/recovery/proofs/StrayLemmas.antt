@@ -1,5 +1,5 @@
 -- What stands in the slot that is not the base's: the base once more, or a stray version.
-use Rattle.std.proofs.Common.{◌≡◌, ◌⊎◌, ◌↔◌, ◌<◌, ◌≤◌, ◌+◌, ◌-◌, ℕ, suc, Bool, true, false, not, List, [], ◌∷◌, drop, get_or, Some, refl, sym, ◌∙◌, ap, subst, inl, inr, arith, true≢false}
+use Rattle.std.proofs.Common.{◌≡◌, ◌⊎◌, ◌↔◌, ◌<◌, ◌≤◌, ◌+◌, ◌-◌, ℕ, Bool, true, false, not, List, [], ◌∷◌, drop, get_or, refl, sym, ◌∙◌, ap, inl, inr, arith, true≢false}
 use mathlib.Core.Bool.{beq}
 use Rattle.std.proofs.lemmas.Bool.{cases_lt}
 use Rattle.std.proofs.lemmas.Option.{same_Some}
@@ -8,7 +8,7 @@ use Rattle.page_model.specs.Page.{Page}
 use Rattle.page_model.specs.Pairs.{Pair}
 use Rattle.btree_node.specs.Words.{flat}
 use Rattle.disk_slots.specs.declared.master.Master.{Master}
-use Rattle.disk_image.specs.Shown.{Areas, page_slot_in, slot_of}
+use Rattle.disk_image.specs.Shown.{Areas, slot_of}
 use Rattle.page_store.specs.Bases.{IsAhead, image_page}
 use Rattle.page_store.specs.Slots.{EverySeal, HasSeal, HoldsIn, slot_bytes}
 use Rattle.page_store.specs.declared.base.Base.{Base}

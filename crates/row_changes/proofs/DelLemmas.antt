@@ -15,7 +15,6 @@ use Rattle.row_words.specs.Openings.{opening}
 use Rattle.rows_trait.specs.Views.{Shape, after_all, state}
 use Rattle.rows_trait.specs.declared.view.View.{View}
 use Rattle.btree_descent.specs.Dels.{WasAbsent}
-use Rattle.key_locks.specs.declared.mode.Mode.{Mode}
 use Rattle.flush_avoidance.specs.Clocks.{risen}
 use Rattle.session_state.specs.Holds.{AreNumbers, Holds, IsOf, IsSameSession}
 use Rattle.lean_disk.specs.Story.{Story}
@@ -25,7 +24,6 @@ use Rattle.row_changes.specs.Ways.{IsLost}
 use Rattle.row_changes.specs.declared.ways.Unmade.{Unmade}
 use Rattle.row_changes.specs.declared.ways.Unmade.TheVariants as unmade
 use Rattle.session_state.specs.Staging.{IsButClock}
-use Rattle.row_changes.specs.Takes.{Takes}
 use Rattle.session_state.specs.declared.session.Session.{Session}
 use Rattle.session_state.proofs.HoldLemmas.{rows_on}
 use Rattle.session_state.proofs.Moments.{free_same}
@@ -36,10 +34,6 @@ use Rattle.row_changes.proofs.SeenLemmas.{seen_core}
 -- it stays the same by what it meets
 pub same_by_clock : (x y : Session) → IsButClock x y → IsSameSession x y
 same_by_clock x y e = (ap (λ (k : Session). k.own) e, ap (λ (k : Session). k.workers) e, ap (λ (k : Session). k.group) e)
-
--- and by the taking of a row
-pub same_by_row : (v w : View) (x y : Session) (row : ℕ) (mode : Mode) → Takes v w x y row mode → IsSameSession x y
-same_by_row v w x y row mode t = (ap (λ (k : Session). k.own) t.session, ap (λ (k : Session). k.workers) t.session, ap (λ (k : Session). k.group) t.session)
 
 pub same_then : (x y z : Session) → IsSameSession x y → IsSameSession y z → IsSameSession x z
 same_then x y z p q = (q.0 ∙ p.0, q.1 ∙ p.1, q.2 ∙ p.2)

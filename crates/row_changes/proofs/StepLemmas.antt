@@ -1,19 +1,10 @@
 -- What steps of a call that may be refused say of clocks and faults.
-use Rattle.std.proofs.Common.{◌≡◌, ◌≤◌, ◌<◌, ◌^◌, ℕ, Bool, true, false, cond, leb, List, [], Some, None, Result, Ok, Err, refl, sym, ap, ◌∙◌, subst, arith}
+use Rattle.std.proofs.Common.{◌≡◌, ◌≤◌, ◌<◌, ◌^◌, ℕ, Bool, true, false, cond, leb, Some, None, Result, Ok, Err, refl, sym, ◌∙◌, subst, arith}
 use Rattle.std.proofs.lemmas.Bool.{leb-false, leb-true}
 use Rattle.map_model.specs.declared.call.Refusal.{Refusal}
 use Rattle.map_model.specs.declared.call.Refusal.TheVariants as refusal
-use Rattle.lean_disk.specs.Story.{Story}
-use Rattle.rows_trait.specs.declared.view.View.{View}
-use Rattle.worker_log.specs.Logs.{Log}
 use Rattle.engine_trait.specs.Refusals.{clock_refusal}
-use Rattle.row_changes.specs.Outcomes.{Tries}
 use Rattle.lean_disk.specs.Faults.{HasCause}
-use Rattle.row_changes.specs.Puts.{works_after}
-use Rattle.row_changes.specs.Ways.{IsLost}
-use Rattle.row_changes.specs.declared.ways.Unmade.{Unmade}
-use Rattle.row_changes.specs.declared.ways.Unmade.TheVariants as unmade
-use Rattle.session_state.specs.declared.session.Session.{Session}
 
 -- ## What a test of the clock says
 
@@ -43,15 +34,6 @@ clock_at_end clock why e = go (leb (2 ^ 62) clock) refl e
 abbrev pub the_fault : (A : Type 0) → Result A Refusal
 the_fault A = Err refusal.DiskFault
 
-pub stopped_works : (A : Type 0) (clock : ℕ) (why : Refusal) → clock_refusal clock None ≡ Some why → works_after {A = A} (Err why) ≡ true
-stopped_works A clock why e = subst (λ k. works_after {A = A} (Err k) ≡ true) (sym (clock_at_end clock why e).is) refl
-
--- a try puts nothing back, so no entry is found lost
-pub none_lost_by_try : (k : Unmade) (v w : View) (key value : ℕ) (x y : Session) (was is : Log) (old new : Story) (path : List ℕ) (same broken : Type 0) → Tries (Err k) v w key value x y was is old new path same broken → IsLost k → ⊥
-none_lost_by_try unmade.Lost v w key value x y was is old new path same broken t lost = t
-none_lost_by_try (unmade.Cold cold) v w key value x y was is old new path same broken t lost = lost
-none_lost_by_try (unmade.Refused why) v w key value x y was is old new path same broken t lost = lost
-
 -- whoever is refused by it has met no fault
 pub not_fault : (A : Type 0) (clock : ℕ) (why : Refusal) → clock_refusal clock None ≡ Some why → (Err why ≡ the_fault A) → ⊥
 not_fault A clock why e = subst (λ k. (Err k ≡ the_fault A) → ⊥) (sym (clock_at_end clock why e).is) (λ p. absurd (cc))
@@ -66,23 +48,6 @@ cause_from a b c P Q same h back on = subst (λ n. HasCause n c Q) same (record 
 -- a refusal, as an answer
 abbrev pub refused_by : (A : Type 0) → Refusal → Result A Refusal
 refused_by A why = Err why
-
--- and as one of what goes to a leaf
-abbrev pub unmade_by : (A : Type 0) → Unmade → Result A Unmade
-unmade_by A k = Err k
-
--- one that is handed on tells of the same faults
-pub handed_on : (A B : Type 0) (a b : ℕ) (k : Unmade) (why : Refusal) → k ≡ unmade.Refused why → HasCause a b (unmade_by A k ≡ unmade_by A (unmade.Refused refusal.DiskFault)) → HasCause a b (refused_by B why ≡ refused_by B refusal.DiskFault)
-handed_on A B a b k why is_so h = cause_from a a b _ _ refl h (λ q. ap (unmade_by A) (is_so ∙ ap unmade.Refused (inner q))) (λ p. ap (refused_by B) (deeper (sym is_so ∙ outer p)))
-  where
-    inner : refused_by B why ≡ refused_by B refusal.DiskFault → why ≡ refusal.DiskFault
-    inner q = cc
-
-    outer : unmade_by A k ≡ unmade_by A (unmade.Refused refusal.DiskFault) → k ≡ unmade.Refused refusal.DiskFault
-    outer p = cc
-
-    deeper : unmade.Refused why ≡ unmade.Refused refusal.DiskFault → why ≡ refusal.DiskFault
-    deeper p = cc
 
 -- two calls without a fault are one
 pub calm_then : (a b c : ℕ) (P Q R : Type 0) → HasCause a b P → (P → ⊥) → HasCause b c Q → (Q → ⊥) → (R → ⊥) → HasCause a c R

@@ -3,8 +3,6 @@ use Rattle.std.proofs.Common.{◌≡◌, ◌⊎◌, inl, inr, ◌↔◌, ◌≤�
 use Rattle.std.proofs.lemmas.Bool.{cases_eq, ne_eqb}
 use Rattle.std.proofs.Math.Bridge.{le_prop}
 use Rattle.std.proofs.lemmas.List.{length-append}
-use Rattle.map_model.specs.declared.call.Refusal.{Refusal}
-use Rattle.map_model.specs.declared.call.Refusal.TheVariants as refusal
 use Rattle.map_model.specs.Lists.{Has, upd}
 use Rattle.map_model.proofs.ListLemmas.{has_cases, has_left, has_right}
 use Rattle.rfa_model.specs.Stamps.{is_remote, owed}
@@ -32,7 +30,7 @@ use Rattle.key_locks.specs.Locking as locking
 use Rattle.key_locks.specs.Rows.{IsRow, core_mode, event_mode}
 use Rattle.session_state.specs.Held.{Held, with_row}
 use Rattle.session_state.specs.Holds.{AreNumbers, AreRows, Holds, IsOf}
-use Rattle.row_changes.specs.Takes.{IsHindered, IsSpent, NotTaken, Takes}
+use Rattle.row_changes.specs.Takes.{IsHindered, IsSpent, Takes}
 use Rattle.session_state.specs.declared.session.Session.{Session}
 use Rattle.session_state.proofs.HoldLemmas.{rows_on}
 use Rattle.row_changes.proofs.ConflictLemmas.{blocking_hinders, lone_free}
@@ -360,17 +358,6 @@ hindered z v w x row mode b alone r = record {
 -- the one session that there is is number 1
 pub lone_own : (z : Shape) (v : View) (x : Session) (log : Log) → Holds z v x log → x.workers ≡ 1 → x.own ≡ 1
 lone_own z v x log h one = let a = h.rows.low in let b = h.rows.high in omega arith
-
--- and meets no other
-pub no_conflict : (z : Shape) (v w : View) (x : Session) (log : Log) → Holds z v x log → x.workers ≡ 1 → (row : ℕ) (mode : Mode) (b : ℕ) → IsHindered v w x.own row mode b → ⊥
-no_conflict z v w x log h one row mode b r =
-    lone_free ((state v).core.row row) x.own (core_mode mode) b (subst (λ n. IsRow n ((state v).core.row row)) (h.rows.workers ∙ one) (h.rows.locks_sound v.seen row)) (lone_own z v x log h one) r.hinders
-
--- so where a row was not taken, it is spent
-pub lone_spent : (z : Shape) (v w : View) (x : Session) (log : Log) → Holds z v x log → x.workers ≡ 1 → (row : ℕ) (mode : Mode) (why : Refusal) → NotTaken why v w x.own row mode → why ≡ refusal.RowSpent
-lone_spent z v w x log h one row mode refusal.RowSpent r = refl
-lone_spent z v w x log h one row mode (refusal.Conflict b) r = absurd (no_conflict z v w x log h one row mode b r)
-lone_spent z v w x log h one row mode _ r = absurd r
 
 -- ## A row that is held already
 

@@ -1,9 +1,9 @@
 -- A page of a key's way that is not hot.
-use Rattle.std.proofs.Common.{◌≡◌, ◌∙◌, ◌++◌, ◌&&◌, leb, ltb, ℕ, Bool, true, false, append-nil, refl, sym, ap, subst, arith, true≢false}
+use Rattle.std.proofs.Common.{◌≡◌, ◌∙◌, ◌&&◌, leb, ltb, ℕ, Bool, true, false, refl, sym, ap, subst, arith, true≢false}
 use Rattle.std.proofs.lemmas.Bool.{and_from, le-leb, lt-ltb}
 use Rattle.page_model.specs.Nodes.{Node, covers}
 use Rattle.page_model.proofs.Tree.{Lies, route_lies}
-use Rattle.core_state.specs.States.{is_hot, nodes_of}
+use Rattle.core_state.specs.States.{nodes_of}
 use Rattle.row_words.specs.declared.given.Given.{Given}
 use Rattle.row_words.specs.Moments.{Moment}
 use Rattle.row_words.specs.Openings.{opening}
@@ -15,7 +15,7 @@ use Rattle.btree_descent.specs.Known.{IsCold, Sound}
 use Rattle.session_state.specs.Holds.{Holds}
 use Rattle.session_state.specs.declared.session.Session.{Session}
 use Rattle.row_changes.proofs.SeenLemmas.{none_seen}
-use Rattle.row_changes.specs.Ways.{EveryWarmAtHome, HasMetCold, IsWarm}
+use Rattle.row_changes.specs.Ways.{HasMetCold, IsWarm}
 
 -- where the pages are a tree, a page that the way names covers the key
 cold_covers : (v : Given) (m : Moment) (key page : ℕ) → Sound v m → IsCold v m key page → covers (nodes_of m.core page) key ≡ true
@@ -41,6 +41,3 @@ warm_met z v w x log key page h warm m = true≢false (sym (warm page c.below (c
   where
     c : IsCold v.given (state v) key page
     c = subst (λ es. IsCold v.given (after_all v.given es) key page) m.seen (subst (λ (k : Given). IsCold k (after_all k w.seen) key page) m.given m.cold)
-
-pub warm_at_home : EveryWarmAtHome
-warm_at_home v home key p below covers level = ap is_hot (home.place p below)

@@ -5,7 +5,6 @@ use Rattle.row_words.specs.Openings.{opening}
 use Rattle.rows_trait.specs.declared.view.View.{View}
 use Rattle.rows_trait.specs.Views.{state}
 use Rattle.btree_descent.specs.Known.{IsCold}
-use Rattle.session_state.specs.Others.{AreHome}
 use Rattle.row_changes.specs.declared.ways.Unmade.{Unmade}
 use Rattle.row_changes.specs.declared.ways.Unmade.TheVariants as unmade
 
@@ -28,7 +27,3 @@ IsCut _ = ⊥
 abbrev pub IsLost : Unmade → Type 0
 IsLost unmade.Lost = Unit {0}
 IsLost _ = ⊥
-
--- where each page is hot in the frame of its own number, so is the way of each key
-abbrev pub EveryWarmAtHome : Type 0
-EveryWarmAtHome = (v : View) → AreHome v → (key : ℕ) → IsWarm v key

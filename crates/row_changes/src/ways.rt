@@ -1,6 +1,6 @@
 // What stops a descent to the leaf of a key.
 ghost use Rattle.std.specs.Prelude.{◌≡◌};
-ghost use Rattle.row_changes.specs.Ways.{EveryWarmAtHome, IsCut, IsLost};
+ghost use Rattle.row_changes.specs.Ways.{IsCut, IsLost};
 
 use map_model::Refusal;
 
@@ -34,8 +34,3 @@ pub fn refusal_of(unmade: Unmade) -> Refusal
         Unmade::Lost => unreachable!(),
     }
 }
-
-/// Where each page stands in the frame of its own number, each way is hot.
-pub fn every_warm_at_home()
-    ensures { EveryWarmAtHome }
-{}

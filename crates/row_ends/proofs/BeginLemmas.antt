@@ -1,5 +1,5 @@
 -- A begin.
-use Rattle.std.proofs.Common.{◌≡◌, ◌≢◌, ◌⊎◌, inl, inr, ◌↔◌, ◌≤◌, ◌<◌, ◌^◌, ◌+◌, ◌-◌, ℕ, zero, suc, min, Bool, true, false, cond, leb, ltb, List, [], ◌∷◌, ◌++◌, Some, None, refl, sym, ap, ◌∙◌, subst, arith, append-nil, true≢false, eq-eqb}
+use Rattle.std.proofs.Common.{◌≡◌, ◌≢◌, inl, inr, ◌↔◌, ◌≤◌, ◌<◌, ◌^◌, ◌+◌, ◌-◌, ℕ, zero, suc, min, Bool, true, false, cond, leb, ltb, List, [], ◌∷◌, ◌++◌, Some, None, refl, sym, ap, ◌∙◌, subst, arith, append-nil, true≢false, eq-eqb}
 use Rattle.std.proofs.lemmas.Bool.{and_from, cases_lt, le-leb, leb-false, lt-ltb}
 use Rattle.map_model.specs.declared.call.Call.TheVariants as call
 use Rattle.map_model.specs.declared.call.Refusal.{Refusal}
@@ -120,14 +120,6 @@ begin_told x log why works e = open_case x.is_open ((λ i. cond (sym works i) (c
     open_case : (b : Bool) → cond b (Some refusal.InTransaction) (log_refusal x.clock.clock log None) ≡ Some why → IsTold why
     open_case true r = subst IsTold (some_is _ why r) tt
     open_case false r = log_told x.clock.clock log why r
-
--- or there is no engine to ask
-pub begin_comes : (x : Session) (log : Log) (why : Refusal) → begin_test x log ≡ Some why → IsTold why ⊎ (why ≡ refusal.Broken)
-begin_comes x log why e = go x.works refl
-  where
-    go : (b : Bool) → x.works ≡ b → IsTold why ⊎ (why ≡ refusal.Broken)
-    go true w = inl (begin_told x log why w e)
-    go false w = inr (sym (some_is _ why ((λ i. cond (sym w i) (cond x.is_open (Some refusal.InTransaction) (log_refusal x.clock.clock log None)) (Some refusal.Broken)) ∙ e)))
 
 -- ## Words that are loaded
 

@@ -11,7 +11,6 @@ use Rattle.core_state.specs.Events as happening
 use Rattle.core_state.specs.States.{Row, State, Worker, flushed_by_all}
 use Rattle.core_state.specs.Needs.{holds_row, may}
 use Rattle.core_state.specs.Steps.{AllMet, end_entry, ends, finished, happens, run, step}
-use Rattle.core_calls.specs.Fronts.{Done}
 use Rattle.core_calls.specs.LogEvents as log_events
 use Rattle.engine_calls.specs.Commits.{unlocks}
 use Rattle.engine_calls.proofs.UnlockLemmas.{entries_same, flushed_same, if_met}
@@ -21,9 +20,7 @@ use Rattle.worker_log.specs.Logs.{Log}
 use Rattle.row_words.specs.declared.event.Event.{Event}
 use Rattle.row_words.specs.declared.event.Event.TheVariants.{End, Flush}
 use Rattle.row_words.specs.declared.given.Given.{Given}
-use Rattle.row_words.specs.Moments.{events_of}
 use Rattle.row_words.specs.Openings.{opening}
-use Rattle.row_opening.specs.Openings.{Opens}
 use Rattle.rows_trait.specs.declared.view.View.{View}
 use Rattle.rows_trait.specs.Views.{Shape, after_all, state}
 use Rattle.key_locks.specs.Latching.{is_marked}
@@ -32,7 +29,6 @@ use Rattle.row_ends.specs.Ends.{AreMine, Ended, Latched, Latching, MayEnd, MayFl
 use Rattle.row_ends.specs.Flushed.{Looked, flushed_to}
 use Rattle.session_state.specs.Holds.{Holds, IsOf}
 use Rattle.session_state.specs.Numbers.{HaveRoom}
-use Rattle.session_state.specs.Ties.{Ties}
 use Rattle.session_state.specs.Undo.{HasHand}
 use Rattle.session_state.specs.declared.session.Session.{Session}
 use Rattle.session_state.proofs.HoldLemmas.{rows_on}
@@ -49,18 +45,6 @@ over M a b xs ys p q m = subst (λ k. M k ys) p (subst (λ zs. M a zs) q m)
 
 pub same_state : (v w : View) → w.given ≡ v.given → w.seen ≡ v.seen → state w ≡ state v
 same_state v w given seen = λ i. after_all (given i) (seen i)
-
-pub ties_as : (g : Opening) (group : ℕ) (xs : List Done) (own : ℕ) {is_half_aborted : Bool} (v w : View) → w.given ≡ v.given → w.seen ≡ v.seen → Ties g group xs own is_half_aborted w → Ties g group xs own is_half_aborted v
-ties_as g group xs own v w given seen t = record {
-  opens = subst (λ k. Opens g k) given t.opens;
-  told = t.told;
-  half_is = t.half_is;
-  loads = t.loads;
-  are_loads = t.are_loads;
-  few = t.few;
-  met = t.met;
-  seen = (λ i. events_of (sym given i).before ++ events_of (sym seen i)) ∙ t.seen;
-}
 
 pub ended_as : (own most : ℕ) (commit : Bool) (b v w : View) (f : ℕ) → v.given ≡ b.given → v.seen ≡ b.seen → Ended own most v commit f w → Ended own most b commit f w
 ended_as own most commit b v w f given seen e = record {

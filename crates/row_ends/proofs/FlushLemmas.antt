@@ -1,5 +1,5 @@
 -- How far logs are flushed, and how many commits wait for a flush.
-use Rattle.std.proofs.Common.{◌≡◌, ◌⊎◌, inl, inr, ◌≤◌, ◌<◌, ◌-◌, ◌^◌, ℕ, zero, suc, min, true, ◌&&◌, ◌==◌, ltb, List, ◌∷◌, length, refl, ap, ◌∙◌, arith}
+use Rattle.std.proofs.Common.{◌≡◌, ◌⊎◌, inl, inr, ◌≤◌, ◌<◌, ◌^◌, ℕ, zero, suc, true, ◌&&◌, ◌==◌, ltb, List, ◌∷◌, length, refl, ap, arith}
 use Rattle.std.proofs.lemmas.Bool.{and_from, cases_eq, cases_lt, cond-true, eq-eqb, lt-ltb}
 use Rattle.map_model.specs.Lists.{keep}
 use Rattle.rfa_model.specs.Reaches.{least}
@@ -41,11 +41,6 @@ flushed_is s n some small = equal (flushed_to s n) (least s.flushed n)
   where
     equal : (a b : ℕ) → a ≤ b → b ≤ a → a ≡ b
     equal a b p q = omega arith
-
--- where the last log's number comes by itself
-pub flushed_least : (s : State) (n : ℕ) → 0 < n → ((u : ℕ) → 0 < u → u ≤ n → s.flushed u < 2 ^ 64) → min (flushed_to s (n - 1)) (s.flushed n) ≡ least s.flushed n
-flushed_least s zero some fits = absurd (omega arith)
-flushed_least s (suc n) some fits = ap (λ (m : ℕ). min (flushed_to s m) (s.flushed (suc n))) (omega arith) ∙ flushed_is s (suc n) some (let a = least_low s.flushed (suc n) 1 (omega arith) (omega arith) in let b = fits 1 (omega arith) (omega arith) in omega arith)
 
 pub flushed_all : (g : Opening) (s : State) → flushed_by_all g s < 2 ^ 64 → flushed_to s g.workers ≡ flushed_by_all g s
 flushed_all g s small = flushed_is s g.workers g.some_worker small

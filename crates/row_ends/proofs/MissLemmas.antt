@@ -1,5 +1,5 @@
 -- Lock rows before they are latched, and latches that are given back.
-use Rattle.std.proofs.Common.{◌≡◌, ◌↔◌, ◌≤◌, ◌^◌, ℕ, Bool, true, false, List, [], ◌++◌, length, replicate, refl, sym, ap, ◌∙◌, subst, arith, append-nil, length-append, true≢false}
+use Rattle.std.proofs.Common.{◌≡◌, ◌↔◌, ◌≤◌, ◌^◌, ℕ, Bool, true, false, List, [], ◌++◌, length, replicate, refl, sym, ap, ◌∙◌, subst, arith, length-append, true≢false}
 use Rattle.std.proofs.lemmas.List.{length-replicate}
 use Rattle.map_model.specs.Lists.{Has}
 use Rattle.core_state.specs.States.{State, flushed_by_all}
@@ -29,9 +29,6 @@ start_mine frames count marks hs m e = subst (λ ms. AreMine frames count ms hs)
 
 pub start_among : (count : ℕ) (marks : List Bool) (rows : List ℕ) → marks ≡ replicate count false → AreAmong marks rows
 start_among count marks rows m i on = absurd (replicated count i (subst (λ ms. is_marked ms i ≡ true) m on))
-
-pub no_miss : (most : ℕ) (v : View) → v.held ≡ [] → Missed most v v
-no_miss most v e = record { given = refl; misses = []; are_misses = tt; few = omega arith; seen = sym (append-nil v.seen); idle = e }
 
 pub missed_from : (most : ℕ) (u v w : View) → v.given ≡ u.given → v.seen ≡ u.seen → Missed most v w → Missed most u w
 missed_from most u v w given seen m = record { given = m.given ∙ given; misses = m.misses; are_misses = m.are_misses; few = m.few; seen = m.seen ∙ ap (λ ys. ys ++ m.misses) seen; idle = m.idle }

@@ -1,10 +1,9 @@
 -- Misses change nothing.
-use Rattle.std.proofs.Common.{◌≡◌, ◌∙◌, Bool, true, false, List, [], ◌∷◌, refl}
+use Rattle.std.proofs.Common.{◌≡◌, ◌∙◌, true, false, List, [], ◌∷◌, refl}
 use Rattle.map_model.specs.Lists.{all, any}
 use Rattle.core_state.specs.Openings.{Opening}
-use Rattle.core_state.specs.Events as happening
 use Rattle.core_state.specs.States.{State}
-use Rattle.core_state.specs.Steps.{AllMet, run}
+use Rattle.core_state.specs.Steps.{AllMet}
 use Rattle.core_calls.specs.LogEvents.{is_log}
 use Rattle.core_calls.specs.Steps.{is_step, is_structure}
 use Rattle.disk_runs.specs.Quiet.{is_quiet}
@@ -21,19 +20,10 @@ misses_core v k [] m = refl
 misses_core v k (Miss a ∷ es) m = misses_core v (sealed.stepped v k (Miss a)) es m ∙ met_core v k (Miss a) refl
 misses_core v k _ m = absurd m
 
-abbrev pub is_miss : happening.Event → Bool
-is_miss (happening.Event.Miss w) = true
-is_miss _ = false
-
 pub misses_met : (g : Opening) (s : State) (es : List Event) → AreMisses es → AllMet g s (events_of es)
 misses_met g s [] m = tt
 misses_met g s (Miss a ∷ es) m = (refl, misses_met g s es m)
 misses_met g s _ m = absurd m
-
-pub misses_run : (g : Opening) (s : State) (es : List Event) → AreMisses es → run g s (events_of es) ≡ s
-misses_run g s [] m = refl
-misses_run g s (Miss a ∷ es) m = misses_run g s es m
-misses_run g s _ m = absurd m
 
 pub misses_steps : (es : List Event) → AreMisses es → any is_step (events_of es) ≡ false
 misses_steps [] m = refl
@@ -54,8 +44,3 @@ pub misses_quiet : (es : List Event) → AreMisses es → all is_quiet (events_o
 misses_quiet [] m = refl
 misses_quiet (Miss a ∷ es) m = misses_quiet es m
 misses_quiet _ m = absurd m
-
-pub misses_are : (es : List Event) → AreMisses es → all is_miss (events_of es) ≡ true
-misses_are [] m = refl
-misses_are (Miss a ∷ es) m = misses_are es m
-misses_are (_ ∷ es) m = absurd m

@@ -1,19 +1,14 @@
 -- What an end tells.
-use Rattle.std.proofs.Common.{◌≡◌, ◌+◌, ℕ, Bool, true, List, Result, Ok, Err, sym, ◌∙◌}
-use Rattle.map_model.specs.declared.call.Refusal.{Refusal}
-use Rattle.rfa_model.specs.Reaches.{least}
+use Rattle.std.proofs.Common.{◌≡◌, ◌+◌, ℕ, Bool, true, List, sym, ◌∙◌}
 use Rattle.rfa_model.specs.Stamps.{need_of}
-use Rattle.row_words.specs.Openings.{opening}
 use Rattle.rows_trait.specs.Views.{Shape, state}
 use Rattle.rows_trait.specs.declared.view.View.{View}
 use Rattle.worker_log.specs.Logs.{Log}
 use Rattle.row_ends.specs.Ends.{Latched}
 use Rattle.row_ends.specs.Flushed.{flushed_to}
 use Rattle.row_ends.specs.Receipts.{IsEnded}
-use Rattle.row_ends.specs.declared.ending.Ended.{Ended}
 use Rattle.session_state.specs.declared.session.Session.{Session}
 use Rattle.row_ends.proofs.FinishLemmas.{floor_found}
-use Rattle.std.specs.Prelude.{IfOk}
 
 -- where the numbers up to which all logs are flushed were loaded
 pub receipt : (z : Shape) (v : View) (x y : Session) (log : Log) (marks : List Bool) → Latched z v x log marks → x.is_open ≡ true → (floor need : ℕ) → floor ≡ flushed_to (state v).core x.workers → need ≡ need_of x.clock.debt floor
@@ -23,8 +18,3 @@ receipt z v x y log marks l opened floor need loaded need_is txn end debt = reco
   at = sym end;
   need = need_is ∙ (λ i. need_of (sym debt i) (floor_found z v x log marks l opened floor loaded i));
 }
-
--- where as much is flushed as before
-pub receipt_from : (v u : View) (y : Session) (r : Result Ended Refusal) → u.given ≡ v.given → (state u).core.flushed ≡ (state v).core.flushed → IfOk r (IsEnded u y) → IfOk r (IsEnded v y)
-receipt_from v u y (Ok told) given flushed e = record { number = e.number; at = e.at; need = e.need ∙ (λ i. need_of y.clock.debt (least (flushed i) (opening (given i)).workers)) }
-receipt_from v u y (Err why) given flushed e = e

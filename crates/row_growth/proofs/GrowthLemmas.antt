@@ -1,5 +1,5 @@
 -- A change of the tree that was staged: what holds behind it, and what was done.
-use Rattle.std.proofs.Common.{◌≡◌, ◌↔◌, ◌≤◌, ◌<◌, ◌++◌, ◌&&◌, ◌==◌, ltb, ℕ, suc, Bool, true, false, cond, List, [], ◌∷◌, length, None, Ok, refl, sym, ap, ◌∙◌, subst, arith, true≢false, eq-eqb, append-nil}
+use Rattle.std.proofs.Common.{◌≡◌, ◌↔◌, ◌<◌, ◌++◌, ◌&&◌, ◌==◌, ltb, ℕ, suc, Bool, true, false, cond, List, [], ◌∷◌, length, None, Ok, refl, sym, ap, ◌∙◌, subst, arith, true≢false, eq-eqb, append-nil}
 use Rattle.map_model.specs.Lists.{Has, keep}
 use Rattle.map_model.proofs.ListLemmas.{upd_same}
 use Rattle.page_model.specs.Records as records

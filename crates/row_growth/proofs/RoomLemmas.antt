@@ -34,8 +34,7 @@ use Rattle.session_state.specs.Free.{first_of}
 use Rattle.session_state.specs.Holds.{Holds}
 use Rattle.row_changes.specs.Puts.{MayChange}
 use Rattle.row_changes.specs.Paths.{IsPathTo, IsUnfit, LeadsToFull}
-use Rattle.row_changes.specs.Ways.{IsWarm}
-use Rattle.row_growth.specs.Rooms.{CanGrow, Grew, IsGrown, IsNeeded, IsNoRoom, IsPlaced, IsSpentBehind, Made, Takes, TakesLift, TakesSplit, frame_among, next_of, page_of}
+use Rattle.row_growth.specs.Rooms.{CanGrow, Grew, IsGrown, IsNeeded, IsNoRoom, IsPlaced, IsSpentBehind, Takes, TakesLift, TakesSplit, frame_among, next_of, page_of}
 use Rattle.row_growth.specs.declared.room.Next.{Next}
 use Rattle.row_growth.specs.declared.room.Next.TheVariants as next
 use Rattle.row_growth.specs.declared.room.Growth.{Growth}
@@ -457,9 +456,3 @@ can_grow v x key placed (next.Split left q parent) page frame is p e t = record 
 -- else it is needed there
 pub is_needed : (v : View) (x : Session) (key : ℕ) (placed : Option Placed) (n : Next) (page : ℕ) → page ≡ page_of n → frame_among placed page ≡ None → Takes v x key n → IsNeeded v v x key placed page
 is_needed v x key placed n page is e t = record { given = refl; seen = refl; fits = takes_fits v x key n t; least = takes_least v x key n t ∙ ap Some (sym is); other = e }
-
--- a change that was refused
-pub made_grew : (key : ℕ) (placed : Option Placed) (v w : View) (x y : Session) (was is : Log) (old new : Story) (same broken : Type 0) (why : Refusal) → Made (Err why) key v w x y was is old new same broken → Grew (Err why) key placed v w x y was is old new same broken
-made_grew key placed v w x y was is old new same broken refusal.RowSpent t = t
-made_grew key placed v w x y was is old new same broken refusal.DiskFault t = t
-made_grew key placed v w x y was is old new same broken _ t = absurd t

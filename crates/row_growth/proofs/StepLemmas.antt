@@ -1,8 +1,8 @@
 -- One step of a put: a try, and a change of the tree where the leaf has no room.
-use Rattle.std.proofs.Common.{◌≡◌, ◌<◌, ◌%◌, ◌++◌, ◌==◌, ℕ, Bool, true, false, cond, List, [], ◌∷◌, length, Option, Some, None, Result, Ok, Err, refl, sym, ap, ◌∙◌, subst, arith, append-nil, eq-eqb}
+use Rattle.std.proofs.Common.{◌≡◌, ◌<◌, ◌%◌, ◌++◌, ℕ, true, List, [], ◌∷◌, length, Option, Some, None, Result, Ok, Err, refl, sym, ap, ◌∙◌, subst, arith, append-nil}
 use Rattle.map_model.specs.declared.call.Refusal.{Refusal}
 use Rattle.map_model.specs.declared.call.Refusal.TheVariants as refusal
-use Rattle.core_calls.specs.Room.{EveryRoom, room_takes}
+use Rattle.core_calls.specs.Room.{room_takes}
 use Rattle.core_state.specs.Needs.{is_held_by, may}
 use Rattle.row_words.specs.Moments.{event_of}
 use Rattle.core_state.specs.States.{State}
@@ -12,7 +12,7 @@ use Rattle.lean_disk.specs.Story.{Story}
 use Rattle.row_words.specs.declared.event.Event.{Event}
 use Rattle.row_words.specs.declared.given.Given.{Given}
 use Rattle.row_words.specs.Openings.{opening}
-use Rattle.rows_trait.specs.Views.{Shape, after_all, state}
+use Rattle.rows_trait.specs.Views.{after_all, state}
 use Rattle.rows_trait.specs.declared.view.View.{View}
 use Rattle.worker_log.specs.Logs.{Log}
 use Rattle.engine_trait.specs.Refusals.{clock_refusal, room_refusal}
@@ -22,30 +22,25 @@ use Rattle.row_growth.specs.Outcomes.{Crowded, Steps, Wants}
 use Rattle.row_changes.specs.Puts.{MayChange, works_behind}
 use Rattle.lean_disk.specs.Faults.{HasCause}
 use Rattle.row_changes.specs.Paths.{IsUnfit}
-use Rattle.row_growth.specs.Rooms.{Grew, IsGrown, IsNeeded, IsNoRoom, IsPlaced, IsSpentBehind, at_home, frame_among}
+use Rattle.row_growth.specs.Rooms.{Grew, IsGrown, IsNeeded, IsNoRoom, IsSpentBehind}
 use Rattle.row_growth.specs.declared.room.Growth.{Growth}
 use Rattle.row_growth.specs.declared.room.Growth.TheVariants as growth
 use Rattle.row_growth.specs.declared.room.Placed.{Placed}
-use Rattle.session_state.specs.Others.{AreHome}
-use Rattle.row_changes.specs.Ways.{IsLost, IsWarm}
+use Rattle.row_changes.specs.Ways.{IsWarm}
 use Rattle.row_changes.specs.declared.ways.Unmade.{Unmade}
 use Rattle.row_changes.specs.declared.ways.Unmade.TheVariants as unmade
 use Rattle.row_growth.specs.declared.steps.Stepped.{Stepped}
 use Rattle.row_growth.specs.declared.steps.Stepped.TheVariants as stepped
 use Rattle.row_changes.specs.declared.puts.Tried.{Tried}
 use Rattle.row_changes.specs.declared.puts.Tried.TheVariants as tried
-use Rattle.session_state.proofs.HomeLemmas.{home_on}
 use Rattle.session_state.specs.declared.session.Session.{Session}
 use Rattle.row_growth.proofs.GrowthLemmas.{growth_leaves}
 use Rattle.row_changes.proofs.StepLemmas.{cause_from, clock_at_end, clock_below}
 use Rattle.row_changes.proofs.SeenLemmas.{seen_core, still}
 use Rattle.session_state.proofs.UndoLemmas.{room_after}
 use Rattle.core_calls.specs.Warms.{IsWarmFrom}
-use Rattle.session_state.specs.Holds.{Holds}
-use Rattle.session_state.specs.Free.{first_of}
 use Rattle.session_state.specs.Undo.{HasHand}
 use Rattle.row_growth.proofs.RoomLemmas.{unfit_on}
-use Rattle.row_growth.proofs.ChangeLemmas.{page_free}
 
 -- ## A try
 
@@ -126,10 +121,6 @@ may_after key v w x y was is old new hand f c e = record {
   key_low = f.key_low;
 }
 
--- each page stands where it stood
-pub home_after : (key : ℕ) (v w : View) (x y : Session) (was is : Log) (old new : Story) → IsGrown key v w x y was is old new → AreHome v → AreHome w
-home_after key v w x y was is old new c = home_on v w c.given c.stays
-
 -- ## A step
 
 -- a try that found the leaf full
@@ -173,10 +164,6 @@ step_same refusal.ClockSpent placed at v w key value x y was is old new same so 
 step_same refusal.DiskFault placed at v w key value x y was is old new same so f t = t
 step_same _ placed at v w key value x y was is old new same so f t = absurd t
 
--- a step that was refused, as the put is
-pub step_handed : (k : Unmade) (why : Refusal) → k ≡ unmade.Refused why → (placed at : Option Placed) (v w : View) (key value : ℕ) (x y : Session) (was is : Log) (old new : Story) (same so : Type 0) → (same → so) → Steps (Err k) placed v w key value x y was is old new same → Steps (Err (unmade.Refused why)) at v w key value x y was is old new so
-step_handed k why is_so placed at v w key value x y was is old new same so f t = step_same why placed at v w key value x y was is old new same so f (subst (λ n. Steps (Err n) placed v w key value x y was is old new same) is_so t)
-
 -- ## What it tells of faults
 
 -- the answers of a put
@@ -219,31 +206,3 @@ stopped_calm clock why e = subst (λ k. put_refused k ≡ put_refused refusal.Di
 -- and the session works behind it
 pub stopped_goes : (clock : ℕ) (why : Refusal) → clock_refusal clock None ≡ Some why → works_behind (put_refused why) ≡ true
 stopped_goes clock why e = subst (λ k. works_behind (put_refused k) ≡ true) (sym (clock_at_end clock why e).is) refl
-
--- ## Where each page stands in the frame of its own number
-
--- no step finds an entry lost
-pub none_lost_by_step : (k : Unmade) (placed : Option Placed) (v w : View) (key value : ℕ) (x y : Session) (was is : Log) (old new : Story) (same : Type 0) → Steps (Err k) placed v w key value x y was is old new same → IsLost k → ⊥
-none_lost_by_step unmade.Lost placed v w key value x y was is old new same t lost = t
-none_lost_by_step (unmade.Cold cold) placed v w key value x y was is old new same t lost = lost
-none_lost_by_step (unmade.Refused why) placed v w key value x y was is old new same t lost = lost
-
--- the least free page stands so
-pub least_placed : (rooms : EveryRoom) (z : Shape) (v : View) (x : Session) (log : Log) → Holds z v x log → AreHome v → (key : ℕ) (least : Option ℕ) → first_of x.free ≡ least → IsPlaced v (at_home least)
-least_placed rooms z v x log h home key None e = tt
-least_placed rooms z v x log h home key (Some page) e = home.place page (page_free rooms z v x log h key page e).0
-
--- so no other one is needed
-pub none_needed : (v w : View) (x : Session) (key page : ℕ) → IsNeeded v w x key (at_home (first_of x.free)) page → ⊥
-none_needed v w x key page t = go (first_of x.free) t.least t.other
-  where
-    some_is : (a b : ℕ) → Some a ≡ Some b → a ≡ b
-    some_is a b e = cc
-
-    here : (p : ℕ) (b : Bool) → b ≡ true → cond b (Some p) None ≡ None → ⊥
-    here p true q o = absurd (cc)
-    here p false q o = absurd (cc)
-
-    go : (least : Option ℕ) → least ≡ Some page → frame_among (at_home least) page ≡ None → ⊥
-    go None e o = absurd (cc)
-    go (Some p) e o = here p (p == page) (eq-eqb p page (some_is p page e)) o

@@ -1,5 +1,5 @@
 -- What a put does behind the taking of its row, step by step, by answer.
-use Rattle.std.specs.Prelude.{◌≡◌, ◌≤◌, ◌<◌, ◌^◌, ℕ, Option, None, Some, Result, Ok, Err}
+use Rattle.std.specs.Prelude.{◌≡◌, ◌≤◌, ◌<◌, ◌^◌, ℕ, Option, Some, Result, Ok, Err}
 use Rattle.map_model.specs.declared.call.Refusal.{Refusal}
 use Rattle.map_model.specs.declared.call.Refusal.TheVariants as refusal
 use Rattle.lean_disk.specs.Story.{Story}
@@ -19,8 +19,6 @@ use Rattle.row_growth.specs.Rooms.{IsGrown, IsNeeded, IsSpentBehind}
 use Rattle.row_growth.specs.declared.room.Placed.{Placed}
 use Rattle.row_growth.specs.declared.steps.Stepped.{Stepped}
 use Rattle.row_growth.specs.declared.steps.Stepped.TheVariants as stepped
-
--- ## One step
 
 -- nothing was seen; the leaf is full, and there can be no room
 pub record Crowded (key : ℕ) (why : Refusal) (v w : View) (clock : ℕ) : Type 0 where
@@ -53,24 +51,3 @@ Steps (Err (unmade.Refused refusal.ClockSpent)) placed v w key value x y was is 
 Steps (Err (unmade.Refused refusal.RowSpent)) placed v w key value x y was is old new same = IsSpentBehind v w × same
 Steps (Err (unmade.Refused refusal.DiskFault)) placed v w key value x y was is old new same = KeepsLog x.own was old new
 Steps (Err why) placed v w key value x y was is old new same = ⊥
-
--- ## All of it, where each page stands in the frame of its own number
-
--- from the first view to the last room was made for the key by changes of the tree, one behind the other
-pub data AreGrown {D : Type 0} (story : D → Story) (key : ℕ) (v : View) (x : Session) (was : Log) (old : D) : View → Session → Log → D → Type 0 where
-  Unchanged : AreGrown story key v x was old v x was old
-  Further : (u w : View) (y z : Session) (mid is : Log) (s new : D) → AreGrown story key v x was old u y mid s → IsGrown key u w y z mid is (story s) (story new) → AreGrown story key v x was old w z is new
-
--- the last step of a put with this answer
-abbrev pub step_of : Result (Option ℕ) Refusal → Result Stepped Unmade
-step_of (Ok before) = Ok (stepped.Done before)
-step_of (Err why) = Err (unmade.Refused why)
-
--- room was made, and then the last step came out so
-pub record Puts {D : Type 0} (story : D → Story) (r : Result (Option ℕ) Refusal) (v w : View) (key value : ℕ) (x y : Session) (was is : Log) (old new : D) : Type 0 where
-  pub view : View
-  pub session : Session
-  pub log : Log
-  pub disk : D
-  pub grown : AreGrown story key v x was old view session log disk
-  pub last : Steps (step_of r) None view w key value session y log is (story disk) (story new) ((y ≡ session) × (is ≡ log) × (new ≡ disk))

@@ -51,11 +51,6 @@ abbrev pub frame_among : Option Placed → (page : ℕ) → Option ℕ
 frame_among None page = None
 frame_among (Some p) page = if p.page == page then Some p.frame else None
 
--- the least free page, where each page stands in the frame of its own number
-abbrev pub at_home : Option ℕ → Option Placed
-at_home None = None
-at_home (Some p) = Some (record { page = p; frame = p })
-
 -- ## One change
 
 -- it changes the tree, by session `own`

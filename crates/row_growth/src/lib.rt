@@ -4,10 +4,8 @@
 //! Each step says which event it was, by its answer, and keeps what session_state's `Holds` says. Read specs/Rooms, then Outcomes.
 #![tactic(auto)]
 
-mod held;
 mod room;
 mod steps;
 
-pub use held::put_held;
 pub use room::{Growth, Placed, make_room};
 pub use steps::{Stepped, put_step};

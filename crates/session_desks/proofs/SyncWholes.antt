@@ -11,7 +11,6 @@ use Rattle.core_calls.specs.Fronts.{Done, front}
 use Rattle.core_commit.proofs.Lists.{le_least}
 use Rattle.core_disk.specs.Versions.{EveryVersion}
 use Rattle.disk_image.specs.Laws.{EverySealed}
-use Rattle.disk_slots.specs.declared.master.Master.{Master}
 use Rattle.disk_runs.specs.MasterLaws.{IsAllSynced, raised}
 use Rattle.disk_runs.specs.Masters.{IsNoEarlier}
 use Rattle.disk_runs.specs.Stands.{Known}
@@ -37,22 +36,6 @@ use Rattle.session_desks.proofs.SyncViews.{core_is, events_more, front_is, logs_
 -- the master that is in memory stands there alone too
 at_memory : (many : ℕ) (v : View) (was : Memory) (g : Opening) (xs : List Done) (first : List happening.Event) (s0 : Crash) (a : Known) (s : Story) → IsAt many v was g xs first s0 a s → IsAt many v (memory_with was.log was.master) g xs first s0 a s
 at_memory many v was g xs first s0 a s at = record { many_is = at.many_is; behind = at.behind; stands = at.stands; is_of = record { log = at.is_of.log; master = at.is_of.master } }
-
--- where the logs behind it are the same
-pub sync_as : (many n : ℕ) (v w : View) (was is other : Memory) (old new : Story) → SyncGoes many n v w was is old new → ((u : ℕ) → 0 < u → u ≤ many → other.log u ≡ is.log u) → is.master ≡ other.master → SyncGoes many n v w was other old new
-sync_as many n v w was is other old new m logs master = record {
-  events = m.events;
-  given = m.given;
-  seen = m.seen;
-  are = m.are;
-  few = m.few;
-  behind = m.behind;
-  logs = λ u some high g s. subst (λ (l : Log). Logs u g s (events_of m.events) (was.log u) l) (sym (logs u some high)) (m.logs u some high g s);
-  after = λ u some high. logs u some high ∙ m.after u some high;
-  no_earlier = subst (λ (k : Master). IsNoEarlier (events_of m.events) was.master k) master m.no_earlier;
-  around = m.around;
-  goes = λ g xs first s0 a at. goes_as g xs first (events_of m.events) s0 a is other old new (m.goes g xs first s0 a at) (λ u some high. sym (logs u some (subst (λ k. u ≤ k) at.many_is high))) master;
-}
 
 -- it failed at a flush
 pub flush_fails : (many : ℕ) (v : View) (was : Memory) (old new : Story) → FlushFails many v was.log old new → SyncFails many v was old new

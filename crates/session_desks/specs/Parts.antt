@@ -6,12 +6,11 @@ use Rattle.rows_trait.specs.Plain.{sizes}
 use Rattle.rows_trait.specs.Rule.{IsPicture, plan}
 use Rattle.rows_trait.specs.Views.{Shape, state}
 use Rattle.worker_log.specs.Logs.{Log}
-use Rattle.session_state.specs.Holds.{Holds}
 use Rattle.session_state.specs.Opened.{plain_shape}
 use Rattle.session_state.specs.declared.work.Work.{Work}
 use Rattle.session_desks.specs.Desks.{AreSeated, Turned, log_of}
 use Rattle.session_desks.specs.Runs.{memory_with}
-use Rattle.session_desks.specs.Syncs.{AllFlushed, AreRaisedTo, AreStill, AreSynced, AreWhole, FlushFails, Flushed, FlushedOne, MayFlushEach, SyncFails, SyncMade}
+use Rattle.session_desks.specs.Syncs.{AllFlushed, AreRaisedTo, AreStill, AreSynced, FlushFails, Flushed, FlushedOne, MayFlushEach, SyncFails, SyncMade}
 use Rattle.session_desks.specs.Machines.{AreLogged, IsMachine}
 use Rattle.session_desks.specs.declared.desk.Desk.{Desk}
 use Rattle.session_desks.specs.declared.machine.Machine.{Machine}
@@ -47,10 +46,6 @@ Works m = m.work.session.works ≡ true
 abbrev pub SeatFits : {D : Type 0} → Machine D → Type 0
 SeatFits m = IsPicture (plan (sizes m.rows.frames m.rows.locks m.rows.workers) m.seat.view.given) m.rows.words.items m.seat.view
 
--- the session in the store is as between two calls
-abbrev pub IsBetween : {D : Type 0} → Machine D → Type 0
-IsBetween m = Holds (shape m) m.seat.view m.work.session m.work.log
-
 -- there is a desk for each session
 abbrev pub IsSeated : {D : Type 0} → Machine D → Type 0
 IsSeated m = AreSeated (here m) m.desks.items
@@ -62,10 +57,6 @@ IsSound m = IsMachine m.rows.frames m.rows.locks m.rows.workers m.rows.words.ite
 -- its logs have the records that the seat has seen
 abbrev pub HasLogs : {D : Type 0} → Machine D → Type 0
 HasLogs m = AreLogged (state m.seat.view).core (logs m) m.work.session.workers
-
--- no abort is half done
-abbrev pub NoneIsHalf : {D : Type 0} → Machine D → Type 0
-NoneIsHalf m = AreWhole m.work.session.workers (here m) m.desks.items
 
 -- each session may be flushed
 abbrev pub MaySync : {D : Type 0} → Machine D → Type 0

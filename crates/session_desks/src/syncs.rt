@@ -1,6 +1,6 @@
 // A sync of all logs.
 ghost use Rattle.std.specs.Prelude.{◌≡◌, ◌↔◌, ◌≤◌, ◌<◌, ◌+◌, ◌^◌, ℕ, max, IsErr, IsOk, IfOk, OnOk, get_or, length, true, false};
-ghost use Rattle.map_model.specs.Lists.{all, any};
+ghost use Rattle.map_model.specs.Lists.{all};
 ghost use Rattle.lean_disk.specs.Faults.{HasCause};
 ghost use Rattle.log_calls.specs.Syncs.{SyncsOn};
 ghost use Rattle.log_calls.specs.Wholes.{EndsInRecord};
@@ -10,7 +10,7 @@ ghost use Rattle.session_state.specs.Syncs.{HasNoneBehind, HasSynced, MayFlush, 
 ghost use Rattle.rows_trait.specs.Views.{state};
 ghost use Rattle.session_desks.specs.Desks.{desk_of};
 ghost use Rattle.session_desks.specs.Parts.{AreAsMany, FailsToFlush, FailsToSync, FlushesAll, FlushesOne, HasLogs, IsFlushed, IsRaised, IsSound, IsStill, IsSynced, MakesSync, MaySync, SeatFits, Works, here, logs};
-ghost use Rattle.session_desks.specs.Syncs.{AreRaised, HasOpening, IsWriting, IsWritten, all_end_at, all_find_room, ends_at, finds_room_desk, greatest, has_half, is_half_desk, next_with};
+ghost use Rattle.session_desks.specs.Syncs.{AreRaised, HasOpening, IsWriting, IsWritten, all_end_at, all_find_room, ends_at, finds_room_desk, greatest, next_with};
 
 use crate::desk::Desk;
 use crate::grounds::laws;
@@ -130,18 +130,6 @@ fn raise_desks(desks: &mut Vec<Desk>, number: u64)
         let desk = &mut desks[at];
         raise(&mut desk.session, &mut desk.log, number);
     }
-}
-
-// Whether an abort is half done of one of the sessions at these desks.
-fn some_half(desks: &[Desk]) -> bool
-    ensures { result ≡ any is_half_desk desks.now }
-{
-    for desk in desks {
-        if desk.session.is_half_aborted {
-            return true;
-        }
-    }
-    false
 }
 
 // Whether each session at these desks may be flushed.
@@ -281,12 +269,5 @@ impl<D: Stages> Machine<D> {
         ensures { result ≡ all_find_room (here self.now) self.now.desks.items }
     {
         may_flush(&self.work.session, &self.work.log) && desks_may_flush(&self.desks)
-    }
-
-    /// Whether an abort of some session is half done.
-    pub fn any_half(&self) -> bool
-        ensures { result ≡ has_half (here self.now) self.now.desks.items }
-    {
-        self.work.session.is_half_aborted || some_half(&self.desks)
     }
 }

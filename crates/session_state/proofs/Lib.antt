@@ -6,10 +6,8 @@ pub mod ReserveLemmas
 pub mod WaitLemmas
 pub mod HoldLemmas
 pub mod OtherLemmas
-pub mod HomeLemmas
 pub mod HeldLemmas
 pub mod FreeLemmas
 pub mod StageLemmas
 pub mod SyncLemmas
-pub mod OpenLemmas
 pub mod OpeningLemmas

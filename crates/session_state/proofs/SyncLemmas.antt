@@ -1,5 +1,5 @@
 -- A flush of a session's log whole, and a sync: what is so behind them, in memory.
-use Rattle.std.proofs.Common.{◌≡◌, ◌≤◌, ◌<◌, ◌+◌, ◌*◌, ◌^◌, ◌==◌, ◌&&◌, ◌||◌, ◌++◌, ℕ, zero, suc, Bool, true, false, cond, leb, max, not, [], ◌∷◌, length, inl, inr, refl, sym, ap, ◌∙◌, subst, arith, append-nil, ◌↔◌}
+use Rattle.std.proofs.Common.{◌≡◌, ◌≤◌, ◌<◌, ◌+◌, ◌*◌, ◌^◌, ◌==◌, ◌&&◌, ◌++◌, ℕ, zero, suc, Bool, true, false, cond, leb, max, not, [], ◌∷◌, length, inl, inr, refl, sym, ap, ◌∙◌, subst, arith, append-nil, ◌↔◌}
 use Rattle.std.proofs.lemmas.Bool.{and_from, and_parts, cases_lt, cond-false, cond-true, eq-eqb, eqb-true, le-leb, leb-true, ne_eqb, or_cases, or_left, or_right}
 use Rattle.map_model.specs.Lists.{Has}
 use Rattle.map_model.proofs.ListLemmas.{has_any, upd_same}
@@ -15,7 +15,7 @@ use Rattle.core_calls.specs.LogEvents as log_events
 use Rattle.lean_disk.specs.Story.{Story}
 use Rattle.log_calls.specs.Wholes.{EndsInRecord, FlushesWhole, flush_of}
 use Rattle.worker_log.specs.Calls.{flushed_log}
-use Rattle.worker_log.specs.Logs.{Log, used}
+use Rattle.worker_log.specs.Logs.{Log}
 use Rattle.row_words.specs.declared.event.Event.TheVariants.{Flush, Sync}
 use Rattle.core_commit.proofs.Controls.{le_most}
 use Rattle.row_words.specs.Moments.{events_of}

@@ -111,14 +111,6 @@ flush_fills log = go (log.count == 0)
     go true = omega arith
     go false = omega arith
 
--- behind it the blocks that are used are filled, and no more
-pub flush_filled : (log : Log) → log.head ≤ log.next → filled (flushed_log log) ≡ 1900 * used log
-flush_filled log order = go (log.count == 0)
-  where
-    go : (b : Bool) → 1900 * ((log.next + cond b 0 1) - log.head) + 0 ≡ 1900 * ((log.next - log.head) + cond b 0 1)
-    go true = omega arith
-    go false = omega arith
-
 -- a second one closes none
 pub flush_again : (log : Log) → filled (flushed_log (flushed_log log)) ≤ filled (flushed_log log)
 flush_again log = omega arith
@@ -197,10 +189,6 @@ room_to_stage log many free few = omega arith
 -- one fewer behind each
 pub room_after : (r : Record) (old new : Log) (many : ℕ) → length (records_text (r ∷ [])) ≤ 1031 → After r old new → HasHand old → HasRoomToStage old (suc many) → HasRoomToStage new many
 room_after r old new many short a hand room = let u = uses r old new short a hand in let b = u.blocks in let c = u.rises in omega arith
-
--- as many behind a flush
-pub room_flushed : (log : Log) (many : ℕ) → HasRoomToStage log many → HasRoomToStage (flushed_log log) many
-room_flushed log many room = let a = flush_used log in omega arith
 
 -- there is a block for an end
 pub room_to_end : (log : Log) (many : ℕ) → HasRoomToStage log many → used log + 1 ≤ log.blocks

@@ -1,7 +1,6 @@
 -- Several sessions on the same rows: what one has in memory lasts while a call of another goes on.
-use Rattle.std.specs.Prelude.{◌≡◌, ◌<◌, ℕ, Bool, true, false, ◌==◌, List, ◌++◌}
+use Rattle.std.specs.Prelude.{◌≡◌, ℕ, Bool, true, false, ◌==◌, List, ◌++◌}
 use Rattle.map_model.specs.Lists.{all}
-use Rattle.core_state.specs.States.{Place}
 use Rattle.core_state.specs.Steps.{AllMet}
 use Rattle.row_words.specs.declared.event.Event.{Event}
 use Rattle.row_words.specs.declared.event.Event.TheVariants as told
@@ -45,14 +44,3 @@ EverySteps = (own : ℕ) (v u w : View) → Steps own v u → Steps own u w → 
 abbrev pub EveryOther : Type 0
 EveryOther = (z : Shape) (v w : View) (x y : Session) (log log_of_y : Log) → Holds z v x log → Holds z w y log_of_y → (x.own ≡ y.own → ⊥) → x.workers ≡ y.workers → x.frames ≡ y.frames → x.held.count ≡ y.held.count
     → Steps y.own v w → Holds z w (record x { free = y.free }) log
-
--- ## Pages that stay in memory
-
--- Each page, also a free one, is hot in the frame of its own number, and the rows began faithful: a page that never leaves memory is never read again.
-pub record AreHome (v : View) : Type 0 where
-  pub faithful : v.given.faithful ≡ true
-  pub place : (p : ℕ) → p < (opening v.given).format.pages → (state v).core.place p ≡ Place.Hot p
-
--- so it is behind a session's steps: none of them moves a page
-abbrev pub EveryHome : Type 0
-EveryHome = (own : ℕ) (v w : View) → Steps own v w → AreHome v → AreHome w

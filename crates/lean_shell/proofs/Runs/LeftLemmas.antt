@@ -17,11 +17,10 @@ use Rattle.map_model.specs.Pairings.{EachGoesOn, EachIsAnswered, answers_in, cou
 use Rattle.map_model.specs.Transcripts as model
 use Rattle.map_model.specs.Transcripts.{Line, Told, journal, lines_in, lines_of, told_onto, txn_of}
 use Rattle.image_model.specs.Ends.{reach, wins}
-use Rattle.image_model.specs.Entries.{Contents, Entry, is_commit, is_record}
+use Rattle.image_model.specs.Entries.{Entry, is_commit, is_record}
 use Rattle.image_model.specs.Fair.{IsFair}
 use Rattle.image_model.specs.Images.{Image, found, map_of, page_or, won_by}
 use Rattle.image_model.specs.Slots.{base_of}
-use Rattle.lean_disk.specs.Area.{Leaves}
 use Rattle.lean_disk.specs.Story.{Crash, Story, areas_of}
 use Rattle.disk_slots.specs.declared.master.Master.{Master}
 use Rattle.disk_slots.specs.Slots as slots

@@ -1,14 +1,13 @@
 -- No number of a disk that a run leaves is far above those on entry.
-use Rattle.std.proofs.Common.{◌≡◌, ◌⊎◌, inl, inr, ⊎_elim, ◌≤◌, ◌<◌, ◌++◌, ℕ, suc, List, [], ◌∷◌, length, Some, refl, sym, ◌∙◌, ap, subst, arith}
+use Rattle.std.proofs.Common.{◌≡◌, ◌⊎◌, inl, inr, ⊎_elim, ◌≤◌, ◌<◌, ◌++◌, ℕ, suc, List, [], ◌∷◌, length, refl, sym, ◌∙◌, ap, subst, arith}
 use Rattle.std.proofs.lemmas.List.{length-append}
-use Rattle.map_model.proofs.ListLemmas.{has_right, keep_has, order_has}
+use Rattle.map_model.proofs.ListLemmas.{order_has}
 use Rattle.map_model.specs.Lists.{Has}
 use Rattle.image_model.specs.Entries.{Entry, earlier}
 use Rattle.image_model.specs.Images.{Image, bases, found, gathered, page_or, sorted}
 use Rattle.lean_disk.specs.Story.{Crash, Story, areas_of}
 use Rattle.disk_slots.specs.declared.master.Master.{Master}
 use Rattle.disk_image.specs.Laws.{Agree}
-use Rattle.disk_image.specs.MasterSlots.{master_on}
 use Rattle.disk_image.specs.Shown.{image_by}
 use Rattle.recovery.specs.Crashes.{ShowsRecovered, ShowsStill}
 use Rattle.recovery.specs.Masters.{IsSameOrNext}

@@ -1,15 +1,12 @@
 -- Where a run begins, from what the engine says of the opening.
 use Rattle.std.proofs.Common.{◌≡◌, ◌<◌, ◌≤◌, ℕ, Some, refl, sym, ◌∙◌, ap, subst, arith}
-use Rattle.image_model.specs.Entries.{Contents}
-use Rattle.image_model.specs.Slots.{base_of}
 use Rattle.lean_disk.specs.Story.{Story, areas_of}
 use Rattle.disk_slots.specs.declared.master.Master.{Master}
 use Rattle.disk_image.specs.MasterSlots.{master_on}
-use Rattle.disk_image.specs.Shown.{image_by, shown_by, IsCleanDisk}
+use Rattle.disk_image.specs.Shown.{image_by, IsCleanDisk}
 use Rattle.recovery.specs.Masters.{next_master}
-use Rattle.recovery.specs.Opened.{IsGreatest, IsOpened, IsRecovered}
+use Rattle.recovery.specs.Opened.{IsGreatest, IsRecovered}
 use Rattle.recovery.specs.Telling.{TellsAll}
-use Rattle.core_state.specs.Openings.{start_page}
 use Rattle.run_opening.specs.Starts.{empty_log}
 use Rattle.paged_engine.specs.Openings as engine
 use Rattle.paged_engine.specs.Openings.{BeginsOn}

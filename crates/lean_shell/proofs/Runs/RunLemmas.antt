@@ -1,5 +1,5 @@
 -- A script that was executed on a disk that was opened.
-use Rattle.std.proofs.Common.{◌≡◌, inl, inr, ⊎_elim, ◌≤◌, ◌<◌, ◌+◌, ◌-◌, ◌^◌, ◌++◌, ℕ, suc, List, [], ◌∷◌, length, drop, min, true, Option, Some, IsTrue, refl, sym, ◌∙◌, ap, subst, arith}
+use Rattle.std.proofs.Common.{◌≡◌, inr, ⊎_elim, ◌≤◌, ◌<◌, ◌+◌, ◌-◌, ◌^◌, ◌++◌, ℕ, suc, List, [], ◌∷◌, length, drop, min, true, Option, Some, IsTrue, refl, sym, ◌∙◌, ap, subst, arith}
 use Rattle.std.proofs.lemmas.List.{append-nil, length-append}
 use mathlib.Core.List.{append_assoc}
 use mathlib.Core.Path.{fun_ext}
@@ -12,7 +12,7 @@ use Rattle.map_model.specs.Outputs.{Reply, answers_told}
 use Rattle.map_model.specs.Pairings.{answers_in, counted, in_turn, script_of}
 use Rattle.map_model.specs.Transcripts as model
 use Rattle.image_model.specs.Images.{map_of}
-use Rattle.lean_disk.specs.Area.{Area, Leaves}
+use Rattle.lean_disk.specs.Area.{Area}
 use Rattle.lean_disk.specs.Calls.{Noted}
 use Rattle.lean_disk.specs.Faults.{HasCause}
 use Rattle.lean_disk.specs.Moments.{LeavesOnly}

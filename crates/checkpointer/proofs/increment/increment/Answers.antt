@@ -1,6 +1,5 @@
-use Rattle.std.proofs.Common.{◌≡◌, ◌∙◌, refl, subst}
+use Rattle.std.proofs.Common.{◌∙◌, refl, subst}
 use Rattle.core_state.specs.Openings.{Opening}
-use Rattle.checkpointer.specs.Inside.{Going}
 use Rattle.checkpointer.specs.Savers.{KeepsRun, Settles}
 use Rattle.checkpointer.proofs.GoingLemmas.{fails_looked, going_looked, incremented, settle_fails}
 use Rattle.checkpointer.proofs.increment.increment.Goals as goal

@@ -1,4 +1,4 @@
-use Rattle.std.proofs.Common.{◌≡◌, ◌∙◌, Option, Result, Err, ℕ, ap, refl, sym, subst}
+use Rattle.std.proofs.Common.{◌∙◌, Option, Err, ℕ, refl, sym, subst}
 use Rattle.map_model.specs.declared.call.Refusal.{Refusal}
 use Rattle.paged_desks.specs.declared.warming.Unwarmed.TheVariants as stopped
 use Rattle.row_changes.proofs.StepLemmas.{clock_at_end, clock_below, not_fault}

@@ -1,4 +1,4 @@
-use Rattle.std.proofs.Common.{◌≡◌, Option, Result, Err, ℕ, sym, subst}
+use Rattle.std.proofs.Common.{◌≡◌, Err, subst}
 use Rattle.row_changes.proofs.DelLemmas.{none_lost_by_del}
 use Rattle.row_changes.specs.Dels.{Dels}
 use Rattle.row_changes.specs.declared.ways.Unmade.{Unmade}

@@ -1,4 +1,4 @@
-use Rattle.std.proofs.Common.{◌≡◌, ◌∙◌, Option, Result, Err, ℕ, ap, refl, sym, subst}
+use Rattle.std.proofs.Common.{◌∙◌, Option, ℕ, ap, refl, sym, subst}
 use Rattle.row_changes.proofs.DelLemmas.{none_lost_by_del}
 use Rattle.row_changes.specs.Ways.{IsLost}
 use Rattle.paged_calls.proofs.ChangeWarms.{cause_try, dels_err, dels_ok, dels_on, may_same, met_cold, refused_works}

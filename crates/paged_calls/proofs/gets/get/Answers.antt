@@ -1,4 +1,4 @@
-use Rattle.std.proofs.Common.{◌∙◌, inl, inr, Option, ℕ, refl, sym, subst, true, false, true≢false}
+use Rattle.std.proofs.Common.{◌∙◌, inl, inr, Option, ℕ, refl, sym, subst, true≢false}
 use Rattle.map_model.specs.declared.call.Answer.TheVariants as answer
 use Rattle.map_model.specs.declared.call.Call.TheVariants as call
 use Rattle.map_model.specs.declared.call.Refusal.{Refusal}

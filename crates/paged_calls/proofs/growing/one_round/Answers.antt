@@ -1,5 +1,4 @@
-use Rattle.std.proofs.Common.{◌≡◌, ◌∙◌, Option, Result, Ok, Err, None, ℕ, ap, refl, sym, subst, arith}
-use Rattle.row_growth.specs.declared.room.Placed.{Placed}
+use Rattle.std.proofs.Common.{◌∙◌, Ok, Err, None, ap, refl, sym, arith}
 use Rattle.row_growth.specs.declared.steps.Stepped.TheVariants as stepped
 use Rattle.paged_desks.proofs.EndingLemmas.{Grounds}
 use Rattle.paged_calls.specs.Rounds.{most_a_round}

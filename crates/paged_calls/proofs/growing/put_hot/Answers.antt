@@ -1,11 +1,10 @@
-use Rattle.std.proofs.Common.{◌≡◌, ◌∙◌, ◌≤◌, ◌+◌, ◌*◌, Option, Result, Ok, Err, ℕ, suc, ap, refl, sym, subst, arith}
-use Rattle.core_calls.specs.Room.{room_takes}
+use Rattle.std.proofs.Common.{◌∙◌, ◌+◌, ◌*◌, Option, Ok, Err, ℕ, refl, sym, arith}
 use Rattle.paged_desks.proofs.EndingLemmas.{Grounds}
 use Rattle.paged_desks.specs.Machines.{view_of}
 use Rattle.row_changes.proofs.TakesLemmas.{takes_most}
 use Rattle.row_words.specs.Openings.{opening}
 use Rattle.rows_trait.specs.Views.{state}
-use Rattle.paged_calls.specs.Rounds.{most_a_round, most_rounds, round_of}
+use Rattle.paged_calls.specs.Rounds.{most_a_round, most_rounds}
 use Rattle.paged_calls.specs.declared.growing.Round.{Round}
 use Rattle.paged_calls.specs.declared.growing.Round.TheVariants as round
 use Rattle.paged_calls.proofs.ChangeWarms.{still_self}

@@ -5,7 +5,7 @@ use Rattle.paged_rows.specs.Paged.{IsWarm}
 use Rattle.row_words.specs.Openings.{opening}
 use Rattle.rows_trait.specs.Views.{state}
 use Rattle.paged_calls.specs.Growths.{HasMade, MayPut}
-use Rattle.paged_calls.specs.Rounds.{most_a_round, most_rounds}
+use Rattle.paged_calls.specs.Rounds.{most_a_round}
 use Rattle.paged_calls.proofs.growing.put_hot.Given as goal
 
 abbrev pub invariant-room : goal.invariant-room

@@ -1,4 +1,4 @@
-use Rattle.std.proofs.Common.{◌≡◌, ◌∙◌, ◌+◌, ◌*◌, ◌≤◌, Option, Result, Ok, Err, ℕ, suc, ap, refl, sym, subst, arith}
+use Rattle.std.proofs.Common.{◌∙◌, ◌+◌, ◌*◌, Option, Err, ℕ, refl, sym, subst, arith}
 use Rattle.map_model.specs.declared.call.Refusal.{Refusal}
 use Rattle.paged_desks.proofs.EndingLemmas.{Grounds}
 use Rattle.paged_desks.specs.Pages.{most_a_level}

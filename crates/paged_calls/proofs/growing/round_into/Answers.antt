@@ -1,4 +1,4 @@
-use Rattle.std.proofs.Common.{◌≡◌, ◌∙◌, Option, Result, Ok, Err, Some, ℕ, ap, refl, sym, subst, arith}
+use Rattle.std.proofs.Common.{◌∙◌, Ok, Err, Some, ℕ, refl, sym, subst, arith}
 use Rattle.map_model.specs.declared.call.Refusal.{Refusal}
 use Rattle.paged_desks.specs.Pages.{most_a_level}
 use Rattle.paged_desks.specs.declared.warming.Unwarmed.TheVariants as stopped

@@ -1,4 +1,4 @@
-use Rattle.std.proofs.Common.{◌∙◌, refl, sym}
+use Rattle.std.proofs.Common.{◌∙◌, refl}
 use Rattle.session_desks.proofs.SeatLemmas.{holds_of}
 use Rattle.session_desks.specs.Parts.{here, shape}
 use Rattle.paged_desks.proofs.EndingLemmas.{Grounds}

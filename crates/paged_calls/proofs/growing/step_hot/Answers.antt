@@ -1,4 +1,4 @@
-use Rattle.std.proofs.Common.{◌≡◌, Result, Err, sym, subst}
+use Rattle.std.proofs.Common.{Err, subst}
 use Rattle.row_changes.specs.declared.ways.Unmade.{Unmade}
 use Rattle.paged_calls.proofs.PutWarms.{HasStepped, none_lost}
 use Rattle.paged_calls.proofs.growing.step_hot.Goals as goal

@@ -1,9 +1,9 @@
-use Rattle.std.proofs.Common.{◌≡◌, ◌∙◌, ◌⊎◌, inl, inr, ℕ, Option, Err, None, Some, ap, refl, sym, subst}
+use Rattle.std.proofs.Common.{◌∙◌, ℕ, Option, Err, ap, refl, sym}
 use Rattle.row_changes.proofs.StepLemmas.{clock_below, not_fault}
 use Rattle.paged_calls.proofs.ChangeTests.{test_broken, test_comes, test_works}
 use Rattle.paged_calls.proofs.ChangeWarms.{may_taken}
 use Rattle.paged_calls.proofs.DelCalls.{clock_comes, clock_late, untaken_late}
-use Rattle.paged_calls.proofs.PutCalls.{rounds_come, rounds_late, rounds_whole}
+use Rattle.paged_calls.proofs.PutCalls.{rounds_come, rounds_late}
 use Rattle.paged_calls.proofs.PutLemmas.{put_at_end, put_did, put_tested, put_untaken}
 use Rattle.paged_calls.specs.Rounds.{most_a_put}
 use Rattle.paged_desks.proofs.EndingLemmas.{Grounds}

@@ -1,5 +1,4 @@
-use Rattle.std.proofs.Common.{◌∙◌, ap, refl, sym}
-use Rattle.session_desks.specs.Parts.{AreAsMany}
+use Rattle.std.proofs.Common.{◌∙◌}
 use Rattle.paged_desks.proofs.EndingLemmas.{Grounds}
 use Rattle.paged_ends.proofs.BeginLemmas.{at_once, begun_broken, begun_comes, begun_disk, begun_fault, begun_flushed, begun_many, begun_same, begun_turn, begun_works}
 use Rattle.paged_ends.proofs.begins.begin_now.Goals as goal

@@ -1,8 +1,4 @@
-use Rattle.std.proofs.Common.{◌∙◌, ap, refl, sym, subst}
-use Rattle.map_model.specs.declared.call.Answer.TheVariants as answer
-use Rattle.map_model.specs.declared.call.Call.TheVariants as call
-use Rattle.map_model.specs.declared.call.Refusal.{Refusal}
-use Rattle.paged_desks.specs.Calls.{CallDoes, OnLine}
+use Rattle.std.proofs.Common.{◌∙◌, sym}
 use Rattle.paged_desks.proofs.EndingLemmas.{Grounds}
 use Rattle.row_ends.proofs.GoingLemmas.{ready_of}
 use Rattle.paged_ends.proofs.CommitCalls.{closed_broken, closed_comes, closed_tested, closed_works, commit_did}

@@ -4,9 +4,9 @@ use Rattle.page_provider.specs.declared.refusal.Refusal.{Refusal}
 use Rattle.page_provider.specs.Disks.{Disked}
 use Rattle.page_provider.specs.Providers.{Keeps}
 use Rattle.rows_trait.specs.Views.{Shape}
-use Rattle.paged_rows.specs.Paged.{IsFed, IsPaged, IsWarm, Paged, paged}
+use Rattle.paged_rows.specs.Paged.{paged}
 use Rattle.paged_rows.specs.declared.wanted.Wanted.TheVariants as want
-use Rattle.paged_rows.specs.Warms.{HasCome, HasMoved, IsRefusedTo, LostTo}
+use Rattle.paged_rows.specs.Warms.{IsRefusedTo, LostTo}
 use Rattle.paged_rows.proofs.Warming.{descent_is, disk_from, fed_now, fed_on, has_come, if_err, leads_is, leaf_met, lost_to, paged_now, refused_to, wanted_is}
 use Rattle.paged_rows.proofs.coming.bring.Goals as goal
 

@@ -1,10 +1,9 @@
-use Rattle.std.proofs.Common.{◌≡◌, ◌∙◌, ap, subst, sym}
-use Rattle.page_provider.specs.declared.refusal.Refusal.{Refusal}
+use Rattle.std.proofs.Common.{◌∙◌, ap, subst, sym}
 use Rattle.page_provider.specs.Disks.{Disked}
 use Rattle.page_provider.specs.Ends.{HasRefused}
 use Rattle.page_provider.specs.Faults.{ColdCause, FaultCause, HasPlaced}
 use Rattle.rows_trait.specs.Views.{Shape}
-use Rattle.paged_rows.specs.Paged.{Paged, paged}
+use Rattle.paged_rows.specs.Paged.{paged}
 use Rattle.paged_rows.specs.Warms.{HasJoined, IsRefusedTo, LostTo, most_a_page}
 use Rattle.paged_rows.specs.declared.wanted.Wanted.TheVariants as want
 use Rattle.paged_rows.proofs.Warming.{descent_free, disk_from, err_map, fed_now, fed_on, has_joined, leads_free, lost_from, moved_if, never_warm, ok_map, paged_if, paged_now, refused_free, wanted_free}

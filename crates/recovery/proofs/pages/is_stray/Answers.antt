@@ -1,4 +1,4 @@
-use Rattle.std.proofs.Common.{◌≡◌, ◌+◌, ◌-◌, ◌∙◌, IsTrue, sym, ap, subst}
+use Rattle.std.proofs.Common.{◌+◌, ◌-◌, IsTrue, sym, subst}
 use Rattle.lean_disk.specs.Story.{areas_of}
 use Rattle.page_store.specs.Slots.{HoldsIn, IsHeldOf, slot_bytes}
 use Rattle.page_store.specs.declared.slot.Bounds.{Bounds}

@@ -1,6 +1,6 @@
-use Rattle.std.proofs.Common.{◌≡◌, ◌∙◌, refl, sym}
+use Rattle.std.proofs.Common.{◌∙◌, refl, sym}
 use Rattle.row_changes.proofs.StepLemmas.{cause_from, ok_calm}
-use Rattle.row_growth.proofs.RoomLemmas.{can_grow, is_needed, made_grew}
+use Rattle.row_growth.proofs.RoomLemmas.{can_grow, is_needed}
 use Rattle.row_growth.proofs.room.change_into.Goals as goal
 
 pub change_tree-requires-clause-can : goal.change_tree-requires-clause-can

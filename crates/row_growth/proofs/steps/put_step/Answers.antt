@@ -1,4 +1,4 @@
-use Rattle.std.proofs.Common.{◌≡◌, ◌∙◌, ap, false, Ok, Err, sym, subst}
+use Rattle.std.proofs.Common.{◌≡◌, ◌∙◌, false, Ok, Err, sym, subst}
 use Rattle.row_changes.specs.Paths.{LeadsToFull}
 use Rattle.row_changes.specs.Puts.{MayChange}
 use Rattle.row_changes.proofs.DelLemmas.{same_then}
@@ -6,10 +6,8 @@ use Rattle.row_changes.proofs.SeenLemmas.{still}
 use Rattle.row_changes.proofs.StepLemmas.{calm_then, ok_calm}
 use Rattle.row_growth.specs.Rooms.{Grew, IsGrown}
 use Rattle.row_growth.specs.declared.room.Growth.TheVariants as growth
-use Rattle.row_growth.specs.declared.steps.Stepped.{Stepped}
 use Rattle.row_growth.proofs.RoomLemmas.{may_on, placed_on}
 use Rattle.row_growth.proofs.StepLemmas.{grew_as, grown_from, may_after, refused_told, step_needs, step_refused, step_stopped, stopped_calm, stopped_goes, tried_as, tried_full, try_told}
-use Rattle.session_state.specs.declared.session.Session.{Session}
 use Rattle.row_growth.proofs.steps.put_step.Goals as goal
 
 pub returns-in-Err-clause-steps : goal.returns-in-Err-clause-steps

@@ -1,11 +1,11 @@
 -- The children of a node are named one by one.
-use Rattle.std.proofs.Common.{◌≡◌, ◌+◌, ◌<◌, ℕ, zero, suc, List, [], ◌∷◌, length, drop, refl, sym, ap, ◌∙◌, subst, arith}
+use Rattle.std.proofs.Common.{◌≡◌, ◌+◌, ◌<◌, ℕ, suc, List, length, drop, refl, sym, ap, ◌∙◌, subst, arith}
 use Rattle.std.proofs.lemmas.List.{length-set}
 use Rattle.page_model.specs.Pairs.{Has, Pair}
 use Rattle.page_model.specs.Needs.{key_at}
 use Rattle.page_model.specs.Page.{word_at}
 use Rattle.cold_pages.specs.declared.kept.Kept.{Kept}
-use Rattle.cold_pages.specs.Kept.{children, kept_of, named}
+use Rattle.cold_pages.specs.Kept.{kept_of, named}
 use Rattle.cold_pages.proofs.PairLemmas.{pair_at}
 use Rattle.cold_pages.proofs.TableLemmas.{children_inner, children_none, drop_all, drop_one, under}
 use Rattle.cold_pages.proofs.pages.ColdPages.name.Goals as goal

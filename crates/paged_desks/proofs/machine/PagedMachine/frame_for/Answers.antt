@@ -1,4 +1,4 @@
-use Rattle.std.proofs.Common.{◌≡◌, ◌+◌, ◌*◌, ◌≤◌, arith, ap, refl, subst, ℕ, Option, Ok}
+use Rattle.std.proofs.Common.{◌*◌, ◌≤◌, arith, ap, refl, subst, ℕ, Option, Ok}
 use Rattle.paged_rows.specs.declared.wanted.Wanted.TheVariants as want
 use Rattle.paged_desks.specs.Inside.{Comes}
 use Rattle.paged_desks.specs.Pages.{goes_on, most_a_level}

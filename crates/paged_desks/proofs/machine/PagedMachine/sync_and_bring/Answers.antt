@@ -1,7 +1,6 @@
 use Rattle.std.proofs.Common.{inl, inr, refl, true≢false, ◌∙◌, ◌+◌, ◌≤◌, arith, sym, suc}
 use Rattle.lean_disk.specs.Story.{IsLawful}
-use Rattle.session_desks.specs.Parts.{here, shape}
-use Rattle.paged_desks.specs.Machines.{pages, view_of}
+use Rattle.paged_desks.specs.Machines.{pages}
 use Rattle.paged_desks.proofs.Breaking.{broken_sync, broken_then, broken_up}
 use Rattle.paged_desks.proofs.Doing.{done_none, done_sync, done_then, done_up}
 use Rattle.paged_desks.proofs.Full.{tight_is}
