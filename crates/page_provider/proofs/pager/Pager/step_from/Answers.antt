@@ -10,8 +10,8 @@ use Rattle.page_provider.proofs.Hands.{any_is, halts_up, err_both, candidate_coo
 use Rattle.page_provider.proofs.Moving.{missed_halts}
 use Rattle.page_provider.proofs.Parts.{keeps_shape}
 use Rattle.page_provider.proofs.Savings.{if_err}
-use Rattle.page_provider.proofs.pager.Pager.step.Goals as goal
-use Rattle.page_provider.proofs.pager.Pager.step.Goals.{then-number-eq0-via-then-number-eq0, then-number-eq0-via-else-number-eq0+then-contains}
+use Rattle.page_provider.proofs.pager.Pager.step_from.Goals as goal
+use Rattle.page_provider.proofs.pager.Pager.step_from.Goals.{then-number-eq0-via-then-number-eq0, then-number-eq0-via-else-number-eq0+then-contains}
 
 pub returns-in_default-clause-ok : goal.returns-in_default-clause-ok
 returns-in_default-clause-ok g c =

@@ -11,7 +11,7 @@ use Rattle.page_provider.specs.declared.refusal.Refusal.{Refusal}
 use Rattle.page_provider.specs.Refusals.{IsOthers}
 use Rattle.page_provider.proofs.Savings.{if_err}
 use Rattle.page_provider.proofs.Sightings.{missed_before, naming_since, sound_still, unnamed_next, unnamed_none}
-use Rattle.page_provider.proofs.finding.naming_any.Goals as goal
+use Rattle.page_provider.proofs.finding.named_any.Goals as goal
 
 pub loop-frame-init : goal.loop-frame-init
 loop-frame-init g c = record { fits = (c.requires.fits, refl, refl); unnamed = unnamed_none (g.R.Rows.shape c.args.rows.now) (g.R.Rows.view c.args.seat.now) c.args.word }

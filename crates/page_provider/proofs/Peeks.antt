@@ -1,0 +1,89 @@
+-- What single words of a frame's row say of the node that stands there.
+use Rattle.std.proofs.Common.{◌≡◌, ◌≢◌, ◌==◌, ◌<◌, ◌≤◌, ◌+◌, ◌*◌, ◌/◌, ◌%◌, not, ℕ, suc, Bool, true, false, List, [], ◌∷◌, length, Some, refl, sym, ap, subst, ◌∙◌, arith, below_more, true≢false}
+use Rattle.std.specs.Prelude.{slice_index}
+use Rattle.std.proofs.lemmas.Bool.{eqb-true}
+use Rattle.page_model.specs.Page as stored
+use Rattle.page_model.specs.Page.{word_at}
+use Rattle.page_model.specs.Nodes.{Node}
+use Rattle.btree_node.specs.Words.{words_of, Fits}
+use Rattle.btree_node.proofs.SpellingLemmas.{page_of-words_of, spells-count, spells-word}
+use Rattle.row_words.specs.Openings.{opening}
+use Rattle.row_words.specs.Words.{framed_page, is_inner}
+use Rattle.rows_trait.specs.declared.view.Act.{Act}
+use Rattle.rows_trait.specs.declared.view.View.{View}
+use Rattle.rows_trait.specs.Views.{Knows, state}
+use Rattle.version_latch.specs.declared.glimpse.Glimpse.{Glimpse}
+use Rattle.swips.specs.declared.hint.TheConstants.{MARK}
+use Rattle.btree_descent.specs.Inside.{Agrees}
+use Rattle.btree_descent.specs.Known.{IsSound}
+use Rattle.btree_descent.proofs.Calls.{sound_after}
+use Rattle.btree_descent.proofs.Nodes.{agreeing, fits, shown_frame, stands}
+use Rattle.row_image.specs.Hot.{StandsIn}
+use Rattle.row_image.specs.Inside.{Again, Begun}
+use Rattle.row_image.specs.Looks.{Watched}
+use Rattle.row_image.specs.Sights.{HasNone, IsFirst}
+use Rattle.row_image.proofs.Sighting.{all_watched}
+use Rattle.page_provider.specs.Finds.{HasPair, NamesIn}
+use Rattle.page_provider.proofs.Sightings.{hot_in, hot_is}
+
+pub unequal_not : (a b : ℕ) → not (a == b) ≡ false → a ≡ b
+unequal_not a b h = go (a == b) refl h
+  where
+    go : (t : Bool) → (a == b) ≡ t → not t ≡ false → a ≡ b
+    go true e x = eqb-true a b e
+    go false e x = absurd (true≢false x)
+
+-- ## The head of a node
+
+pub record HeadOf (packed : ℕ) (n : stored.Page) : Type 0 where
+  pub count : packed % 256 ≡ length n.node.pairs
+  pub level : packed / 256 % 256 ≡ n.node.level
+  pub live : (packed / 16777216 == 1) ≡ n.node.live
+
+pub head_of : (packed : ℕ) (n : stored.Page) → Fits n → packed ≡ slice_index (words_of n) 3 → HeadOf packed n
+head_of packed n f is =
+    let same = page_of-words_of n f in record {
+      count = ap (λ z. z % 256) is ∙ spells-count (words_of n) n (record { spelled = refl; fits = f });
+      level = ap (λ z. z / 256 % 256) is ∙ ap (λ (q : stored.Page). q.node.level) same;
+      live = ap (λ z. z / 16777216 == 1) is ∙ ap (λ (q : stored.Page). q.node.live) same;
+    }
+
+-- ## The pairs
+
+-- what words that were loaded later agree with agrees with those of before
+pub agrees_before : {alone : Bool} {row version : ℕ} {n : stored.Page} {v w : View} → Watched alone v w → Agrees row version n w.steps → Agrees row version n v.steps
+agrees_before {row = row} {version = version} k a i x lt ne kn = a i x lt ne (k.knows row version i x kn)
+
+pub head_known : {row version packed : ℕ} {n : stored.Page} {acts : List Act} → Knows row version 3 packed acts → Agrees row version n acts → packed ≡ slice_index (words_of n) 3
+head_known {packed = packed} kn a = a 3 packed (omega arith) (λ z. omega arith) kn
+
+pub word_known : {row version at x : ℕ} {n : stored.Page} {acts : List Act} → Fits n → at < length n.node.pairs → Knows row version (7 + 2 * at) x acts → Agrees row version n acts → x ≡ word_at at n.node.pairs
+word_known {at = at} {x = x} {n = n} f lt kn a =
+    let room = f.room in
+    a (7 + 2 * at) x (omega arith) (λ z. omega arith) kn ∙ spells-word (words_of n) n at (record { spelled = refl; fits = f }) lt
+
+-- no pair before this one has the word
+abbrev pub NoneBefore : (row version word at : ℕ) → List Act → Type 0
+NoneBefore row version word at acts = (n : stored.Page) → Fits n → Agrees row version n acts → is_inner n.node ≡ true → (j : ℕ) → j < at → word_at j n.node.pairs ≢ word
+
+pub none_next : {alone : Bool} {row version word at x : ℕ} {v w : View} (packed count : ℕ) → ((n : stored.Page) → Fits n → packed ≡ slice_index (words_of n) 3 → is_inner n.node ≡ true → count ≡ length n.node.pairs) → at < count → Knows row version 3 packed w.steps
+    → Watched alone v w → NoneBefore row version word at v.steps → Knows row version (7 + 2 * at) x w.steps → x ≢ word → NoneBefore row version word (at + 1) w.steps
+none_next {row = row} {version = version} {word = word} {at = at} {x = x} packed count counts lt head k none kn ne n f a inner =
+    let size = counts n f (head_known head a) inner in
+    below_more (λ j. word_at j n.node.pairs ≢ word) at (none n f (agrees_before k a) inner) (λ e. ne (word_known f (omega arith) kn a ∙ e))
+
+-- ## The node that stands in the row
+
+module _ {alone : Bool} {v v1 u w : View} (g : Glimpse) (b : Begun alone g.row g.version v v1) (k : Watched alone v1 u) (a : Again alone g.row g.version u w) (lt : g.row < (opening w.given).frames) (sound : IsSound v.given) (hint : ℕ) (known : Knows g.row g.version 126 hint u.steps) (unmarked : hint ≢ MARK) where
+  pub names_in : (word : ℕ) (yes : Bool) → HasPair g.row g.version word u.steps yes → NamesIn g.row word yes w
+  names_in word true h =
+      let m = state w in
+      let it = stands (opening w.given) m.core g.row hint (shown_frame w.given m g.row 126 hint lt (a.shown 126 hint known)) unmarked in
+      let page = framed_page m.core it.0 0 in
+      let o = h page (fits w.given m it.0 (sound_after v w (all_watched g b k a lt).ran.given sound) it.1) (agreeing (opening w.given) m.core g.row g.version it.0 u.steps (λ i x small kn. shown_frame w.given m g.row i x lt (a.shown i x kn)) it.1 it.2) in
+      record { node = page; at = o.0; stands = record { stands = record { below = it.1; hot = hot_is (m.core.place it.0) g.row it.3 it.2 }; page = refl }; pair = o.1 }
+  names_in word false h n s =
+      let m = state w in
+      let page = framed_page m.core n.number 0 in
+      let none = h page (fits w.given m n.number (sound_after v w (all_watched g b k a lt).ran.given sound) s.stands.below) (agreeing (opening w.given) m.core g.row g.version n.number u.steps (λ i x small kn. shown_frame w.given m g.row i x lt (a.shown i x kn)) s.stands.below (hot_in s.stands.hot)) in
+      subst (λ (x : Node). is_inner x ≡ true → (j : ℕ) → j < length x.pairs → word_at j x.pairs ≢ word) (sym (ap (λ (x : stored.Page). x.node) s.page)) none
