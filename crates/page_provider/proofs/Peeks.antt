@@ -24,7 +24,8 @@ use Rattle.row_image.specs.Looks.{Watched}
 use Rattle.row_image.specs.Sights.{HasNone, IsFirst}
 use Rattle.row_image.proofs.Sighting.{all_watched}
 use Rattle.page_provider.specs.Finds.{HasPair, NamesIn}
-use Rattle.page_provider.proofs.Sightings.{hot_in, hot_is}
+use Rattle.page_provider.proofs.Easing.{hot_is}
+use Rattle.page_provider.proofs.Sightings.{hot_in}
 
 pub unequal_not : (a b : ℕ) → not (a == b) ≡ false → a ≡ b
 unequal_not a b h = go (a == b) refl h
@@ -51,14 +52,14 @@ head_of packed n f is =
 -- ## The pairs
 
 -- what words that were loaded later agree with agrees with those of before
-pub agrees_before : {alone : Bool} {row version : ℕ} {n : stored.Page} {v w : View} → Watched alone v w → Agrees row version n w.steps → Agrees row version n v.steps
-agrees_before {row = row} {version = version} k a i x lt ne kn = a i x lt ne (k.knows row version i x kn)
+pub agrees_before : {alone : Bool} (row version : ℕ) (n : stored.Page) {v w : View} → Watched alone v w → Agrees row version n w.steps → Agrees row version n v.steps
+agrees_before row version n k a i x lt ne kn = a i x lt ne (k.knows row version i x kn)
 
-pub head_known : {row version packed : ℕ} {n : stored.Page} {acts : List Act} → Knows row version 3 packed acts → Agrees row version n acts → packed ≡ slice_index (words_of n) 3
-head_known {packed = packed} kn a = a 3 packed (omega arith) (λ z. omega arith) kn
+pub head_known : (row version packed : ℕ) (n : stored.Page) (acts : List Act) → Knows row version 3 packed acts → Agrees row version n acts → packed ≡ slice_index (words_of n) 3
+head_known row version packed n acts kn a = a 3 packed (omega arith) (λ z. omega arith) kn
 
-pub word_known : {row version at x : ℕ} {n : stored.Page} {acts : List Act} → Fits n → at < length n.node.pairs → Knows row version (7 + 2 * at) x acts → Agrees row version n acts → x ≡ word_at at n.node.pairs
-word_known {at = at} {x = x} {n = n} f lt kn a =
+pub word_known : (row version at x : ℕ) (n : stored.Page) (acts : List Act) → Fits n → at < length n.node.pairs → Knows row version (7 + 2 * at) x acts → Agrees row version n acts → x ≡ word_at at n.node.pairs
+word_known row version at x n acts f lt kn a =
     let room = f.room in
     a (7 + 2 * at) x (omega arith) (λ z. omega arith) kn ∙ spells-word (words_of n) n at (record { spelled = refl; fits = f }) lt
 
@@ -66,11 +67,32 @@ word_known {at = at} {x = x} {n = n} f lt kn a =
 abbrev pub NoneBefore : (row version word at : ℕ) → List Act → Type 0
 NoneBefore row version word at acts = (n : stored.Page) → Fits n → Agrees row version n acts → is_inner n.node ≡ true → (j : ℕ) → j < at → word_at j n.node.pairs ≢ word
 
-pub none_next : {alone : Bool} {row version word at x : ℕ} {v w : View} (packed count : ℕ) → ((n : stored.Page) → Fits n → packed ≡ slice_index (words_of n) 3 → is_inner n.node ≡ true → count ≡ length n.node.pairs) → at < count → Knows row version 3 packed w.steps
-    → Watched alone v w → NoneBefore row version word at v.steps → Knows row version (7 + 2 * at) x w.steps → x ≢ word → NoneBefore row version word (at + 1) w.steps
-none_next {row = row} {version = version} {word = word} {at = at} {x = x} packed count counts lt head k none kn ne n f a inner =
-    let size = counts n f (head_known head a) inner in
-    below_more (λ j. word_at j n.node.pairs ≢ word) at (none n f (agrees_before k a) inner) (λ e. ne (word_known f (omega arith) kn a ∙ e))
+-- so many pairs has each inner node whose head this is
+abbrev pub IsCount : (packed count : ℕ) → Type 0
+IsCount packed count = (n : stored.Page) → Fits n → packed ≡ slice_index (words_of n) 3 → is_inner n.node ≡ true → count ≡ length n.node.pairs
+
+module _ (row version word : ℕ) where
+  pub none_next : {alone : Bool} {v w : View} (packed count at x : ℕ) → IsCount packed count → at < count → Knows row version 3 packed w.steps → Watched alone v w → NoneBefore row version word at v.steps → Knows row version (7 + 2 * at) x w.steps → x ≢ word
+      → NoneBefore row version word (at + 1) w.steps
+  none_next {w = w} packed count at x counts lt head k none kn ne n f a inner =
+      let size : count ≡ length n.node.pairs = counts n f (head_known row version packed n w.steps head a) inner in
+      let short : at < length n.node.pairs = omega arith in
+      below_more (λ j. word_at j n.node.pairs ≢ word) at (none n f (agrees_before row version n k a) inner) (λ e. ne (word_known row version at x n w.steps f short kn a ∙ e))
+
+  -- the first pair that has it
+  pub pair_here : {alone : Bool} {v w : View} (packed count at x : ℕ) → ((n : stored.Page) → Fits n → packed ≡ slice_index (words_of n) 3 → (is_inner n.node ≡ true) × (count ≡ length n.node.pairs)) → at < count → Knows row version 3 packed w.steps → Watched alone v w
+      → NoneBefore row version word at v.steps → Knows row version (7 + 2 * at) x w.steps → x ≡ word → HasPair row version word w.steps true
+  pair_here {w = w} packed count at x counts lt head k none kn is n f a =
+      let o = counts n f (head_known row version packed n w.steps head a) in
+      let size = o.1 in
+      let short : at < length n.node.pairs = omega arith in
+      (at, record { inner = o.0; short = short; word_is = sym (word_known row version at x n w.steps f short kn a) ∙ is; before = none n f (agrees_before row version n k a) o.0 })
+
+  -- all pairs were looked at
+  pub none_at_all : (packed count at : ℕ) (acts : List Act) → IsCount packed count → count ≤ at → Knows row version 3 packed acts → NoneBefore row version word at acts → HasPair row version word acts false
+  none_at_all packed count at acts counts all head none n f a inner j lt =
+      let size : count ≡ length n.node.pairs = counts n f (head_known row version packed n acts head a) inner in
+      none n f a inner j (omega arith)
 
 -- ## The node that stands in the row
 
@@ -82,7 +104,7 @@ module _ {alone : Bool} {v v1 u w : View} (g : Glimpse) (b : Begun alone g.row g
       let page = framed_page m.core it.0 0 in
       let o = h page (fits w.given m it.0 (sound_after v w (all_watched g b k a lt).ran.given sound) it.1) (agreeing (opening w.given) m.core g.row g.version it.0 u.steps (λ i x small kn. shown_frame w.given m g.row i x lt (a.shown i x kn)) it.1 it.2) in
       record { node = page; at = o.0; stands = record { stands = record { below = it.1; hot = hot_is (m.core.place it.0) g.row it.3 it.2 }; page = refl }; pair = o.1 }
-  names_in word false h n s =
+  names_in word false h = λ n s.
       let m = state w in
       let page = framed_page m.core n.number 0 in
       let none = h page (fits w.given m n.number (sound_after v w (all_watched g b k a lt).ran.given sound) s.stands.below) (agreeing (opening w.given) m.core g.row g.version n.number u.steps (λ i x small kn. shown_frame w.given m g.row i x lt (a.shown i x kn)) s.stands.below (hot_in s.stands.hot)) in
