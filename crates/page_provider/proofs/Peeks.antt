@@ -1,5 +1,5 @@
 -- What single words of a frame's row say of the node that stands there.
-use Rattle.std.proofs.Common.{◌≡◌, ◌≢◌, ◌==◌, ◌<◌, ◌≤◌, ◌+◌, ◌*◌, ◌/◌, ◌%◌, not, ℕ, suc, Bool, true, false, List, [], ◌∷◌, length, Some, refl, sym, ap, subst, ◌∙◌, arith, below_more, true≢false}
+use Rattle.std.proofs.Common.{◌≡◌, ◌≢◌, ◌==◌, ◌<◌, ◌≤◌, ◌+◌, ◌*◌, ◌/◌, ◌%◌, not, ℕ, suc, Bool, true, false, List, [], ◌∷◌, length, Option, Some, None, refl, sym, ap, subst, ◌∙◌, arith, below_more, true≢false}
 use Rattle.std.specs.Prelude.{slice_index}
 use Rattle.std.proofs.lemmas.Bool.{eqb-true}
 use Rattle.page_model.specs.Page as stored
@@ -7,25 +7,29 @@ use Rattle.page_model.specs.Page.{word_at}
 use Rattle.page_model.specs.Nodes.{Node}
 use Rattle.btree_node.specs.Words.{words_of, Fits}
 use Rattle.btree_node.proofs.SpellingLemmas.{page_of-words_of, spells-count, spells-word}
+use Rattle.row_words.specs.Moments.{Moment}
 use Rattle.row_words.specs.Openings.{opening}
 use Rattle.row_words.specs.Words.{framed_page, is_inner}
+use Rattle.row_words.specs.declared.given.Given.{Given}
 use Rattle.rows_trait.specs.declared.view.Act.{Act}
 use Rattle.rows_trait.specs.declared.view.View.{View}
-use Rattle.rows_trait.specs.Views.{Knows, state}
+use Rattle.rows_trait.specs.Views.{Shape, Knows, state}
+use Rattle.rows_trait.proofs.Runs.{ran_append}
 use Rattle.version_latch.specs.declared.glimpse.Glimpse.{Glimpse}
 use Rattle.swips.specs.declared.hint.TheConstants.{MARK}
 use Rattle.btree_descent.specs.Inside.{Agrees}
 use Rattle.btree_descent.specs.Known.{IsSound}
 use Rattle.btree_descent.proofs.Calls.{sound_after}
 use Rattle.btree_descent.proofs.Nodes.{agreeing, fits, shown_frame, stands}
+use Rattle.row_image.specs.declared.sight.Sight.{Sight}
 use Rattle.row_image.specs.Hot.{StandsIn}
 use Rattle.row_image.specs.Inside.{Again, Begun}
 use Rattle.row_image.specs.Looks.{Watched}
 use Rattle.row_image.specs.Sights.{HasNone, IsFirst}
 use Rattle.row_image.proofs.Sighting.{all_watched}
-use Rattle.page_provider.specs.Finds.{HasPair, NamesIn}
+use Rattle.page_provider.specs.Finds.{HasPair, IsNamedIn, NamedIn, NamesIn, Naming, NamingIn}
 use Rattle.page_provider.proofs.Easing.{hot_is}
-use Rattle.page_provider.proofs.Sightings.{hot_in}
+use Rattle.page_provider.proofs.Sightings.{hot_in, naming_since, state_same}
 
 pub unequal_not : (a b : ℕ) → not (a == b) ≡ false → a ≡ b
 unequal_not a b h = go (a == b) refl h
@@ -109,3 +113,21 @@ module _ {alone : Bool} {v v1 u w : View} (g : Glimpse) (b : Begun alone g.row g
       let page = framed_page m.core n.number 0 in
       let none = h page (fits w.given m n.number (sound_after v w (all_watched g b k a lt).ran.given sound) s.stands.below) (agreeing (opening w.given) m.core g.row g.version n.number u.steps (λ i x small kn. shown_frame w.given m g.row i x lt (a.shown i x kn)) s.stands.below (hot_in s.stands.hot)) in
       subst (λ (x : Node). is_inner x ≡ true → (j : ℕ) → j < length x.pairs → word_at j x.pairs ≢ word) (sym (ap (λ (x : stored.Page). x.node) s.page)) none
+
+-- ## Over frames
+
+-- a look later than others
+pub named_before : {z y : Shape} {v u : View} (frames word : ℕ) (w : View) (o : Option ℕ) → y ≡ z → Watched z.alone v u → NamedIn y u frames word o w → NamedIn z v frames word o w
+named_before {z = z} {v = v} {u = u} frames word w (Some f) same k h =
+    let n = subst (λ (q : Shape). NamedIn q u frames word (Some f) w) same h in
+    (ran_append z.alone v [] u [] w k.ran n.0, n.1, n.2)
+named_before {z = z} {v = v} {u = u} frames word w None same k h =
+    let n = subst (λ (q : Shape). NamedIn q u frames word None w) same h in
+    (ran_append z.alone v [] u [] w k.ran n.0, n.1)
+
+-- the node is seen in the frame where it was found, or is there no longer
+pub naming_at : {z y : Shape} {v u : View} (frames word frame : ℕ) (w : View) (o : Option (Sight × ℕ)) → y ≡ z → Watched z.alone v u → IsNamedIn frame word u → NamingIn y u frame word o w → Naming z v frames word o w
+naming_at frames word frame w (Some x) same k named h = naming_since same k h
+naming_at {z = z} {v = v} {u = u} frames word frame w None same k named h =
+    let n = subst (λ (q : Shape). NamingIn q u frame word None w) same h in
+    (ran_append z.alone v [] u [] w k.ran n.0, λ only. absurd (n.1 named.node (subst (λ (q : Given × Moment). StandsIn q.0 q.1 frame named.node) (λ i. (sym n.0.given i, sym (state_same n.0 only) i)) named.stands) named.pair.inner named.at named.pair.short named.pair.word_is))
