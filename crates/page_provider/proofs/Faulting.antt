@@ -36,7 +36,6 @@ use Rattle.page_pool.specs.Queues.{IsFound, entry_of}
 use Rattle.row_image.specs.Hot.{StandsIn}
 use Rattle.row_image.specs.Looks.{Watched}
 use Rattle.row_image.specs.Sights.{HasNone, NamesAt}
-use Rattle.row_image.specs.declared.sight.Sight.{Sight}
 use Rattle.page_provider.specs.declared.refusal.Refusal.{Refusal}
 use Rattle.page_provider.specs.declared.refusal.Refusal.TheVariants as refusal
 use Rattle.page_provider.specs.Comes.{HasCome}

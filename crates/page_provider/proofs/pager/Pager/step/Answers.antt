@@ -30,7 +30,7 @@ returns-clause-ok g c =
     let o = c.in_ok-is_hot.ensures in
     let P : Option Cooling → Type 0 = λ done. Steps (g.R.Rows.shape c.is_hot.new.rows) c.args.path.now c.args.frame t c.args.self.now done u c.step_from.new.self in
     let Q : Option Cooling → Type 0 = λ done. Steps z c.args.path.now c.args.frame v c.args.self.now done u c.step_from.new.self in
-    IfOk-weaker c.step_from.result P Q (λ done x. steps_behind c.args.path.now c.laws.ensures.rows c.requires.keeps (o.fits.2 ∙ c.requires.held) o.kept.ran done (subst (λ (s : Shape). Steps s c.args.path.now c.args.frame t c.args.self.now done u c.step_from.new.self) o.fits.1 x)) c.step_from.ensures.ok
+    IfOk-weaker c.step_from.result P Q (λ done x. steps_behind c.args.frame c.args.path.now u c.step_from.new.self c.laws.ensures.rows c.requires.keeps (o.fits.2 ∙ c.requires.held) o.kept.ran done (subst (λ (s : Shape). Steps s c.args.path.now c.args.frame t c.args.self.now done u c.step_from.new.self) o.fits.1 x)) c.step_from.ensures.ok
 
 pub returns-clause-err : goal.returns-clause-err
 returns-clause-err g c =
