@@ -1,5 +1,5 @@
 -- What single words of a frame's row say of the node that stands there.
-use Rattle.std.proofs.Common.{◌≡◌, ◌≢◌, ◌==◌, ◌<◌, ◌≤◌, ◌+◌, ◌*◌, ◌/◌, ◌%◌, not, ℕ, suc, Bool, true, false, List, [], ◌∷◌, length, Option, Some, None, refl, sym, ap, subst, ◌∙◌, arith, below_more, true≢false}
+use Rattle.std.proofs.Common.{◌≡◌, ◌≢◌, ◌==◌, ◌<◌, ◌≤◌, ◌+◌, ◌*◌, ◌/◌, ◌%◌, not, ℕ, Bool, true, false, List, [], length, Option, Some, None, refl, sym, ap, subst, ◌∙◌, arith, below_more, true≢false}
 use Rattle.std.specs.Prelude.{slice_index}
 use Rattle.std.proofs.lemmas.Bool.{eqb-true}
 use Rattle.page_model.specs.Page as stored
@@ -25,7 +25,6 @@ use Rattle.row_image.specs.declared.sight.Sight.{Sight}
 use Rattle.row_image.specs.Hot.{StandsIn}
 use Rattle.row_image.specs.Inside.{Again, Begun}
 use Rattle.row_image.specs.Looks.{Watched}
-use Rattle.row_image.specs.Sights.{HasNone, IsFirst}
 use Rattle.row_image.proofs.Sighting.{all_watched}
 use Rattle.page_provider.specs.Finds.{HasPair, IsNamedIn, NamedIn, NamesIn, Naming, NamingIn}
 use Rattle.page_provider.proofs.Easing.{hot_is}

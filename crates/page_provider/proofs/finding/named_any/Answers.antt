@@ -1,4 +1,4 @@
-use Rattle.std.proofs.Common.{◌≡◌, ◌∙◌, ℕ, Bool, [], refl, subst, arith}
+use Rattle.std.proofs.Common.{◌≡◌, ◌∙◌, Bool, refl, subst, arith}
 use Rattle.std.proofs.lemmas.Result.{err_from_is_err_and}
 use Rattle.row_image.proofs.Watching.{watched_shape, watched_then}
 use Rattle.page_provider.specs.Finds.{NamesIn}

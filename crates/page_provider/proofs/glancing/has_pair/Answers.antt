@@ -1,4 +1,4 @@
-use Rattle.std.proofs.Common.{◌∙◌, ◌+◌, ◌*◌, refl, sym, arith}
+use Rattle.std.proofs.Common.{◌∙◌, arith}
 use Rattle.row_image.proofs.Watching.{watched_load, watched_shape, watched_then}
 use Rattle.page_provider.proofs.Peeks.{none_at_all, none_next, pair_here}
 use Rattle.page_provider.proofs.glancing.has_pair.Goals as goal

@@ -1,4 +1,4 @@
-use Rattle.std.proofs.Common.{◌≡◌, ◌≤◌}
+use Rattle.std.proofs.Common.{◌≡◌}
 use Rattle.rows_trait.specs.Views.{Knows}
 use Rattle.row_image.specs.Looks.{Watched}
 use Rattle.page_provider.proofs.Peeks.{NoneBefore}
