@@ -36,7 +36,6 @@ use Rattle.page_pool.specs.Queues.{IsFound, entry_of}
 use Rattle.row_image.specs.Hot.{StandsIn}
 use Rattle.row_image.specs.Looks.{Watched}
 use Rattle.row_image.specs.Sights.{HasNone, NamesAt}
-use Rattle.row_image.specs.declared.sight.Sight.{Sight}
 use Rattle.page_provider.specs.declared.refusal.Refusal.{Refusal}
 use Rattle.page_provider.specs.declared.refusal.Refusal.TheVariants as refusal
 use Rattle.page_provider.specs.Comes.{HasCome}
@@ -44,7 +43,7 @@ use Rattle.page_provider.specs.Cools.{Idle}
 use Rattle.page_provider.specs.Ends.{HasRefused}
 use Rattle.page_provider.specs.Faults.{FaultCause, Faulted, HasLost, IsAstray, IsDescent, IsWanted, LeadsTo}
 use Rattle.page_provider.specs.Disks.{Disked}
-use Rattle.page_provider.specs.Finds.{Halts, HasNaming, Naming, NoneNames, Standing}
+use Rattle.page_provider.specs.Finds.{Halts, IsNamedIn, Naming, NoneNames, Standing}
 use Rattle.page_provider.specs.Gives.{Gives}
 use Rattle.page_provider.specs.Inside.{Missed}
 use Rattle.page_provider.specs.Laws.{DiskLaws, RowLaws}
@@ -123,12 +122,11 @@ pub record IsNamed (g : Given) (m : Moment) (page : ℕ) : Type 0 where
   pub off : is_hot (m.core.place page) ≡ false
   pub parent : has_hot_parent (opening g) m.core page ≡ true
 
-pub named : {z : Shape} {v u : View} {page at : ℕ} {s : Sight} → RowLaws → Sound u.given (state u) → page < (opening u.given).format.pages → HasNaming z v page s at u → IsNamed u.given (state u) page
-named {u = u} {page = page} {at = at} {s = s} laws sound below h =
+pub named : {u : View} {page row : ℕ} → RowLaws → Sound u.given (state u) → page < (opening u.given).format.pages → IsNamedIn row page u → IsNamed u.given (state u) page
+named {u = u} {page = page} {row = row} laws sound below h =
     let few = sound.few in
-    let stands = h.sight.stands in
-    let o = (laws.pairs u.given (state u) s.glimpse.row s.node sound stands).cold at page h.pair.inner h.pair.short h.pair.word_is (omega arith) in
-    record { off = o.1; parent = parents_named sound stands.stands.below (ap is_hot stands.stands.hot) o.0 }
+    let o = (laws.pairs u.given (state u) row h.node sound h.stands).cold h.at page h.pair.inner h.pair.short h.pair.word_is (omega arith) in
+    record { off = o.1; parent = parents_named sound h.stands.stands.below (ap is_hot h.stands.stands.hot) o.0 }
 
 -- ## No hot parent
 
@@ -319,9 +317,9 @@ module _ {z y : Shape} {v u : View} (w : View) {k : Provider} (page : ℕ) (path
 
 -- ## What a hot node names
 
-pub named_on : {z : Shape} {v u : View} {k : Provider} {page word at : ℕ} {s : Sight} → RowLaws → Keeps z v k → page < (opening v.given).format.pages → word ≡ page → Ran z.alone v [] u → HasNaming z v word s at u → IsNamed u.given (state u) page
-named_on {z = z} {v = v} {u = u} {page = page} {at = at} {s = s} laws c below is r h =
-    named laws ((keeps_ran laws.stood laws.standing tt r c).sound u.seen) (subst (λ (g : Given). page < (opening g).format.pages) (sym r.given) below) (subst (λ n. HasNaming z v n s at u) is h)
+pub named_on : {z : Shape} {v u : View} {k : Provider} {page word row : ℕ} → RowLaws → Keeps z v k → page < (opening v.given).format.pages → word ≡ page → Ran z.alone v [] u → IsNamedIn row word u → IsNamed u.given (state u) page
+named_on {v = v} {u = u} {page = page} {row = row} laws c below is r h =
+    named laws ((keeps_ran laws.stood laws.standing tt r c).sound u.seen) (subst (λ (g : Given). page < (opening g).format.pages) (sym r.given) below) (subst (λ n. IsNamedIn row n u) is h)
 
 pub no_astray : (z : Shape) {v u : View} {page : ℕ} {A : Type 0} → Ran z.alone v [] u → IsNamed u.given (state u) page → z.alone ≡ true → IsAstray v page → A
 no_astray z r n only a = absurd (true≢false (sym n.parent ∙ (astray_on z r only a).parent))

@@ -273,6 +273,14 @@ module _ {z : Shape} {frame : ℕ} {v t : View} {k : Provider} {s : Sight} (laws
   pub candidate_halts : {n : ℕ} {why : Refusal} {u : View} → Stopped n z t why u → SinceFound s t why u → Halts n z v why u
   candidate_halts {n} {why} {u} x since = record { stopped = stopped_behind h.sight.ran x; cause = since v h.sight.found }
 
+-- a step behind a look
+pub steps_behind : {z : Shape} (frame : ℕ) {v t : View} {k : Provider} (path : List ℕ) (u : View) (is : Provider) → RowLaws → Keeps z v k → t.held ≡ [] → Ran z.alone v [] t → (done : Option Cooling) → Steps z path frame t k done u is → Steps z path frame v k done u is
+steps_behind frame path u is laws c none r (Some entry) h = stepped_behind laws c r same_none refl h
+steps_behind frame path u is laws c none r None h = (idle_then c (idle_ran laws c none r) h.0, h.1)
+
+pub halts_behind : {n : ℕ} {z : Shape} {v t u : View} {why : Refusal} → Ran z.alone v [] t → Halts n z t why u → Halts n z v why u
+halts_behind {u = u} {why = why} r h = record { stopped = stopped_behind r h.stopped; cause = caused_before u why r.since h.cause }
+
 -- ## Over frames
 
 pub hand_stalls : {n : ℕ} {z : Shape} {v u w : View} {was k is : Provider} {why : Refusal} → Idle z v was u k → k ≡ is → Halts n z u why w → Stalls n z v was why w is

@@ -17,6 +17,7 @@ pub mod Easing
 pub mod Moving
 pub mod Amounts
 pub mod Sightings
+pub mod Peeks
 pub mod Givings
 pub mod Marks
 pub mod Beginning

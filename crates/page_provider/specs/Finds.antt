@@ -1,15 +1,18 @@
 -- Words of private functions: what the pager has found in frames, and rows that it latched from there.
-use Rattle.std.specs.Prelude.{◌≡◌, ◌≤◌, ◌<◌, ◌^◌, ℕ, true, false, List, [], Option, Some, None}
+use Rattle.std.specs.Prelude.{◌≡◌, ◌≤◌, ◌<◌, ◌^◌, ℕ, Bool, true, false, List, [], Option, Some, None}
 use Rattle.page_model.specs.Page as stored
+use Rattle.btree_node.specs.Words.{Fits}
 use Rattle.core_state.specs.Needs.{has_hot_child}
 use Rattle.core_state.specs.States.{Place, is_hot}
 use Rattle.row_words.specs.declared.given.Given.{Given}
 use Rattle.row_words.specs.Moments.{Moment}
 use Rattle.row_words.specs.Openings.{opening}
+use Rattle.rows_trait.specs.declared.view.Act.{Act}
 use Rattle.rows_trait.specs.declared.view.View.{View}
 use Rattle.rows_trait.specs.Causes.{HasFound}
 use Rattle.rows_trait.specs.Turns.{Ran}
 use Rattle.rows_trait.specs.Views.{Shape, latest, state}
+use Rattle.btree_descent.specs.Inside.{Agrees}
 use Rattle.btree_descent.specs.Known.{Sound}
 use Rattle.held_rows.specs.Rows.{HoldsOne, HoldsTwo}
 use Rattle.held_rows.specs.Steps.{MissedUpTo}
@@ -50,6 +53,23 @@ pub record HasNaming (z : Shape) (v : View) (word : ℕ) (s : Sight) (at : ℕ) 
   pub sight : IsSight z.alone s.glimpse.row v s u
   pub pair : IsFirst s.node word at
 
+-- the node that stands in the frame has a pair with the word
+pub record IsNamedIn (frame word : ℕ) (u : View) : Type 0 where
+  pub node : stored.Page
+  pub at : ℕ
+  pub stands : StandsIn u.given (state u) frame node
+  pub pair : IsFirst node word at
+
+-- or no node that stands there has
+abbrev pub NamesIn : (frame word : ℕ) → Bool → View → Type 0
+NamesIn frame word true u = IsNamedIn frame word u
+NamesIn frame word false u = (n : stored.Page) → StandsIn u.given (state u) frame n → HasNone n word
+
+-- of each page with which the words agree that were loaded of the row: whether a pair of it has the word
+abbrev pub HasPair : (row version word : ℕ) → List Act → Bool → Type 0
+HasPair row version word acts true = (n : stored.Page) → Fits n → Agrees row version n acts → (at : ℕ) × IsFirst n word at
+HasPair row version word acts false = (n : stored.Page) → Fits n → Agrees row version n acts → HasNone n word
+
 -- in one frame
 abbrev pub NamingIn : Shape → View → (frame word : ℕ) → Option (Sight × ℕ) → View → Type 0
 NamingIn z v frame word (Some x) u = HasNaming z v word x.0 x.1 u
@@ -62,6 +82,11 @@ NoneNames frames word u = (f : ℕ) (n : stored.Page) → f < frames → StandsI
 abbrev pub Naming : Shape → View → (frames word : ℕ) → Option (Sight × ℕ) → View → Type 0
 Naming z v frames word (Some x) u = HasNaming z v word x.0 x.1 u
 Naming z v frames word None u = Ran z.alone v [] u × (z.alone ≡ true → NoneNames frames word u)
+
+-- the frame of a node that has one
+abbrev pub NamedIn : Shape → View → (frames word : ℕ) → Option ℕ → View → Type 0
+NamedIn z v frames word (Some f) u = Ran z.alone v [] u × (f < frames) × IsNamedIn f word u
+NamedIn z v frames word None u = Ran z.alone v [] u × (z.alone ≡ true → NoneNames frames word u)
 
 -- the page stands hot in the frame, or is not hot
 abbrev pub Standing : Shape → View → (page : ℕ) → Option ℕ → View → Type 0

@@ -21,7 +21,7 @@ ghost use Rattle.page_provider.specs.Refusals.{IsOfRow};
 ghost use Rattle.page_provider.specs.declared.refusal.Refusal.TheVariants as refusal;
 
 use crate::fetching::fetch;
-use crate::finding::{naming, standing};
+use crate::finding::{named, standing};
 use crate::laws::laws;
 use crate::pager::Pager;
 use crate::refusal::Refusal;
@@ -208,7 +208,7 @@ impl Pager {
         laws();
         let frames = self.stage.frames();
         let first = path.last().unwrap_or(0);
-        let Some(_) = naming(rows, seat, frames, first, u64::from(page))? else {
+        let Some(_) = named(rows, seat, frames, first, u64::from(page))? else {
             return standing(rows, seat, frames, page);
         };
         self.bring(rows, seat, dev, page, path)

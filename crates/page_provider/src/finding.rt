@@ -7,10 +7,11 @@ ghost use Rattle.btree_descent.specs.Descents.{Sized};
 ghost use Rattle.btree_descent.specs.Known.{IsSound};
 ghost use Rattle.row_image.specs.Looks.{Watched};
 ghost use Rattle.row_image.specs.Sights.{HasSeen};
-ghost use Rattle.page_provider.specs.Finds.{Candidate, Naming, NamingIn, Standing};
+ghost use Rattle.page_provider.specs.Finds.{Candidate, NamedIn, Naming, NamingIn, Standing};
 ghost use Rattle.page_provider.specs.Inside.{Missed};
 ghost use Rattle.page_provider.specs.Refusals.{IsOthers};
 
+use crate::glancing::names;
 use crate::laws::laws;
 use crate::looking::PAGER;
 use crate::refusal::Refusal;
@@ -102,7 +103,7 @@ pub(crate) fn naming<R: Rows>(
     naming_any(rows, seat, frames, word)
 }
 
-// It is looked for in all frames.
+// It is looked for in all frames: by words in place, so that one node alone is seen as a whole.
 fn naming_any<R: Rows>(
     rows: &mut R,
     seat: &mut R::Seat,
@@ -119,12 +120,62 @@ fn naming_any<R: Rows>(
     ensures err { IfErr result (λ why. Missed (R.shape rows.old) (R.view seat.old) why (R.view seat.new)) }
     ensures kind { IfErr result IsOthers }
 {
+    let Some(frame) = named_any(rows, seat, frames, word)? else {
+        return Ok(None);
+    };
+    naming_in(rows, seat, frames, frame, word)
+}
+
+// The first frame whose node has a pair with this word.
+fn named_any<R: Rows>(
+    rows: &mut R,
+    seat: &mut R::Seat,
+    frames: u32,
+    word: u64,
+) -> Result<Option<u32>, Refusal>
+    requires fits { R.fits rows.old seat.old }
+    requires sized { Sized (R.shape rows.old) (R.view seat.old) frames }
+    requires actor { may (R.shape rows.old).alone (R.view seat.old) pager ≡ true }
+    requires sound { IsSound (R.view seat.old).given }
+    ensures fits { R.fits rows.new seat.new × (R.shape rows.new ≡ R.shape rows.old) × ((R.view seat.new).held ≡ (R.view seat.old).held) }
+    ensures ok { IfOk result (λ found. NamedIn (R.shape rows.old) (R.view seat.old) frames word found (R.view seat.new)) }
+    ensures kept { IfOk result (λ _. Watched (R.shape rows.old).alone (R.view seat.old) (R.view seat.new)) }
+    ensures err { IfErr result (λ why. Missed (R.shape rows.old) (R.view seat.old) why (R.view seat.new)) }
+    ensures kind { IfErr result IsOthers }
+{
     for frame in 0..frames {
-        if let Some(found) = naming_in(rows, seat, frames, frame, word)? {
-            return Ok(Some(found));
+        if names(rows, seat, frames, frame, word)? {
+            return Ok(Some(frame));
         }
     }
     Ok(None)
+}
+
+// The frame of a node that has a pair with this word: the first frame is looked at before all of them.
+pub(crate) fn named<R: Rows>(
+    rows: &mut R,
+    seat: &mut R::Seat,
+    frames: u32,
+    first: u32,
+    word: u64,
+) -> Result<Option<u32>, Refusal>
+    requires fits { R.fits rows.old seat.old }
+    requires sized { Sized (R.shape rows.old) (R.view seat.old) frames }
+    requires actor { may (R.shape rows.old).alone (R.view seat.old) pager ≡ true }
+    requires sound { IsSound (R.view seat.old).given }
+    ensures fits { R.fits rows.new seat.new × (R.shape rows.new ≡ R.shape rows.old) × ((R.view seat.new).held ≡ (R.view seat.old).held) }
+    ensures ok { IfOk result (λ found. NamedIn (R.shape rows.old) (R.view seat.old) frames word found (R.view seat.new)) }
+    ensures kept { IfOk result (λ _. Watched (R.shape rows.old).alone (R.view seat.old) (R.view seat.new)) }
+    ensures err { IfErr result (λ why. Missed (R.shape rows.old) (R.view seat.old) why (R.view seat.new)) }
+    ensures kind { IfErr result IsOthers }
+{
+    if first < frames {
+        if names(rows, seat, frames, first, word)? {
+            return Ok(Some(first));
+        }
+        return named_any(rows, seat, frames, word);
+    }
+    named_any(rows, seat, frames, word)
 }
 
 // The first pair with this word of the node in a frame.

@@ -8,6 +8,7 @@ mod cooling;
 mod evicting;
 mod fetching;
 mod finding;
+mod glancing;
 mod latching;
 mod laws;
 mod leaving;

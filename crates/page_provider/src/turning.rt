@@ -7,6 +7,7 @@ ghost use Rattle.page_provider.specs.Leaves.{HasHalted};
 ghost use Rattle.page_provider.specs.Providers.{Keeps};
 
 use crate::finding::candidate;
+use crate::glancing::is_hot;
 use crate::laws::laws;
 use crate::pager::Pager;
 use crate::refusal::Refusal;
@@ -15,8 +16,8 @@ use lean_proto::path::Path;
 use rows_trait::rows::Rows;
 
 impl Pager {
-    // Cools the page in a frame, or one that hangs under it, if there is one off the way.
-    fn step<R: Rows>(
+    // Cools the page that is seen in a frame, or one that hangs under it, if there is one off the way.
+    fn step_from<R: Rows>(
         &mut self,
         rows: &mut R,
         seat: &mut R::Seat,
@@ -42,6 +43,32 @@ impl Pager {
             return Ok(None);
         }
         self.cool_seen(rows, seat, &seen)
+    }
+
+    // Cools the page in a frame, or one that hangs under it, if there is one off the way.
+    fn step<R: Rows>(
+        &mut self,
+        rows: &mut R,
+        seat: &mut R::Seat,
+        frame: u32,
+        path: &Path,
+    ) -> Result<Option<Cooling>, Refusal>
+        requires fits { R.fits rows.old seat.old }
+        requires keeps { Keeps (R.shape rows.old) (R.view seat.old) self.old }
+        requires held { (R.view seat.old).held ≡ [] }
+        requires frame { frame < self.old.frames }
+        ensures fits { R.fits rows.new seat.new × (R.shape rows.new ≡ R.shape rows.old) }
+        ensures ok { IfOk result (λ done. Steps (R.shape rows.old) path.now frame (R.view seat.old) self.old done (R.view seat.new) self.new) }
+        ensures hand { IfOk result (λ _. self.new.hand ≡ self.old.hand) }
+        ensures err { IfErr result (λ why. Halts 2 (R.shape rows.old) (R.view seat.old) why (R.view seat.new)) }
+        ensures same { IfErr result (λ _. self.new ≡ self.old) }
+    {
+        laws();
+        // Most frames over which the hand goes in vain have no hot page, and one word says so.
+        if !is_hot(rows, seat, self.stage.frames(), frame)? {
+            return Ok(None);
+        }
+        self.step_from(rows, seat, frame, path)
     }
 
     // The hand goes over frames until a page was cooled.

@@ -1,6 +1,6 @@
 use Rattle.std.proofs.Common.{◌≡◌}
 use Rattle.page_provider.proofs.Sightings.{Unnamed}
-use Rattle.page_provider.proofs.finding.naming_any.Given as goal
+use Rattle.page_provider.proofs.finding.named_any.Given as goal
 
 abbrev pub invariant-loop-frame : goal.invariant-loop-frame
 invariant-loop-frame g l = record {

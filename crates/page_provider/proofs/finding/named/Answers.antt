@@ -1,0 +1,43 @@
+use Rattle.std.proofs.Common.{ℕ, Option}
+use Rattle.std.proofs.lemmas.Result.{IfErr-weaker, IfOk-weaker}
+use Rattle.row_image.specs.Looks.{Watched}
+use Rattle.row_image.proofs.Watching.{watched_shape, watched_then}
+use Rattle.page_provider.specs.Finds.{NamedIn}
+use Rattle.page_provider.specs.Inside.{Missed}
+use Rattle.page_provider.specs.declared.refusal.Refusal.{Refusal}
+use Rattle.page_provider.proofs.Peeks.{named_before}
+use Rattle.page_provider.proofs.Sightings.{missed_before, sound_still}
+use Rattle.page_provider.proofs.finding.named.Goals as goal
+
+pub named_any-requires-clause-sound : goal.named_any-requires-clause-sound
+named_any-requires-clause-sound g c = sound_still (g.R.Rows.view c.args.seat.now) (g.R.Rows.view c.names.new.seat) c.in_ok-names.ensures.kept.ran.given c.requires.sound
+
+pub returns-then-first-frames-clause-ok : goal.returns-then-first-frames-clause-ok
+returns-then-first-frames-clause-ok g c =
+    let v = g.R.Rows.view c.args.seat.now in
+    let u = g.R.Rows.view c.names.new.seat in
+    let w = g.R.Rows.view c.named_any.new.seat in
+    let o = c.in_ok-names.ensures in
+    let P : Option ℕ → Type 0 = λ x. NamedIn (g.R.Rows.shape c.names.new.rows) u c.args.frames c.args.word x w in
+    let Q : Option ℕ → Type 0 = λ x. NamedIn (g.R.Rows.shape c.args.rows.now) v c.args.frames c.args.word x w in
+    IfOk-weaker c.named_any.result P Q (λ x h. named_before c.args.frames c.args.word w x o.fits.1 o.kept h) c.named_any.ensures.ok
+
+pub returns-then-first-frames-clause-kept : goal.returns-then-first-frames-clause-kept
+returns-then-first-frames-clause-kept g c =
+    let v = g.R.Rows.view c.args.seat.now in
+    let u = g.R.Rows.view c.names.new.seat in
+    let w = g.R.Rows.view c.named_any.new.seat in
+    let o = c.in_ok-names.ensures in
+    let P : Option ℕ → Type 0 = λ _. Watched (g.R.Rows.shape c.names.new.rows).alone u w in
+    let Q : Option ℕ → Type 0 = λ _. Watched (g.R.Rows.shape c.args.rows.now).alone v w in
+    IfOk-weaker c.named_any.result P Q (λ x h. watched_then o.kept (watched_shape o.fits.1 h)) c.named_any.ensures.kept
+
+pub returns-then-first-frames-clause-err : goal.returns-then-first-frames-clause-err
+returns-then-first-frames-clause-err g c =
+    let v = g.R.Rows.view c.args.seat.now in
+    let u = g.R.Rows.view c.names.new.seat in
+    let w = g.R.Rows.view c.named_any.new.seat in
+    let o = c.in_ok-names.ensures in
+    let P : Refusal → Type 0 = λ why. Missed (g.R.Rows.shape c.names.new.rows) u why w in
+    let Q : Refusal → Type 0 = λ why. Missed (g.R.Rows.shape c.args.rows.now) v why w in
+    IfErr-weaker c.named_any.result P Q (λ why h. missed_before o.fits.1 o.kept h) c.named_any.ensures.err

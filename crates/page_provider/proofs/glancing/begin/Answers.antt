@@ -1,0 +1,42 @@
+use Rattle.row_words.specs.Moments.{pager}
+use Rattle.rows_trait.specs.Views.{may}
+use Rattle.version_latch.specs.Named.{missed}
+use Rattle.version_latch.proofs.Naming.{missed_silent}
+use Rattle.version_latch.proofs.Keeping.{looked_latest}
+use Rattle.row_image.proofs.Watching.{watched_start}
+use Rattle.row_image.proofs.Refusals.{start_refused}
+use Rattle.page_provider.proofs.glancing.begin.Goals as goal
+
+pub start-requires-clause-event : goal.start-requires-clause-event
+start-requires-clause-event g c n =
+    let v = g.R.Rows.view c.args.seat.now in
+    missed_silent (may (g.R.Rows.shape c.args.rows.now).alone v) v.given pager n c.requires.actor
+
+pub returns-in-Err-clause-fits : goal.returns-in-Err-clause-fits
+returns-in-Err-clause-fits g c = let e = c.in-Err.ensures.err in (c.in-Err.ensures.fits.0, c.in-Err.ensures.fits.1, e.2.held)
+
+pub returns-in-Ok-clause-fits : goal.returns-in-Ok-clause-fits
+returns-in-Ok-clause-fits g c = let o = c.in-Ok.ensures.ok in (c.in-Ok.ensures.fits.0, c.in-Ok.ensures.fits.1, o.3.held)
+
+pub returns-in-Err-clause-err : goal.returns-in-Err-clause-err
+returns-in-Err-clause-err g c =
+    let e = c.in-Err.ensures.err in
+    start_refused pager c.in-Err.latched c.requires.actor e.1 e.2 c.in-Err.ensures.cause
+
+pub returns-in-Ok-clause-ok : goal.returns-in-Ok-clause-ok
+returns-in-Ok-clause-ok g c =
+    let y = g.R.Rows.shape c.args.rows.now in
+    let v = g.R.Rows.view c.args.seat.now in
+    let w = g.R.Rows.view c.start.new.seat in
+    let o = c.in-Ok.ensures.ok in
+    let version = c.in-Ok.glimpse.version in (
+      o.0,
+      record {
+        watched = watched_start pager o.1 o.3;
+        free = o.1;
+        has = o.2;
+        found = c.in-Ok.ensures.since.1;
+        since = c.in-Ok.ensures.since.0;
+        last = looked_latest y c.args.row version (missed pager) v w o.3;
+      },
+    )
