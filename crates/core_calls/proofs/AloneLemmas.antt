@@ -5,6 +5,7 @@ use Rattle.map_model.specs.Maps.{MapAnswer}
 use Rattle.map_model.specs.Histories.{Step}
 use Rattle.map_model.specs.Journals.{Name}
 use Rattle.map_model.specs.Lists.{Has}
+use Rattle.map_model.specs.Pairings.{is_last}
 use Rattle.map_model.proofs.ListLemmas.{has_left}
 use Rattle.image_model.specs.Entries.{Entry, is_commit, touches, written}
 use Rattle.image_model.specs.Ends.{name_of}
@@ -24,17 +25,17 @@ use Rattle.core_commit.proofs.Runs.{good_run, good_start}
 use Rattle.core_crash.proofs.Ends.{one_end}
 use Rattle.core_crash.proofs.Journal.{commit_is_end}
 use Rattle.core_calls.specs.Marks.{Mark, Ended, back_in, mark, marks}
-use Rattle.core_calls.specs.Deeds.{Deed, Begun, Got, Changed, Deleted, Absent, Met, Paused, Over, Committed, Aborted, Refused, Synced, Checkpointed, Unsaid, put_backs, marks_of, reads_of, marks_for}
+use Rattle.core_calls.specs.Deeds.{Deed, Begun, Got, Changed, Deleted, Absent, Met, Paused, Over, Committed, Aborted, Refused, Synced, Checkpointed, Unsaid, answered, put_backs, marks_of, reads_of, marks_for}
 use Rattle.core_calls.specs.Refusals.{Limits}
 use Rattle.core_calls.specs.Fronts.{Done, front}
 use Rattle.core_calls.specs.Runs.{EachTells}
-use Rattle.core_calls.specs.Durables.{is_ripe, is_told, due, durables, AreOnce, moments, EveryDurable, EveryCommit}
+use Rattle.core_calls.specs.Durables.{is_ripe, is_told, due, durables, AreOnce, pending, moments, EveryDurable, EveryCommit}
 use Rattle.core_calls.specs.Alone.{names_by, commits_name, EveryAlone}
 use Rattle.core_calls.proofs.EntryLemmas.{Deal, deals_in, Adds, None_new, One_new, Begin_new, adds}
 use Rattle.core_calls.proofs.MarkLemmas.{commit_is}
 use Rattle.core_calls.proofs.RunLemmas.{marks_behind}
 use Rattle.core_calls.proofs.DurableLemmas.{has_later, recorded_of, entered, Ripe, ripe_from, ripe_to, ripe_later, told_from, due_has}
-use Rattle.core_calls.proofs.CommitLemmas.{session_commit, session_deal, up_to_moments}
+use Rattle.core_calls.proofs.CommitLemmas.{session_commit, session_deal, moments_open, up_to_last, up_to_next}
 
 -- ## What is touched
 
@@ -241,7 +242,7 @@ module _ (l : Limits) (g : Opening) (group : ℕ) (x : Done) (xs : List Done) (t
   stays e i = subst (λ (s : State). Has e s.entries) (sym (run_more g (start g) (front xs) x.events)) (has_later g x.events before e i)
 
   -- each commit stood before, or is the outcome's
-  new_or_old : (e : Entry) → Has e now.entries → is_commit e.kind ≡ true → Has e before.entries ⊎ OfOutcome x e
+  pub new_or_old : (e : Entry) → Has e now.entries → is_commit e.kind ≡ true → Has e before.entries ⊎ OfOutcome x e
   new_or_old e i k = go (x.outcome.session == e.log) refl (subst (λ (ms : List Mark). Has z (deals_in e.log ms)) newest d.1)
     where
       d : (d : Deal) × Has d (deals_in e.log (marks g (start g) (front (x ∷ xs)) e.log [])) × (d.number ≡ e.txn) × (d.at ≡ e.number)
@@ -306,15 +307,26 @@ module _ (need_laws : EveryNeed) (holders : EveryHolder) (floors : EveryFloor) (
           (same_end l g 1 x xs t y.0 e y.1 i r.commit k (ap (λ (m : Name). m.session) y.4 ∙ (c.session ∙ o.session)) (ap (λ (m : Name). m.number) y.4 ∙ c.number))
           r
 
+  -- a commit that stood before was told: none stands behind the last moment
+  was_told : (xs : List Done) → EachTells l g 1 xs → (e : Entry) → Has e (run g (start g) (front xs)).entries → is_commit e.kind ≡ true → is_told (durables g (moments xs)) e ≡ true
+  was_told [] t e i k = absurd i
+  was_told (x ∷ xs) t e i k = go (is_last (answered x.outcome.deed)) refl (was_told xs t.0 e)
+    where
+      behind : (Has e (run g (start g) (front xs)).entries → is_commit e.kind ≡ true → is_told (durables g (moments xs)) e ≡ true) → is_last (answered x.outcome.deed) ≡ false →
+          Has e (run g (start g) (front xs)).entries ⊎ OfOutcome x e → is_told (durables g (moments xs)) e ≡ true
+      behind ih q (inl j) = ih j k
+      behind ih q (inr o) = absurd (true≢false (sym (ap (λ (d : Deed). is_last (answered d)) o.deed) ∙ q))
+
+      go : (b : Bool) → is_last (answered x.outcome.deed) ≡ b → (Has e (run g (start g) (front xs)).entries → is_commit e.kind ≡ true → is_told (durables g (moments xs)) e ≡ true) →
+          is_told (durables g (moments (x ∷ xs))) e ≡ true
+      go true q ih = told_from (durables g (moments (x ∷ xs))) e ((durable g (moments (x ∷ xs))).all e
+          (subst (λ (es : List Event). Has e (run g (start g) es).entries) (sym (up_to_last x xs q)) i)
+          (subst (λ (es : List Event). is_ripe g (run g (start g) es) e ≡ true) (sym (up_to_last x xs q)) (ripe_from g (run g (start g) (front (x ∷ xs))) e (all_ripe (x ∷ xs) t e i k))))
+      go false q ih = ap (λ (ms : List (List Event)). is_told (durables g ms) e) (moments_open x xs q) ∙ behind ih q (new_or_old l g 1 x xs t e i k)
+
   module _ (x : Done) (xs : List Done) (t : EachTells l g 1 (x ∷ xs)) where
     abbrev lines : List Name
     lines = due g (run g (start g) (front (x ∷ xs))) (durables g (moments xs))
-
-    -- a commit that stood before was told
-    was_told : (e : Entry) → Has e (run g (start g) (front xs)).entries → is_commit e.kind ≡ true → is_told (durables g (moments xs)) e ≡ true
-    was_told e i k = told_from (durables g (moments xs)) e ((durable g (moments xs)).all e
-        (subst (λ (es : List Event). Has e (run g (start g) es).entries) (sym (up_to_moments xs)) i)
-        (subst (λ (es : List Event). is_ripe g (run g (start g) es) e ≡ true) (sym (up_to_moments xs)) (ripe_from g (run g (start g) (front xs)) e (all_ripe xs t.0 e i k))))
 
     -- what is due is the outcome's
     only : (m : Name) → Has m lines → commits_name x.outcome ≡ m ∷ []
@@ -327,7 +339,7 @@ module _ (need_laws : EveryNeed) (holders : EveryHolder) (floors : EveryFloor) (
         k = (ripe_to g (run g (start g) (front (x ∷ xs))) d.0 d.2).commit
 
         go : Has d.0 (run g (start g) (front xs)).entries ⊎ OfOutcome x d.0 → commits_name x.outcome ≡ m ∷ []
-        go (inl j) = absurd (true≢false (sym (was_told d.0 j k) ∙ d.3))
+        go (inl j) = absurd (true≢false (sym (was_told xs t.0 d.0 j k) ∙ d.3))
         go (inr o) = ap₂ names_by o.session o.deed ∙ ap (λ (n : Name). n ∷ []) d.4
 
     -- and the outcome's is due
@@ -355,7 +367,7 @@ module _ (need_laws : EveryNeed) (holders : EveryHolder) (floors : EveryFloor) (
 
     once : AreOnce lines
     once = once_left lines (durables g (moments xs))
-        (subst (λ (es : List Event). AreOnce (due g (run g (start g) es) (durables g (moments xs)) ++ durables g (moments xs))) (up_to_moments (x ∷ xs)) (durable g (x.events ∷ moments xs)).once)
+        (subst (λ (es : List Event). AreOnce (due g (run g (start g) es) (durables g (moments xs)) ++ durables g (moments xs))) (up_to_next x xs) (durable g ((pending xs ++ x.events) ∷ moments xs)).once)
 
     pub lines_are : lines ≡ commits_name x.outcome
     lines_are = as_one lines (commits_name x.outcome) once only due_at_once

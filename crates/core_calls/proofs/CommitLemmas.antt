@@ -2,9 +2,11 @@
 use Rattle.std.proofs.Common.{◌≡◌, ◌⊎◌, ◌≤◌, ◌<◌, ℕ, Bool, true, false, cond, ◌&&◌, leb, ltb, ◌==◌, List, [], ◌∷◌, ◌++◌, length, Option, refl, sym, ap, ◌∙◌, subst, inl, inr, arith, true≢false}
 use Rattle.core_crash.proofs.Journal.{commit_is_end}
 use Rattle.map_model.proofs.ListLemmas.{has_keep, keep_has, upd_same}
-use Rattle.std.proofs.lemmas.Bool.{cases_Bool, cases_eq, eq-eqb, ne_eqb, eqb-true, leb-true, ltb-true, le-leb, le-ltb, lt-ltb, and_parts, and_from, and_right, cond-true, cond-false, leb-false}
+use Rattle.std.proofs.lemmas.List.{append-nil, append_assoc}
+use Rattle.std.proofs.lemmas.Bool.{cases_Bool, cases_eq, eq-eqb, ne_eqb, eqb-true, le-ltb, lt-ltb, and_parts, and_from, and_right, cond-true, cond-false, leb-false}
 use Rattle.map_model.specs.Lists.{Has, keep}
 use Rattle.map_model.specs.Journals.{Name}
+use Rattle.map_model.specs.Pairings.{is_last}
 use Rattle.page_model.specs.Nodes.{Format}
 use Rattle.image_model.specs.Entries.{Kind, Entry, is_commit, is_end}
 use Rattle.image_model.specs.Ends.{name_of}
@@ -21,16 +23,16 @@ use Rattle.core_commit.proofs.Invariants.{Inv}
 use Rattle.core_commit.proofs.Runs.{Good, good_event, good_start}
 use Rattle.core_crash.proofs.Ends.{one_end}
 use Rattle.core_calls.specs.Marks.{Mark, Ended, mark, onto, marks}
-use Rattle.core_calls.specs.Deeds.{Deed, Committed, Synced, Unsaid, reads_of, marks_of, marks_for, marks_by}
+use Rattle.core_calls.specs.Deeds.{Deed, Committed, Synced, Unsaid, answered, reads_of, marks_of, marks_for, marks_by}
 use Rattle.core_calls.specs.Refusals.{Limits}
 use Rattle.core_calls.specs.Fronts.{Done, front, outcomes}
 use Rattle.core_calls.specs.LogEvents.{behind, Flushes, LogsGo}
 use Rattle.core_calls.specs.Runs.{EachTells}
-use Rattle.core_calls.specs.Durables.{is_told, up_to, durables, moments, CommitLaws, EveryCommit, EveryDurable, EverySynced}
-use Rattle.core_calls.proofs.EntryLemmas.{call_mark, entry_mark, Deal, deal_of, deals_of, deals_in, deal_onto, Adds, Quiet, Enters, Opens, None_new, One_new, Begin_new, adds, commit_record}
+use Rattle.core_calls.specs.Durables.{is_told, up_to, durables, pending, moments, CommitLaws, EveryCommit, EveryDurable, EverySynced}
+use Rattle.core_calls.proofs.EntryLemmas.{entry_mark, Deal, deal_of, deals_of, deals_in, Adds, None_new, One_new, Begin_new, adds, commit_record}
 use Rattle.core_calls.proofs.MarkLemmas.{is_by, marked}
 use Rattle.core_calls.proofs.RunLemmas.{marks_all}
-use Rattle.core_calls.proofs.DurableLemmas.{recorded_of, has_later, Ripe, ripe_from, ripe_to, was_ripe, has_due}
+use Rattle.core_calls.proofs.DurableLemmas.{recorded_of, has_later, ripe_from, ripe_to, was_ripe, has_due}
 
 -- ## The newest record of a log whose session has ended
 
@@ -204,9 +206,51 @@ some_behind h p e i k = go (keep p h) (has_keep p h e i k)
     go [] j = absurd j
     go (x ∷ l) j = omega arith
 
-pub up_to_moments : (xs : List Done) → up_to (moments xs) ≡ front xs
+-- ## The moments of a run
+
+-- nothing stands behind the last outcome of a line
+pub pending_last : (x : Done) (xs : List Done) → is_last (answered x.outcome.deed) ≡ true → pending (x ∷ xs) ≡ []
+pending_last x xs e = cond-true (is_last (answered x.outcome.deed)) [] (pending xs ++ x.events) e
+
+-- there a moment is
+pub moments_last : (x : Done) (xs : List Done) → is_last (answered x.outcome.deed) ≡ true → moments (x ∷ xs) ≡ (pending xs ++ x.events) ∷ moments xs
+moments_last x xs e = cond-true (is_last (answered x.outcome.deed)) ((pending xs ++ x.events) ∷ moments xs) (moments xs) e
+
+-- and behind no other one
+pub moments_open : (x : Done) (xs : List Done) → is_last (answered x.outcome.deed) ≡ false → moments (x ∷ xs) ≡ moments xs
+moments_open x xs e = cond-false (is_last (answered x.outcome.deed)) ((pending xs ++ x.events) ∷ moments xs) (moments xs) e
+
+-- with one moment more
+more_moments : (x : Done) (xs : List Done) → up_to (moments xs) ++ pending xs ≡ front xs → up_to ((pending xs ++ x.events) ∷ moments xs) ≡ front (x ∷ xs)
+more_moments x xs e = sym (append_assoc (up_to (moments xs)) (pending xs) x.events) ∙ ap (λ (l : List Event). l ++ x.events) e
+
+-- what happened up to the last moment, and behind it
+pub up_to_moments : (xs : List Done) → up_to (moments xs) ++ pending xs ≡ front xs
 up_to_moments [] = refl
-up_to_moments (x ∷ xs) = ap (λ (l : List Event). l ++ x.events) (up_to_moments xs)
+up_to_moments (x ∷ xs) = go (is_last (answered x.outcome.deed)) (more_moments x xs (up_to_moments xs))
+  where
+    go : (b : Bool) → up_to ((pending xs ++ x.events) ∷ moments xs) ≡ front (x ∷ xs) →
+        up_to (cond b ((pending xs ++ x.events) ∷ moments xs) (moments xs)) ++ cond b [] (pending xs ++ x.events) ≡ front (x ∷ xs)
+    go true e = append-nil (up_to ((pending xs ++ x.events) ∷ moments xs)) ∙ e
+    go false e = e
+
+-- where the next outcome is the last of its line, its moment has all that happened
+pub up_to_next : (x : Done) (xs : List Done) → up_to ((pending xs ++ x.events) ∷ moments xs) ≡ front (x ∷ xs)
+up_to_next x xs = more_moments x xs (up_to_moments xs)
+
+-- behind the last outcome of a line that is all
+pub up_to_last : (x : Done) (xs : List Done) → is_last (answered x.outcome.deed) ≡ true → up_to (moments (x ∷ xs)) ≡ front (x ∷ xs)
+up_to_last x xs e = ap up_to (moments_last x xs e) ∙ up_to_next x xs
+
+-- with what came later
+pub up_to_later : (xs : List Done) (later : List Event) → up_to (moments xs) ++ (pending xs ++ later) ≡ front xs ++ later
+up_to_later xs later = sym (append_assoc (up_to (moments xs)) (pending xs) later) ∙ ap (λ (l : List Event). l ++ later) (up_to_moments xs)
+
+-- what stood there at the last moment stands there
+pub since_moments : (g : Opening) (xs : List Done) (e : Entry) → Has e (state_after g (up_to (moments xs))).entries → Has e (state_after g (front xs)).entries
+since_moments g xs e i = subst (λ (s : State). Has e s.entries)
+    (sym (run_more g (start g) (up_to (moments xs)) (pending xs)) ∙ ap (λ (es : List Event). state_after g es) (up_to_moments xs))
+    (has_later g (pending xs) (state_after g (up_to (moments xs))) e i)
 
 module _ (rises : EveryRise) (l : Limits) (g : Opening) (group n at : ℕ) (x : Done) (xs : List Done) (t : EachTells l g group (x ∷ xs)) (d : x.outcome.deed ≡ Committed n at) where
   abbrev w : ℕ
@@ -278,7 +322,7 @@ module _ (rises : EveryRise) (l : Limits) (g : Opening) (group n at : ℕ) (x : 
       twice e =
           let i = was_ripe rises g (moments xs) (name_of found.entry) (Rattle.core_calls.proofs.DurableLemmas.told_to (durables g (moments xs)) found.entry e) in
           let y = i.0 in
-          let there = subst (λ (es : List Event). Has i.0 (run g (start g) es).entries) (up_to_moments xs) i.1 in
+          let there = since_moments g xs i.0 i.1 in
           let c = (ripe_to g (run g (start g) (up_to (moments xs))) i.0 i.2).commit in
           let later = subst (λ (s : State). Has i.0 s.entries) (sym (run_more g (start g) (front xs) x.events)) (has_later g x.events before i.0 there) in
           let same = one_end g (flushed_by_all g now) now.entries (recorded_of g (front (x ∷ xs))) i.0 found.entry later found.has (Rattle.core_crash.proofs.Journal.commit_is_end i.0.kind c) (Rattle.core_crash.proofs.Journal.commit_is_end found.entry.kind found.commit) (ap (λ (m : Name). m.session) i.3, ap (λ (m : Name). m.number) i.3) in
@@ -313,10 +357,15 @@ every_commit rises l g group n at x xs t d = commit_laws rises l g group n at x 
 
 pub every_synced : EveryDurable → EverySynced
 every_synced durable l g group at x xs t d e i k =
-    (durable g (moments (x ∷ xs))).synced (moments xs) logs.0 at (ap (λ (es : List Event). es ∷ moments xs) logs.1)
-    (subst (λ (es : List Event). may g (run g (start g) (es ++ logs.0)) (Event.Sync at) ≡ true) (sym (up_to_moments xs)) (subst (λ (s : State). may g s (Event.Sync at) ≡ true) (sym (run_more g (start g) (front xs) logs.0)) met))
-    e (subst (λ (es : List Event). Has e (run g (start g) es).entries) (sym (up_to_moments (x ∷ xs))) i) k
+    subst (λ (ms : List (List Event)). Has (name_of e) (durables g ms)) (sym (moments_last x xs last))
+    ((durable g ((pending xs ++ x.events) ∷ moments xs)).synced (moments xs) (pending xs ++ logs.0) at
+    (ap (λ (es : List Event). (pending xs ++ es) ∷ moments xs) logs.1 ∙ ap (λ (es : List Event). es ∷ moments xs) (sym (append_assoc (pending xs) logs.0 (Event.Sync at ∷ []))))
+    (subst (λ (es : List Event). may g (run g (start g) es) (Event.Sync at) ≡ true) (sym (up_to_later xs logs.0)) (subst (λ (s : State). may g s (Event.Sync at) ≡ true) (sym (run_more g (start g) (front xs) logs.0)) met))
+    e (subst (λ (es : List Event). Has e (run g (start g) es).entries) (sym (up_to_next x xs)) i) k)
   where
+    last : is_last (answered x.outcome.deed) ≡ true
+    last = ap (λ (y : Deed). is_last (answered y)) d
+
     logs : LogsGo l g group xs x.outcome.session (Synced at) x.events
     logs = subst (λ (y : Deed). LogsGo l g group xs x.outcome.session y x.events) d t.1.logs
 

@@ -21,12 +21,12 @@ use Rattle.core_calls.specs.Told.{SameTxn, ByThen, ToldLaws, EveryTold}
 use Rattle.core_calls.specs.Refusals.{Limits}
 use Rattle.core_calls.specs.Fronts.{Done, front, outcomes}
 use Rattle.core_calls.specs.Runs.{EachTells, Moment, Waiting, InHand, EveryRun}
-use Rattle.core_calls.specs.Durables.{moments, durables, IsKept, EveryDurable}
+use Rattle.core_calls.specs.Durables.{pending, moments, durables, IsKept, EveryDurable}
 use Rattle.core_calls.specs.Printed.{EveryPrinted}
 use Rattle.core_calls.specs.Crashes.{WithOneInHand, RunSurvives, EveryRunCrash}
 use Rattle.core_calls.proofs.TranscriptLemmas.{lines, lines_are, told_in}
 use Rattle.core_calls.proofs.RunLemmas.{marks_behind, marks_all, in_turn_all, answers_all}
-use Rattle.core_calls.proofs.CommitLemmas.{up_to_moments}
+use Rattle.core_calls.proofs.CommitLemmas.{up_to_later}
 use Rattle.core_calls.proofs.NumberLemmas.{number_of}
 use Rattle.core_calls.proofs.PairLemmas.{pair_of}
 use Rattle.core_calls.proofs.PrintedLemmas.{due_later}
@@ -93,10 +93,10 @@ module _ (laws : EveryTold) (durable : EveryDurable) (prints : EveryPrinted) (l 
         let u = pair_of SameTxn (journal (transcript xs)) (journal_in g (state_after g es)) (laws g es xs a).same v (b.only v j).0 in
         u.2.at ∙ number_of g es u.0 u.1 r i k (sym u.2.session ∙ p) (sym u.2.number ∙ q);
     survives = (laws g es xs a).crash faithful logs page c told_by_then by_then b;
-    reported = λ newer first q n i. subst (λ (f : List Event). IsKept g (run g (start g) (f ++ before)) logs page by_then n) (up_to_moments earlier)
-        ((durable g (moments earlier)).kept faithful before xs (subst (λ (f : List Event). Answers g (f ++ before) xs) (sym (up_to_moments earlier)) a) logs page
-        (subst (λ (f : List Event). Leaves g (f ++ before) logs page) (sym (up_to_moments earlier)) c) told_by_then by_then
-        (subst (λ (f : List Event). ByThen (image_of g (run g (start g) (f ++ before)) logs page) told_by_then (journal (transcript xs)) by_then) (sym (up_to_moments earlier)) b)
+    reported = λ newer first q n i. subst (λ (f : List Event). IsKept g (run g (start g) f) logs page by_then n) (up_to_later earlier before)
+        ((durable g (moments earlier)).kept faithful (pending earlier ++ before) xs (subst (λ (f : List Event). Answers g f xs) (sym (up_to_later earlier before)) a) logs page
+        (subst (λ (f : List Event). Leaves g f logs page) (sym (up_to_later earlier before)) c) told_by_then by_then
+        (subst (λ (f : List Event). ByThen (image_of g (run g (start g) f) logs page) told_by_then (journal (transcript xs)) by_then) (sym (up_to_later earlier before)) b)
         n (let f = (prints g earlier).first newer first q in subst (λ (k : List Done). Has n (durables g (moments k))) f.are (due_later g f.later f.heard n (f.reports n i))));
   }
 

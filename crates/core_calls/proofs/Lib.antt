@@ -30,3 +30,4 @@ pub mod OrderLemmas
 pub mod ReleaseLemmas
 pub mod ScanLemmas
 pub mod AloneLemmas
+pub mod LineCountLemmas

@@ -1,11 +1,11 @@
 -- What a run prints.
-use Rattle.std.proofs.Common.{◌≡◌, ◌⊎◌, ℕ, List, [], ◌∷◌, ◌++◌, reverse, refl, sym, ap, ap₂, ◌∙◌, subst, inl, inr}
+use Rattle.std.proofs.Common.{◌≡◌, ◌⊎◌, ℕ, Bool, true, false, cond, List, [], ◌∷◌, ◌++◌, reverse, refl, sym, ap, ap₂, ◌∙◌, subst, inl, inr}
 use Rattle.std.proofs.lemmas.List.{append-nil, append_assoc, reverse-append}
 use Rattle.map_model.specs.declared.call.Answer.{Answer}
 use Rattle.map_model.specs.declared.call.Answered.{Answered}
 use Rattle.map_model.specs.Lists.{Has}
 use Rattle.map_model.specs.Journals.{Name}
-use Rattle.map_model.specs.Pairings.{answers_in}
+use Rattle.map_model.specs.Pairings.{answers_in, is_last}
 use Rattle.map_model.specs.Outputs.{Reply, answer_of, answers_told, name_of, names}
 use Rattle.map_model.proofs.ListLemmas.{has_cases, has_left, has_right}
 use Rattle.core_state.specs.Openings.{Opening}
@@ -14,9 +14,9 @@ use Rattle.core_state.specs.Steps.{state_after}
 use Rattle.core_calls.proofs.PairLemmas.{none_before, none_behind}
 use Rattle.core_calls.specs.Deeds.{answered, in_words, transcript}
 use Rattle.core_calls.specs.Fronts.{Done, front, outcomes}
-use Rattle.core_calls.specs.Durables.{due, durables, moments}
-use Rattle.core_calls.specs.Printed.{durable_lines, printed, FirstLines, EveryPrinted}
-use Rattle.core_calls.proofs.CommitLemmas.{up_to_moments}
+use Rattle.core_calls.specs.Durables.{due, durables, pending, moments}
+use Rattle.core_calls.specs.Printed.{durable_lines, due_lines, printed, FirstLines, EveryPrinted}
+use Rattle.core_calls.proofs.CommitLemmas.{up_to_next}
 
 -- ## Lines behind lines
 
@@ -73,36 +73,51 @@ split (y ∷ n) f (x ∷ a) b e = go (split n f a b (ap rest e))
 
 -- ## All lines
 
--- the durable lines behind an outcome, and its answer with all before it
-abbrev last_lines : Opening → Done → List Done → List Reply
-last_lines g x xs = durable_lines (due g (state_after g (front (x ∷ xs))) (durables g (moments xs)))
+-- the lines behind an outcome are durable lines
+pub due_are : (g : Opening) (x : Done) (xs : List Done) → (ns : List Name) × (due_lines g xs x ≡ durable_lines ns) × (durables g (moments (x ∷ xs)) ≡ ns ++ durables g (moments xs))
+due_are g x xs = go (is_last (answered x.outcome.deed))
+  where
+    now : List Name
+    now = due g (state_after g (front (x ∷ xs))) (durables g (moments xs))
 
-abbrev earlier_lines : Opening → Done → List Done → List Reply
+    go : (b : Bool) → (ns : List Name) × (cond b (durable_lines now) [] ≡ durable_lines ns) × (durables g (cond b ((pending xs ++ x.events) ∷ moments xs) (moments xs)) ≡ ns ++ durables g (moments xs))
+    go true = (now, refl, ap (λ (es : List Event). due g (state_after g es) (durables g (moments xs)) ++ durables g (moments xs)) (up_to_next x xs))
+    go false = ([], refl, refl)
+
+-- and its answer with all before it
+abbrev pub earlier_lines : Opening → Done → List Done → List Reply
 earlier_lines g x xs = Reply.Answered x.outcome.session (answered x.outcome.deed) ∷ printed g xs
 
 -- with the answer to the newest
 with_answer : (g : Opening) (x : Done) (xs : List Done) → answers_told (printed g xs) ≡ answers_in (transcript (outcomes xs)) → answers_told (earlier_lines g x xs) ≡ answers_in (transcript (outcomes (x ∷ xs)))
 with_answer g x xs before = ap (λ (l : List (ℕ × Answer)). l ++ (x.outcome.session, answered x.outcome.deed) ∷ []) before ∙ sym (answers_in_both (transcript (outcomes xs)) (in_words x.outcome ∷ []))
 
+-- which answer nothing
+none_due : (g : Opening) (x : Done) (xs : List Done) → answers_told (due_lines g xs x) ≡ []
+none_due g x xs = let d = due_are g x xs in ap answers_told d.1 ∙ no_answers d.0
+
 all_answers : (g : Opening) (xs : List Done) → answers_told (printed g xs) ≡ answers_in (transcript (outcomes xs))
 all_answers g [] = refl
-all_answers g (x ∷ xs) = answers_both (last_lines g x xs) (earlier_lines g x xs)
-    ∙ (ap (λ (l : List (ℕ × Answer)). answers_told (earlier_lines g x xs) ++ l) (no_answers (due g (state_after g (front (x ∷ xs))) (durables g (moments xs))))
+all_answers g (x ∷ xs) = answers_both (due_lines g xs x) (earlier_lines g x xs)
+    ∙ (ap (λ (l : List (ℕ × Answer)). answers_told (earlier_lines g x xs) ++ l) (none_due g x xs)
     ∙ (append-nil (answers_told (earlier_lines g x xs)) ∙ with_answer g x xs (all_answers g xs)))
 
 all_names : (g : Opening) (xs : List Done) → names (printed g xs) ≡ reverse (durables g (moments xs))
 all_names g [] = refl
-all_names g (x ∷ xs) = names_both (last_lines g x xs) (earlier_lines g x xs)
-    ∙ (ap₂ (λ (a b : List Name). a ++ b) (append-nil (names (printed g xs)) ∙ all_names g xs) (names_of_lines (due g (state_after g (front (x ∷ xs))) (durables g (moments xs))))
-    ∙ (sym (reverse-append (due g (state_after g (front (x ∷ xs))) (durables g (moments xs))) (durables g (moments xs)))
-    ∙ ap (λ (es : List Event). reverse (due g (state_after g es) (durables g (moments xs)) ++ durables g (moments xs))) (sym (up_to_moments (x ∷ xs)))))
+all_names g (x ∷ xs) = let d = due_are g x xs in
+    names_both (due_lines g xs x) (earlier_lines g x xs)
+    ∙ (ap₂ (λ (a b : List Name). a ++ b) (append-nil (names (printed g xs)) ∙ all_names g xs) (ap names d.1 ∙ names_of_lines d.0)
+    ∙ (sym (reverse-append d.0 (durables g (moments xs)))
+    ∙ ap (λ (ns : List Name). reverse ns) (sym d.2)))
 
 -- ## The first of them
 
 -- what was due earlier is among what is due in the end
 pub due_later : (g : Opening) (later heard : List Done) (n : Name) → Has n (durables g (moments heard)) → Has n (durables g (moments (later ++ heard)))
 due_later g [] heard n h = h
-due_later g (x ∷ later) heard n h = has_right n (due g (state_after g (Rattle.core_calls.specs.Durables.up_to (moments (x ∷ (later ++ heard))))) (durables g (moments (later ++ heard)))) (durables g (moments (later ++ heard))) (due_later g later heard n h)
+due_later g (x ∷ later) heard n h =
+    let d = due_are g x (later ++ heard) in
+    subst (Has n) (sym d.2) (has_right n d.0 (durables g (moments (later ++ heard))) (due_later g later heard n h))
 
 -- up to the answer to x, or behind it
 cut_behind : (g : Opening) (x : Done) (xs : List Done) (newer c first : List Reply) → newer ++ first ≡ printed g (x ∷ xs) → answers_told c ≡ [] → first ≡ c ++ earlier_lines g x xs → FirstLines g (x ∷ xs) first
@@ -116,10 +131,10 @@ cut_behind g x xs newer c first e none is = record {
 
 first_lines : (g : Opening) (xs : List Done) (newer first : List Reply) → newer ++ first ≡ printed g xs → FirstLines g xs first
 first_lines g [] newer first e = record { later = []; heard = []; are = refl; answers = ap answers_told (none_behind newer first e); reports = λ n h. subst (Has n) (ap names (none_behind newer first e)) h }
-first_lines g (x ∷ xs) newer first e = go (λ n q. first_lines g xs n first q) (split newer first (last_lines g x xs) (earlier_lines g x xs) e)
+first_lines g (x ∷ xs) newer first e = go (λ n q. first_lines g xs n first q) (split newer first (due_lines g xs x) (earlier_lines g x xs) e)
   where
-    within : (c : List Reply) → newer ++ c ≡ last_lines g x xs → answers_told c ≡ []
-    within c q = none_before (answers_told c) (answers_told newer) (sym (answers_both newer c) ∙ (ap answers_told q ∙ no_answers (due g (state_after g (front (x ∷ xs))) (durables g (moments xs)))))
+    within : (c : List Reply) → newer ++ c ≡ due_lines g xs x → answers_told c ≡ []
+    within c q = none_before (answers_told c) (answers_told newer) (sym (answers_both newer c) ∙ (ap answers_told q ∙ none_due g x xs))
 
     rest : List Reply → List Reply
     rest [] = []
@@ -133,7 +148,7 @@ first_lines g (x ∷ xs) newer first e = go (λ n q. first_lines g xs n first q)
     before ih (y ∷ c) q = more (ih c (ap rest q))
 
     go : ((n : List Reply) → n ++ first ≡ printed g xs → FirstLines g xs first) →
-        ((c : List Reply) × (c ++ first ≡ earlier_lines g x xs)) ⊎ ((c : List Reply) × (newer ++ c ≡ last_lines g x xs) × (first ≡ c ++ earlier_lines g x xs)) → FirstLines g (x ∷ xs) first
+        ((c : List Reply) × (c ++ first ≡ earlier_lines g x xs)) ⊎ ((c : List Reply) × (newer ++ c ≡ due_lines g xs x) × (first ≡ c ++ earlier_lines g x xs)) → FirstLines g (x ∷ xs) first
     go ih (inl (c, q)) = before ih c q
     go ih (inr (c, p, q)) = cut_behind g x xs newer c first e (within c p) q
 

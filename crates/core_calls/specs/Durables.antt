@@ -1,8 +1,9 @@
 -- Which commits are to be told as durable, and when.
-use Rattle.std.specs.Prelude.{◌≡◌, ◌<◌, ℕ, Bool, true, ◌&&◌, not, leb, ◌==◌, List, [], ◌∷◌, ◌++◌, map}
+use Rattle.std.specs.Prelude.{◌≡◌, ◌<◌, ℕ, Bool, true, ◌&&◌, not, leb, ◌==◌, List, [], ◌∷◌, ◌++◌, map, if◌then◌else◌}
 use Rattle.map_model.specs.Lists.{Has, any, keep, in_order}
 use Rattle.map_model.specs.Journals.{Name, Txn, Journal}
 use Rattle.map_model.specs.Laws.{IsFalling}
+use Rattle.map_model.specs.Pairings.{is_last}
 use Rattle.map_model.specs.Transcripts.{journal}
 use Rattle.image_model.specs.Entries.{Entry, Contents, is_commit, earlier}
 use Rattle.image_model.specs.Ends.{name_of, names_of}
@@ -12,7 +13,7 @@ use Rattle.core_state.specs.Events.{Event}
 use Rattle.core_state.specs.Steps.{state_after}
 use Rattle.core_state.specs.Needs.{may}
 use Rattle.core_crash.specs.Crashes.{Leaves, image_of}
-use Rattle.core_calls.specs.Deeds.{Outcome, Committed, Synced, Answers, transcript}
+use Rattle.core_calls.specs.Deeds.{Outcome, Committed, Synced, Answers, answered, transcript}
 use Rattle.core_calls.specs.Told.{ByThen, kept_of}
 use Rattle.core_calls.specs.Refusals.{Limits}
 use Rattle.core_calls.specs.Fronts.{Done, front}
@@ -40,7 +41,7 @@ abbrev pub up_to : List (List Event) → List Event
 up_to [] = []
 up_to (es ∷ before) = up_to before ++ es
 
--- All durable lines, where at each of the moments those that were due were printed: behind each outcome, or behind each round.
+-- All durable lines, where at each of the moments those that were due were printed: behind the last outcome of each line, or behind each round.
 abbrev pub durables : Opening → List (List Event) → List Name
 durables g [] = []
 durables g (es ∷ before) = due g (state_after g (up_to (es ∷ before))) (durables g before) ++ durables g before
@@ -87,10 +88,15 @@ EveryDue = (g : Opening) (es : List Event) (told : List Name) → IsFalling (map
 
 -- ## Of a run
 
--- its moments: behind each outcome
+-- what happened behind the newest outcome that was the last of its line
+abbrev pub pending : List Done → List Event
+pending [] = []
+pending (x ∷ earlier) = if is_last (answered x.outcome.deed) then [] else pending earlier ++ x.events
+
+-- its moments: behind the last outcome of each line
 abbrev pub moments : List Done → List (List Event)
 moments [] = []
-moments (x ∷ earlier) = x.events ∷ moments earlier
+moments (x ∷ earlier) = if is_last (answered x.outcome.deed) then (pending earlier ++ x.events) ∷ moments earlier else moments earlier
 
 -- Behind a commit fewer than so many commits of its log wait to be flushed; where each is flushed, and it needs no other log, its line
 -- follows at once.

@@ -1,4 +1,4 @@
--- Read Marks, Deeds and Told; then Room, Refusals, Fronts, Steps, Scans, LogEvents and Runs; then Durables, Alone, Printed, Lines and Crashes.
+-- Read Marks, Deeds and Told; then Room, Refusals, Fronts, Steps, Scans, LogEvents and Runs; then Durables, Alone, Printed, Lines, LineCounts and Crashes.
 pub mod Marks
 pub mod Deeds
 pub mod Told
@@ -18,5 +18,6 @@ pub mod Printed
 pub mod Crashes
 pub mod Rounds
 pub mod Lines
+pub mod LineCounts
 pub mod Controls
 pub mod Rows

@@ -1,8 +1,8 @@
--- What a run prints: each answer, and behind it the durable lines that are due.
-use Rattle.std.specs.Prelude.{◌≡◌, List, [], ◌∷◌, ◌++◌, reverse}
+-- What a run prints: each answer, and behind the last one to a line the durable lines that are due.
+use Rattle.std.specs.Prelude.{◌≡◌, List, [], ◌∷◌, ◌++◌, reverse, if◌then◌else◌}
 use Rattle.map_model.specs.Lists.{Has}
 use Rattle.map_model.specs.Journals.{Name}
-use Rattle.map_model.specs.Pairings.{answers_in}
+use Rattle.map_model.specs.Pairings.{answers_in, is_last}
 use Rattle.map_model.specs.Outputs.{Reply, answers_told, names}
 use Rattle.core_state.specs.Openings.{Opening}
 use Rattle.core_state.specs.Steps.{state_after}
@@ -15,10 +15,14 @@ abbrev pub durable_lines : List Name → List Reply
 durable_lines [] = []
 durable_lines (n ∷ ns) = Reply.Durable n.session n.number ∷ durable_lines ns
 
+-- behind an outcome those that are due, if it is the last of its line
+abbrev pub due_lines : Opening → List Done → Done → List Reply
+due_lines g earlier x = if is_last (answered x.outcome.deed) then durable_lines (due g (state_after g (front (x ∷ earlier))) (durables g (moments earlier))) else []
+
 -- all lines, the last first
 abbrev pub printed : Opening → List Done → List Reply
 printed g [] = []
-printed g (x ∷ earlier) = durable_lines (due g (state_after g (front (x ∷ earlier))) (durables g (moments earlier))) ++ Reply.Answered x.outcome.session (answered x.outcome.deed) ∷ printed g earlier
+printed g (x ∷ earlier) = due_lines g earlier x ++ Reply.Answered x.outcome.session (answered x.outcome.deed) ∷ printed g earlier
 
 -- The first lines have the answers of the first outcomes, and report what was due behind these.
 pub record FirstLines (g : Opening) (xs : List Done) (first : List Reply) : Type 0 where

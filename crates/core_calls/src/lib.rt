@@ -7,6 +7,7 @@ ghost use Rattle.core_calls.specs.Crashes.{EveryRunCrash};
 ghost use Rattle.core_calls.specs.Durables.{EveryCommit, EveryDue, EveryDurable, EverySynced};
 ghost use Rattle.core_calls.specs.Counts.{EveryOrdered};
 ghost use Rattle.core_calls.specs.Controls.{EveryControl, EveryScanControl, EveryStepControl};
+ghost use Rattle.core_calls.specs.LineCounts.{EveryLineCount};
 ghost use Rattle.core_calls.specs.Lines.{EveryRoundScript, EveryScript};
 ghost use Rattle.core_calls.specs.LogEvents.{EveryWhere};
 ghost use Rattle.core_calls.specs.Presses.{EveryPress, WorkedPress};
@@ -132,6 +133,14 @@ pub fn every_script()
     map_model::every_script();
     map_model::every_count();
     every_printed();
+}
+
+/// Each line has at most so many answers as a scan may tell pairs, and two more; one that is no scan has at most two. There are
+/// no more durable lines than answers.
+pub fn every_line_count()
+    ensures { EveryLineCount }
+{
+    every_durable();
 }
 
 /// Who may not have a row is hindered by one, the holder or else the least other reader.

@@ -1,8 +1,9 @@
 -- Line by line.
-use Rattle.std.proofs.Common.{◌≡◌, inl, inr, ◌+◌, ℕ, false, true, List, [], ◌∷◌, ◌++◌, length, Option, Some, None, refl, sym, ap, ◌∙◌, subst, arith, append_assoc, Bool, true≢false}
+use Rattle.std.proofs.Common.{◌≡◌, inl, inr, ◌+◌, ℕ, false, true, List, [], ◌∷◌, ◌++◌, length, Option, Some, None, refl, sym, ap, ◌∙◌, subst, arith, append_assoc, Bool, cond, true≢false}
 use Rattle.std.proofs.lemmas.List.{append-nil, length-append}
 use Rattle.map_model.specs.Journals.{Journal, Name}
 use Rattle.map_model.specs.Outputs.{Reply}
+use Rattle.map_model.specs.Pairings.{is_last}
 use Rattle.image_model.specs.Images.{Image}
 use Rattle.core_state.specs.Openings.{Opening}
 use Rattle.core_state.specs.Events.{Event}
@@ -24,7 +25,7 @@ use Rattle.core_calls.specs.Durables.{due, durables}
 use Rattle.core_calls.specs.Durables as durable
 use Rattle.core_calls.specs.Fronts.{Done, front, outcomes}
 use Rattle.core_calls.specs.Marks.{Mark, Began, Called, Back, Ended, marks}
-use Rattle.core_calls.specs.Printed.{durable_lines, printed}
+use Rattle.core_calls.specs.Printed.{due_lines, durable_lines, printed}
 use Rattle.core_calls.specs.Refusals.{Limits}
 use Rattle.core_calls.specs.Runs.{EachTells}
 use Rattle.core_calls.proofs.RunLemmas.{marks_run, marks_more}
@@ -192,8 +193,16 @@ wider g Such Other so s0 m xs c r = record {
 
 -- ## Moments
 
-abbrev names_of : Opening → List Done → Done → List Name
-names_of g xs x = due g (state_after g (front (x ∷ xs))) (durables g (durable.moments xs))
+-- what is put behind the answer to an outcome is durable lines
+names_of : (g : Opening) (xs : List Done) (x : Done) → (ns : List Name) × (due_lines g xs x ≡ durable_lines ns)
+names_of g xs x = go (is_last (answered x.outcome.deed))
+  where
+    now : List Name
+    now = due g (state_after g (front (x ∷ xs))) (durables g (durable.moments xs))
+
+    go : (b : Bool) → (ns : List Name) × (cond b (durable_lines now) [] ≡ durable_lines ns)
+    go true = (now, refl)
+    go false = ([], refl)
 
 abbrev reply_of : Done → Reply
 reply_of x = Reply.Answered x.outcome.session (answered x.outcome.deed)
@@ -282,13 +291,13 @@ module _ (Such : List Done → List Event → Type 0) (reopened : EveryReopenedF
   }
     where
       d : Durables later
-      d = cut_off later o first (names_of g xs x) (reply_of x) split
+      d = let ns = names_of g xs x in cut_off later o first ns.0 (reply_of x) (split ∙ ap (λ (k : List Reply). k ++ reply_of x ∷ []) ns.1)
 
       lines : durable_lines d.0 ++ ((o ∷ first) ++ printed g xs) ≡ printed g (x ∷ xs)
       lines = ap (λ (k : List Reply). k ++ ((o ∷ first) ++ printed g xs)) d.1
           ∙ (sym (append_assoc later (o ∷ first) (printed g xs))
           ∙ (ap (λ (k : List Reply). k ++ printed g xs) split
-          ∙ append_assoc (durable_lines (names_of g xs x)) (reply_of x ∷ []) (printed g xs)))
+          ∙ append_assoc (due_lines g xs x) (reply_of x ∷ []) (printed g xs)))
 
   pub put : (xs : List Done) (c : Crash) (x : Done) → EachTells l g group (x ∷ xs) → IsOfRunBy (front (x ∷ xs)) m n → PutLeaves g xs x s0 n c → RunLeft g Such (x ∷ xs) s0 m c
   put xs c x t q h = go h.later h.first h.split h.notes

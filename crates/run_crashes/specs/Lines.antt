@@ -9,7 +9,6 @@ use Rattle.image_model.specs.Entries.{Entry, is_commit}
 use Rattle.image_model.specs.Images.{found, won_by}
 use Rattle.core_state.specs.Openings.{Opening, first_map}
 use Rattle.core_state.specs.Events.{Event}
-use Rattle.core_state.specs.Steps.{state_after}
 use Rattle.lean_disk.specs.Story.{Crash}
 use Rattle.disk_slots.specs.declared.master.Master.{Master}
 use Rattle.disk_image.specs.Shown.{Areas, DiskStandsFor, IsCleanDisk, image_by}
@@ -19,9 +18,8 @@ use Rattle.disk_runs.specs.Masters.{IsOfRunBy}
 use Rattle.disk_runs.specs.Moments.{LeavesSome}
 use Rattle.core_calls.specs.Crashes.{WithOneInHand}
 use Rattle.core_calls.specs.Deeds.{Outcome, answered}
-use Rattle.core_calls.specs.Durables.{due, durables, moments}
 use Rattle.core_calls.specs.Fronts.{Done, front, outcomes}
-use Rattle.core_calls.specs.Printed.{durable_lines, printed}
+use Rattle.core_calls.specs.Printed.{due_lines, durable_lines, printed}
 
 -- ## Where a crash fell
 
@@ -91,7 +89,7 @@ pub record RunLeft (g : Opening) (Such : List Done → List Event → Type 0) (x
 
 -- the lines of an outcome behind earlier ones
 abbrev pub lines_of : Opening → List Done → Done → List Reply
-lines_of g earlier x = durable_lines (due g (state_after g (front (x ∷ earlier))) (durables g (moments earlier))) ++ Reply.Answered x.outcome.session (answered x.outcome.deed) ∷ []
+lines_of g earlier x = due_lines g earlier x ++ Reply.Answered x.outcome.session (answered x.outcome.deed) ∷ []
 
 -- the notes where all lines of these outcomes are out
 abbrev pub notes_of : Opening → List Done → Crash → ℕ
