@@ -4,6 +4,7 @@ use Rattle.std.proofs.lemmas.List.{append-nil}
 use Rattle.map_model.specs.Lists.{any}
 use Rattle.map_model.specs.declared.call.Answer.{Answer}
 use Rattle.map_model.specs.declared.call.Call.{Call}
+use Rattle.map_model.specs.declared.call.Call.TheVariants as call
 use Rattle.core_state.specs.Openings.{Opening}
 use Rattle.core_state.specs.Events as happening
 use Rattle.core_state.specs.Local.{is_sync}
@@ -34,9 +35,14 @@ use Rattle.call_parts.specs.Deeds.{Answers, Does, Fails, Keeps, Stops}
 use Rattle.call_parts.specs.Laws.{EndLaws, EveryEnd}
 use Rattle.call_parts.specs.Memory.{IsOf, Memory}
 use Rattle.call_parts.specs.Parts.{Failed, FailsIn, GoesOn, Logged, Part}
-use Rattle.call_parts.specs.Rooms.{IsRoomFor, may_save, may_sync}
+use Rattle.call_parts.specs.Rooms.{IsRoomFor, may_save, may_sync, most_of}
 use Rattle.call_parts.proofs.AreaLemmas.{around_wider, within_wider}
 use Rattle.call_parts.proofs.RunLemmas.{behind_more}
+
+-- each call may have so many events
+pub most_least : (c : Call) → 2 ^ 18 ≤ most_of c
+most_least (call.Scan from to) = omega arith
+most_least _ = omega arith
 
 module _ (g : Opening) (group : ℕ) (xs : List Done) (own : ℕ) (half : Bool) (c : Call) (v : View) (was : Memory) (t : Ties g group xs own half v) (none : t.loads ≡ []) (old new : Story) where
   -- before its first event
@@ -133,7 +139,7 @@ module _ (g : Opening) (group : ℕ) (xs : List Done) (own : ℕ) (half : Bool) 
       leaves = λ s0 k b o. record { stops = Stops.Nothing es room (left s0 k b o); within = within s0 k b o };
     }
 
-    pub stops : (rest : List happening.Event) (x : Done) → es ++ rest ≡ x.events → x.outcome.session ≡ own → asked x.outcome.deed ≡ c → Tells limits g group xs x → length x.events ≤ 2 ^ 18 → Fails g group xs own c was old new
+    pub stops : (rest : List happening.Event) (x : Done) → es ++ rest ≡ x.events → x.outcome.session ≡ own → asked x.outcome.deed ≡ c → Tells limits g group xs x → length x.events ≤ most_of c → Fails g group xs own c was old new
     stops rest x is session asks tells few = record {
       frame = around;
       leaves = λ s0 k b o. record {

@@ -1,6 +1,6 @@
 -- What a call of an engine did, where pages come and go: its answer, by which events, what is in memory then, for what its disk stands, and what a crash at any
 -- moment of it leaves.
-use Rattle.std.specs.Prelude.{◌≡◌, ◌⊎◌, ◌≤◌, ◌<◌, ◌^◌, ◌++◌, ℕ, Bool, true, false, List, Some, length}
+use Rattle.std.specs.Prelude.{◌≡◌, ◌⊎◌, ◌≤◌, ◌<◌, ◌++◌, ℕ, Bool, true, false, List, Some, length}
 use Rattle.map_model.specs.Lists.{any}
 use Rattle.map_model.specs.declared.call.Answer.{Answer}
 use Rattle.map_model.specs.declared.call.Answer.TheVariants as answer
@@ -29,7 +29,7 @@ use Rattle.engine_trait.specs.Refusals.{IsRefusedFor, refusal_in}
 use Rattle.engine_trait.specs.Rooms.{MakesItsRoom}
 use Rattle.call_parts.specs.Areas.{Around, Beside, is_save}
 use Rattle.call_parts.specs.Memory.{IsOf, Memory}
-use Rattle.call_parts.specs.Rooms.{IsRoomFor, may_save, may_sync}
+use Rattle.call_parts.specs.Rooms.{IsRoomFor, may_save, may_sync, most_of}
 
 -- ## The answer
 
@@ -52,8 +52,8 @@ IsRefusedOr why a = (a ≡ answer.Refused why) ⊎ ((a ≡ answer.Refused refusa
 -- In the state behind all events of the call, with the log as it was before it, a refusal has its cause; it comes where the state before them has one, and then
 -- the tree is as it was. A put makes room for its key, and no call else changes the tree.
 pub record Answers (g : Opening) (xs : List Done) (x : Done) (was : Log) : Type 0 where
-  -- they are few, so in a run of fewer than 2^40 calls no latch is ever spent
-  pub few : length x.events ≤ 2 ^ 18
+  -- they are few, so in a run of fewer than 2^40 lines, and of fewer than 2^34 steps of scans and aborts behind them, no latch is ever spent
+  pub few : length x.events ≤ most_of (asked x.outcome.deed)
   pub refused : (why : Refusal) → answered x.outcome.deed ≡ answer.Refused why
       → IsRefusedFor g (state_after g (front xs ++ x.events)) x.outcome.session (is_half_done x.outcome.session xs) was (call_behind (outcomes xs) (asked x.outcome.deed)) why
   pub refuses : (why : Refusal) → IsSure g x.events why → refusal_in g (state_after g (front xs)) x.outcome.session (is_half_done x.outcome.session xs) was (call_behind (outcomes xs) (asked x.outcome.deed)) ≡ Some why
@@ -73,7 +73,7 @@ pub record Keeps (g : Opening) (group : ℕ) (xs : List Done) (x : Done) (s0 : C
 -- what one after the first events of a call that would be answered so.
 pub data Stops (g : Opening) (group : ℕ) (xs : List Done) (own : ℕ) (c : Call) (s0 : Crash) (k : Known) (old new : Story) : Type 0 where
   Nothing : (es : List Event) → IsRoomFor g xs own (call_behind (outcomes xs) c) es → LeavesOnly old new (CallLeaves g xs es s0 k.master) → Stops g group xs own c s0 k old new
-  Part : (x : Done) → asked x.outcome.deed ≡ c → x.outcome.session ≡ own → Tells limits g group xs x → length x.events ≤ 2 ^ 18 → LeavesOnly old new (CallLeaves g xs x.events s0 k.master) → Stops g group xs own c s0 k old new
+  Part : (x : Done) → asked x.outcome.deed ≡ c → x.outcome.session ≡ own → Tells limits g group xs x → length x.events ≤ most_of c → LeavesOnly old new (CallLeaves g xs x.events s0 k.master) → Stops g group xs own c s0 k old new
 
 -- and the areas in which it does nothing are as they were
 pub record Leaves (g : Opening) (group : ℕ) (xs : List Done) (own : ℕ) (c : Call) (s0 : Crash) (k : Known) (old new : Story) : Type 0 where

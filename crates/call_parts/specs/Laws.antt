@@ -1,5 +1,5 @@
 -- How parts of a call come about, how one goes on behind another, and how a call ends by them. The stories of a law are parameters, since a law over all is too large.
-use Rattle.std.specs.Prelude.{◌≡◌, ◌≤◌, ◌<◌, ◌^◌, ◌++◌, ◌||◌, ℕ, Bool, true, false, List, [], ◌∷◌, length}
+use Rattle.std.specs.Prelude.{◌≡◌, ◌≤◌, ◌<◌, ◌++◌, ◌||◌, ℕ, Bool, true, false, List, [], ◌∷◌, length}
 use Rattle.map_model.specs.Lists.{all, any}
 use Rattle.map_model.specs.declared.call.Answer.{Answer}
 use Rattle.map_model.specs.declared.call.Call.{Call}
@@ -37,7 +37,7 @@ use Rattle.call_parts.specs.Areas.{Apart, is_save}
 use Rattle.call_parts.specs.Deeds.{Answers, Does, Fails}
 use Rattle.call_parts.specs.Memory.{IsSame, Memory, with_own, with_slots}
 use Rattle.call_parts.specs.Parts.{Failed, Part}
-use Rattle.call_parts.specs.Rooms.{IsRoomFor, may_save, may_sync}
+use Rattle.call_parts.specs.Rooms.{IsRoomFor, may_save, may_sync, most_of}
 use Rattle.call_parts.specs.Steps.{Breaks, Enters, Flushes, Moves, Sees, SeesBetween, Stages, Still, StillBreaks, with_resident}
 
 -- ## What is seen, and which records are entered
@@ -144,7 +144,7 @@ pub record EndLaws (many : ℕ) (g : Opening) (group : ℕ) (xs : List Done) (ow
   pub fails : (saves syncs : Bool) (es : List happening.Event) → Failed many saves syncs es v was old new → (saves ≡ true → may_save xs c ≡ true) → (syncs ≡ true → may_sync g xs own c ≡ true)
       → IsRoomFor g xs own (call_behind (outcomes xs) c) es → Fails g group xs own c was old new
   pub stops : (saves syncs : Bool) (es rest : List happening.Event) (x : Done) → Failed many saves syncs es v was old new → (saves ≡ true → may_save xs c ≡ true) → (syncs ≡ true → may_sync g xs own c ≡ true)
-      → es ++ rest ≡ x.events → x.outcome.session ≡ own → asked x.outcome.deed ≡ c → Tells limits g group xs x → length x.events ≤ 2 ^ 18 → Fails g group xs own c was old new
+      → es ++ rest ≡ x.events → x.outcome.session ≡ own → asked x.outcome.deed ≡ c → Tells limits g group xs x → length x.events ≤ most_of c → Fails g group xs own c was old new
 
 -- where no loads of the opening are left, of as many logs as the rows have workers
 abbrev pub EveryEnd : (old new : Story) → Type 0

@@ -3,6 +3,7 @@ use Rattle.std.specs.Prelude.{◌≡◌, ◌==◌, ◌&&◌, ◌||◌, ◌≤◌
 use Rattle.map_model.specs.Lists.{all, any}
 use Rattle.map_model.specs.declared.call.Call.{Call}
 use Rattle.map_model.specs.declared.call.Call.TheVariants as call
+use Rattle.map_model.specs.Maps.{MapAnswer}
 use Rattle.core_state.specs.Openings.{Opening}
 use Rattle.core_state.specs.Events.{Event, Mode}
 use Rattle.core_state.specs.Steps.{state_after}
@@ -54,6 +55,16 @@ puts_back own _ = false
 abbrev pub AreBacks : (own : ℕ) → List Event → Type 0
 AreBacks own es = all (λ e. puts_back own e || is_paging e) es ≡ true
 
+-- session `own` takes a lock row shared, or passes a gap
+abbrev pub walks : (own : ℕ) → Event → Bool
+walks own (Event.Lock w i Mode.Shared) = w == own
+walks own (Event.Next w p k (MapAnswer.Gap high)) = w == own
+walks own _ = false
+
+-- each goes on with a walk, or moves pages
+abbrev pub AreWalk : (own : ℕ) → List Event → Type 0
+AreWalk own es = all (λ e. walks own e || is_paging e) es ≡ true
+
 -- of a call that needs a sync and of one that needs none
 abbrev pub AreReady : (syncs : Bool) → List Event → Type 0
 AreReady true es = all makes_sync es ≡ true
@@ -61,18 +72,24 @@ AreReady false es = es ≡ []
 
 -- ## By call
 
--- Behind these outcomes, by these events a put took its key's row and made room for the key, a get and a del took their rows, an abort put changes back, all of
--- which may move pages; a sync and a begin flushed logs for a sync; and any other call did nothing.
+-- Behind these outcomes, by these events a put took its key's row and made room for the key, a get and a del took their rows, a scan took rows and passed gaps, an
+-- abort put changes back, all of which may move pages; a sync and a begin flushed logs for a sync; and any other call did nothing.
 abbrev pub HasDoneFor : Opening → List Done → (own : ℕ) → Call → List Event → Type 0
 HasDoneFor g xs own (call.Put key value) es = AreRoom own (g.row_of key) Mode.Alone es × MakesRoom own g (state_after g (front xs)) key es
 HasDoneFor g xs own (call.Get key) es = AreRoom own (g.row_of key) Mode.Shared es × (any is_structure es ≡ false)
 HasDoneFor g xs own (call.Del key) es = AreRoom own (g.row_of key) Mode.Alone es × (any is_structure es ≡ false)
+HasDoneFor g xs own (call.Scan from to) es = AreWalk own es × (any is_structure es ≡ false)
 HasDoneFor g xs own call.Abort es = AreBacks own es
 HasDoneFor g xs own c es = AreReady (needs_sync g xs own c) es
 
+-- How many events a call has at most. A step of a scan may pass each leaf of the tree, for each of which the pages of its way may come.
+abbrev pub most_of : Call → ℕ
+most_of (call.Scan from to) = 2 ^ 26
+most_of c = 2 ^ 18
+
 -- and these are few
 abbrev pub IsRoomFor : Opening → List Done → (own : ℕ) → Call → List Event → Type 0
-IsRoomFor g xs own c es = HasDoneFor g xs own c es × (length es ≤ 2 ^ 18)
+IsRoomFor g xs own c es = HasDoneFor g xs own c es × (length es ≤ most_of c)
 
 -- the call looks at pages
 abbrev pub looks : Call → Bool

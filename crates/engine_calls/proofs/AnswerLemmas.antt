@@ -10,6 +10,7 @@ use Rattle.engine_calls.proofs.GetLemmas.{absent_tells, get_tells}
 use Rattle.engine_calls.proofs.HalfLemmas as halves
 use Rattle.engine_calls.proofs.PutLemmas.{del_tells, not_below, put_tells}
 use Rattle.engine_calls.proofs.RefusalLemmas as refusals
+use Rattle.engine_calls.proofs.ScanLemmas.{beyond_tells, met_tells, over_tells, paused_tells}
 
 pub every_answer : EveryAnswer
 every_answer l g group xs = record {
@@ -20,6 +21,10 @@ every_answer l g group xs = record {
       put_tells l g group xs before between w page key value was r i (ap (λ (c : Bool). cond c (MapCall.Put key value) (MapCall.Del key)) (lt-ltb value g.format.dead within));
   del = λ before between w page key was r i.
       del_tells l g group xs before between w page key was r i (ap (λ (c : Bool). cond c (MapCall.Put key g.format.dead) (MapCall.Del key)) (not_below g.format.dead));
+  met = met_tells l g group xs;
+  paused = paused_tells l g group xs;
+  over = over_tells l g group xs;
+  beyond = beyond_tells l g group xs;
   commit = commits.tells l g group xs;
   abort = λ c first w number at f rows r i. aborts.tells l g group xs c first w number at f rows r i;
   halved = halves.tells l g group xs;

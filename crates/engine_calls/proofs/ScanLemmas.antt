@@ -1,5 +1,5 @@
 -- A scan.
-use Rattle.std.proofs.Common.{◌≡◌, ℕ, Bool, true, false, cond, ◌==◌, ◌||◌, List, [], ◌∷◌, ◌++◌, Option, Some, refl, sym, ap, ◌∙◌, subst, true≢false}
+use Rattle.std.proofs.Common.{◌≡◌, ◌≤◌, ◌<◌, ℕ, suc, Bool, true, false, cond, ◌==◌, ◌||◌, List, [], ◌∷◌, ◌++◌, Option, Some, refl, sym, ap, ◌∙◌, subst, true≢false}
 use Rattle.map_model.specs.Lists.{any, keep}
 use Rattle.map_model.specs.Maps.{MapCall, MapAnswer}
 use Rattle.core_state.specs.Openings.{Opening}
@@ -10,12 +10,15 @@ use Rattle.core_state.specs.Steps.{state_after}
 use Rattle.core_state.proofs.Runs.{met_more}
 use Rattle.lean_disk.specs.Story.{Story}
 use Rattle.core_disk.specs.Versions.{EveryVersion}
-use Rattle.core_calls.specs.Fronts.{Done, front}
+use Rattle.core_calls.specs.Deeds.{Met, Over, Paused}
+use Rattle.core_calls.specs.Fronts.{Done, front, outcomes}
 use Rattle.core_calls.specs.Marks.{Called, Mark, marks}
-use Rattle.core_calls.specs.Steps.{is_step, is_structure}
+use Rattle.core_calls.specs.Refusals.{Limits}
+use Rattle.core_calls.specs.Runs.{Tells}
+use Rattle.core_calls.specs.Steps.{Walks, is_step, is_structure, met_last, scan_from}
 use Rattle.engine_calls.specs.Parts.{behind_first}
-use Rattle.engine_calls.specs.Puts.{is_alone}
-use Rattle.engine_calls.specs.Scans.{EveryScan, IsPair, IsScan, PassesGaps, pair_behind}
+use Rattle.engine_calls.specs.Puts.{IsWhole, is_alone}
+use Rattle.engine_calls.specs.Scans.{EveryScan, IsPair, IsScan, PassesGaps, pair_behind, scanned_by, unsaid_pair}
 use Rattle.core_calls.specs.LogEvents.{IsTightSomewhere}
 use Rattle.core_calls.proofs.WhereLemmas.{syncs_more}
 use Rattle.engine_calls.proofs.MarkLemmas.{any_append, either_false, fresh_append, fresh_none, has_mark, marks_last, marks_none, no_step}
@@ -62,95 +65,90 @@ module _ (g : Opening) (xs : List Done) (x : Done) (first : List Event) (w page 
       go true e false = refl
       go false e b = absurd (true≢false (sym e))
 
+-- ## What is told
+
+pub met_tells : (l : Limits) (g : Opening) (group : ℕ) (xs : List Done) (first : List Event) (w page at from to key v : ℕ) → let es = pair_behind first w page at key v in
+    let x = scanned_by w (Met from to key v (is_alone g xs first w key)) [] es in IsScan g xs x first → IsPair g xs first page key v → IsWhole xs w → key ≤ to → met_last (outcomes xs) < l.pairs
+    → Walks w (scan_from (outcomes xs) from) (keep is_step es) (λ n. n ≡ suc key) → Tells l g group xs x
+met_tells l g group xs first w page at from to key v i p whole low few walks = record {
+  met = i.met;
+  fresh = fresh_append g (state_after g (front xs)) first (Event.Next w page at (MapAnswer.Pair key v) ∷ []) (gaps_none first i.gaps) (tt, tt);
+  told = pair_told g xs _ first w page at key v refl i p;
+  in_turn = whole;
+  steps = (refl, low, few, walks);
+  hindered = i.comes.hindered;
+  goes_on = i.comes.goes_on;
+  structure = λ e. any_append is_structure first (Event.Next w page at (MapAnswer.Pair key v) ∷ []) i.structure refl;
+  logs = syncs_more (IsTightSomewhere g) g first (Event.Next w page at (MapAnswer.Pair key v) ∷ []) (state_after g (front xs)) false i.syncs tt;
+  refused = tt;
+  scans = i.rows;
+  released = λ e. absurd (true≢false (sym e));
+}
+
+pub paused_tells : (l : Limits) (g : Opening) (group : ℕ) (xs : List Done) (first : List Event) (w from to next : ℕ) → let x = scanned_by w (Paused from to next) [] first in IsScan g xs x first
+    → keep is_step first ≡ [] → met_last (outcomes xs) ≡ l.pairs → next ≡ scan_from (outcomes xs) from → next ≤ to → Tells l g group xs x
+paused_tells l g group xs first w from to next i none full is low = record {
+  met = i.met;
+  fresh = fresh_none g (state_after g (front xs)) first (gaps_none first i.gaps);
+  told = none_told g xs w first i.gaps;
+  in_turn = tt;
+  steps = (refl, none, full, is, low);
+  hindered = i.comes.hindered;
+  goes_on = i.comes.goes_on;
+  structure = λ e. i.structure;
+  logs = i.syncs;
+  refused = tt;
+  scans = tt;
+  released = λ e. absurd (true≢false (sym e));
+}
+
+pub over_tells : (l : Limits) (g : Opening) (group : ℕ) (xs : List Done) (first : List Event) (w from to : ℕ) → let x = scanned_by w (Over from to) [] first in IsScan g xs x first
+    → (met_last (outcomes xs) ≡ l.pairs → to < scan_from (outcomes xs) from) → Walks w (scan_from (outcomes xs) from) (keep is_step first) (λ n. to < n) → Tells l g group xs x
+over_tells l g group xs first w from to i all walks = record {
+  met = i.met;
+  fresh = fresh_none g (state_after g (front xs)) first (gaps_none first i.gaps);
+  told = none_told g xs w first i.gaps;
+  in_turn = tt;
+  steps = (tt, all, walks);
+  hindered = i.comes.hindered;
+  goes_on = i.comes.goes_on;
+  structure = λ e. i.structure;
+  logs = i.syncs;
+  refused = tt;
+  scans = i.rows;
+  released = λ e. absurd (true≢false (sym e));
+}
+
+pub beyond_tells : (l : Limits) (g : Opening) (group : ℕ) (xs : List Done) (first : List Event) (w page at from to key v : ℕ) → let es = pair_behind first w page at key v in
+    let x = scanned_by w (Over from to) (unsaid_pair g xs first w key v ∷ []) es in IsScan g xs x first → IsPair g xs first page key v → to < key
+    → (met_last (outcomes xs) ≡ l.pairs → to < scan_from (outcomes xs) from) → Walks w (scan_from (outcomes xs) from) (keep is_step es) (λ n. to < n) → Tells l g group xs x
+beyond_tells l g group xs first w page at from to key v i p above all walks = record {
+  met = i.met;
+  fresh = fresh_append g (state_after g (front xs)) first (Event.Next w page at (MapAnswer.Pair key v) ∷ []) (gaps_none first i.gaps) (tt, tt);
+  told = pair_told g xs _ first w page at key v refl i p;
+  in_turn = tt;
+  steps = ((above, tt), all, walks);
+  hindered = i.comes.hindered;
+  goes_on = i.comes.goes_on;
+  structure = λ e. any_append is_structure first (Event.Next w page at (MapAnswer.Pair key v) ∷ []) i.structure refl;
+  logs = syncs_more (IsTightSomewhere g) g first (Event.Next w page at (MapAnswer.Pair key v) ∷ []) (state_after g (front xs)) false i.syncs tt;
+  refused = tt;
+  scans = i.rows;
+  released = λ e. absurd (true≢false (sym e));
+}
+
+-- ## And of the disk
+
 pub every_scan : EveryVersion → (old new : Story) → EveryScan old new
 every_scan versions old new l g group xs s0 k a first w from to b = record {
   met = λ page at key v gone i p whole low few walks.
-      let es = pair_behind first w page at key v in
       let y = quiet l g group xs s0 k old new new first a b versions (Event.Next w page at (MapAnswer.Pair key v) ∷ []) refl gone in
-      record {
-        answer = record {
-          met = i.met;
-          fresh = fresh_append g (state_after g (front xs)) first (Event.Next w page at (MapAnswer.Pair key v) ∷ []) (gaps_none first i.gaps) (tt, tt);
-          told = pair_told g xs _ first w page at key v refl i p;
-          in_turn = whole;
-          steps = (refl, low, few, walks);
-          hindered = i.comes.hindered;
-          goes_on = i.comes.goes_on;
-          structure = λ e. any_append is_structure first (Event.Next w page at (MapAnswer.Pair key v) ∷ []) i.structure refl;
-          logs = syncs_more (IsTightSomewhere g) g first (Event.Next w page at (MapAnswer.Pair key v) ∷ []) (state_after g (front xs)) false i.syncs tt;
-          refused = tt;
-          scans = i.rows;
-          released = λ e. absurd (true≢false (sym e));
-        };
-        known = a;
-        no_earlier = y.no_earlier;
-        stands = y.stands;
-        notes = y.notes;
-        any_moment = y.any_moment;
-      };
-  paused = λ next gone i none full is low. record {
-    answer = record {
-      met = i.met;
-      fresh = fresh_none g (state_after g (front xs)) first (gaps_none first i.gaps);
-      told = none_told g xs w first i.gaps;
-      in_turn = tt;
-      steps = (refl, none, full, is, low);
-      hindered = i.comes.hindered;
-      goes_on = i.comes.goes_on;
-      structure = λ e. i.structure;
-      logs = i.syncs;
-      refused = tt;
-      scans = tt;
-      released = λ e. absurd (true≢false (sym e));
-    };
-    known = a;
-    no_earlier = gone.no_earlier;
-    stands = gone.stands;
-    notes = gone.notes;
-    any_moment = gone.any_moment;
-  };
-  over = λ gone i all walks. record {
-    answer = record {
-      met = i.met;
-      fresh = fresh_none g (state_after g (front xs)) first (gaps_none first i.gaps);
-      told = none_told g xs w first i.gaps;
-      in_turn = tt;
-      steps = (tt, all, walks);
-      hindered = i.comes.hindered;
-      goes_on = i.comes.goes_on;
-      structure = λ e. i.structure;
-      logs = i.syncs;
-      refused = tt;
-      scans = i.rows;
-      released = λ e. absurd (true≢false (sym e));
-    };
-    known = a;
-    no_earlier = gone.no_earlier;
-    stands = gone.stands;
-    notes = gone.notes;
-    any_moment = gone.any_moment;
-  };
+      record { answer = met_tells l g group xs first w page at from to key v i p whole low few walks; known = a; no_earlier = y.no_earlier; stands = y.stands; notes = y.notes; any_moment = y.any_moment };
+  paused = λ next gone i none full is low.
+      record { answer = paused_tells l g group xs first w from to next i none full is low; known = a; no_earlier = gone.no_earlier; stands = gone.stands; notes = gone.notes; any_moment = gone.any_moment };
+  over = λ gone i all walks.
+      record { answer = over_tells l g group xs first w from to i all walks; known = a; no_earlier = gone.no_earlier; stands = gone.stands; notes = gone.notes; any_moment = gone.any_moment };
   beyond = λ page at key v gone i p above all walks.
       let y = quiet l g group xs s0 k old new new first a b versions (Event.Next w page at (MapAnswer.Pair key v) ∷ []) refl gone in
-      record {
-        answer = record {
-          met = i.met;
-          fresh = fresh_append g (state_after g (front xs)) first (Event.Next w page at (MapAnswer.Pair key v) ∷ []) (gaps_none first i.gaps) (tt, tt);
-          told = pair_told g xs _ first w page at key v refl i p;
-          in_turn = tt;
-          steps = ((above, tt), all, walks);
-          hindered = i.comes.hindered;
-          goes_on = i.comes.goes_on;
-          structure = λ e. any_append is_structure first (Event.Next w page at (MapAnswer.Pair key v) ∷ []) i.structure refl;
-          logs = syncs_more (IsTightSomewhere g) g first (Event.Next w page at (MapAnswer.Pair key v) ∷ []) (state_after g (front xs)) false i.syncs tt;
-          refused = tt;
-          scans = i.rows;
-          released = λ e. absurd (true≢false (sym e));
-        };
-        known = a;
-        no_earlier = y.no_earlier;
-        stands = y.stands;
-        notes = y.notes;
-        any_moment = y.any_moment;
-      };
+      record { answer = beyond_tells l g group xs first w page at from to key v i p above all walks; known = a; no_earlier = y.no_earlier; stands = y.stands; notes = y.notes; any_moment = y.any_moment };
 }

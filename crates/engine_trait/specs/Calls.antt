@@ -32,12 +32,13 @@ pub record IsOf (g : Opening) (memory : Memory) (k : Known) : Type 0 where
 
 -- ## What may be asked and answered
 
--- a call that has come, with its key and its value in their ranges
+-- a call that has come, with its keys and its value in their ranges
 abbrev pub IsWithin : Call → Type 0
 IsWithin call.Begin = Unit {0}
 IsWithin (call.Get key) = key < key_end
 IsWithin (call.Put key value) = (key < key_end) × (value < value_end)
 IsWithin (call.Del key) = key < key_end
+IsWithin (call.Scan from to) = (from < key_end) × (to < key_end)
 IsWithin call.Commit = Unit {0}
 IsWithin call.Abort = Unit {0}
 IsWithin call.Sync = Unit {0}
@@ -70,6 +71,9 @@ abbrev pub HasCome : (sessions : ℕ) → Answer → Type 0
 HasCome sessions (answer.Begun number) = Unit {0}
 HasCome sessions (answer.Value value) = Unit {0}
 HasCome sessions (answer.Was value) = Unit {0}
+HasCome sessions (answer.Pair key value) = Unit {0}
+HasCome sessions (answer.More from) = Unit {0}
+HasCome sessions answer.End = Unit {0}
 HasCome sessions (answer.Committed number at) = Unit {0}
 HasCome sessions (answer.Aborted number) = Unit {0}
 HasCome sessions (answer.Synced at) = Unit {0}

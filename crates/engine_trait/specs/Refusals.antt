@@ -74,10 +74,16 @@ refusal_in g s own half log call.Begin = if (s.worker own).is_open then Some InT
 refusal_in g s own half log (call.Get key) = in_transaction s own half (lock_refusal g s own key Mode.Shared None)
 refusal_in g s own half log (call.Put key value) = in_transaction s own half (change_refusal s own log (lock_refusal g s own key Mode.Alone (met_refusal g s own key (if is_full_for g s key then room_refusal g s key else None))))
 refusal_in g s own half log (call.Del key) = in_transaction s own half (change_refusal s own log (lock_refusal g s own key Mode.Alone (met_refusal g s own key None)))
+refusal_in g s own half log (call.Scan from to) = in_transaction s own half None
 refusal_in g s own half log call.Commit = in_transaction s own half None
 refusal_in g s own half log call.Abort = in_transaction s own false None
 refusal_in g s own half log _ = None
 
--- so it is refused, or a latch that it needs has reached its end
+-- a scan met a row that another session holds: where, its events tell
+abbrev pub IsMetOnWay : Call → Refusal → Type 0
+IsMetOnWay (call.Scan from to) (Conflict h) = Unit {0}
+IsMetOnWay c why = ⊥
+
+-- so it is refused, or a latch that it needs has reached its end, or a scan came to a row that it may not have
 abbrev pub IsRefusedFor : Opening → State → (own : ℕ) → (half : Bool) → Log → Call → Refusal → Type 0
-IsRefusedFor g s own half log c why = (refusal_in g s own half log c ≡ Some why) ⊎ (why ≡ RowSpent)
+IsRefusedFor g s own half log c why = (refusal_in g s own half log c ≡ Some why) ⊎ ((why ≡ RowSpent) ⊎ IsMetOnWay c why)

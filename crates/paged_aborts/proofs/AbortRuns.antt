@@ -44,6 +44,7 @@ use Rattle.session_state.specs.Holds.{Holds}
 use Rattle.session_state.specs.Ties.{Behind}
 use Rattle.session_state.specs.declared.session.Session.{Session}
 use Rattle.worker_log.specs.Logs.{Log}
+use Rattle.call_parts.proofs.EndLemmas.{most_least}
 use Rattle.call_parts.proofs.RunLemmas.{behind_more, core_is}
 use Rattle.call_parts.proofs.StepLemmas.{every_step}
 use Rattle.call_parts.specs.Deeds.{Answers, Fails}
@@ -242,8 +243,8 @@ module _ (l : Grounds) (answers : EveryAnswer) (coming : EveryComing) (frames : 
 
       how : Answers g xs half_done log
       how = record {
-        few = few;
-        refused = λ why e. inr (sym (refused_is refusal.RowSpent why e));
+        few = let a = few in let b = most_least c in omega arith;
+        refused = λ why e. inr (inl (sym (refused_is refusal.RowSpent why e)));
         refuses = λ why sure e. inr (inl refl);
         still = λ _ _. facts.structure;
         room = subst (λ d. MakesItsRoom own g at d fs) (sym asks) facts.structure;

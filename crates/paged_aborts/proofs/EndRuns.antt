@@ -55,6 +55,7 @@ use Rattle.session_state.specs.Holds.{Holds, IsOf, IsSameSession}
 use Rattle.session_state.specs.Ties.{Behind}
 use Rattle.session_state.specs.declared.session.Session.{Session}
 use Rattle.worker_log.specs.Logs.{Log}
+use Rattle.call_parts.proofs.EndLemmas.{most_least}
 use Rattle.call_parts.proofs.JoinLemmas.{every_join}
 use Rattle.call_parts.proofs.MemoryLemmas.{every_memory}
 use Rattle.call_parts.proofs.OwnLemmas.{every_own}
@@ -283,7 +284,7 @@ module _ (l : Grounds) (answers : EveryAnswer) (coming : EveryComing) (entries :
 
   how : Answers g xs done log
   how = record {
-    few = few;
+    few = let p = few in let q = most_least c in omega arith;
     refused = λ why q. absurd (cc);
     refuses = λ why sure q. absurd (not_refused why (at.worker mine).is_open (runs.open_is l answers coming frames story lawful m ready c g xs many tied halves due ∙ opened) (subst (λ (d : Call). refusal_in g at mine (is_half_done mine xs) log d ≡ Some why) asks q));
     still = λ _ _. structure;

@@ -64,6 +64,7 @@ use Rattle.session_state.specs.Staging.{KeepsLog}
 use Rattle.session_state.specs.Ties.{Behind}
 use Rattle.session_state.specs.declared.session.Session.{Session}
 use Rattle.worker_log.specs.Logs.{Log, limit, used}
+use Rattle.call_parts.proofs.EndLemmas.{most_least}
 use Rattle.call_parts.proofs.SightLemmas.{every_enter}
 use Rattle.call_parts.proofs.MemoryLemmas.{every_memory}
 use Rattle.call_parts.proofs.OwnLemmas.{every_own}
@@ -221,7 +222,7 @@ module _ (l : Grounds) (answers : EveryAnswer) (coming : EveryComing) {D : Type 
 
     -- since its row is not to be had
     pub not_taken : change_test x log ≡ None → (why : Refusal) → NotTaken why v (view_of n) own (key % x.held.count) Alone → DoesTied g x.group xs own c (answer.Refused why) (memory m) n (story m.machine.work.disk) (story n.machine.work.disk)
-    not_taken none refusal.RowSpent s = refused_now refusal.RowSpent (inl refl) (spent_end g xs [] (view_of n) (behind_as g xs [] v (view_of n) s.given s.seen b0) s.many) (inr refl) (λ q r. inr (inl refl))
+    not_taken none refusal.RowSpent s = refused_now refusal.RowSpent (inl refl) (spent_end g xs [] (view_of n) (behind_as g xs [] v (view_of n) s.given s.seen b0) s.many) (inr (inl refl)) (λ q r. inr (inl refl))
     not_taken none (refusal.Conflict h) s = refused_now (refusal.Conflict h) refl (hindered_of c key of_key g at own h hinders) (inl now) (λ q r. inl (some_is (refusal.Conflict h) q (sym now ∙ r)))
       where
         hinders : Hinders (at.row (g.row_of key)) own happening.Mode.Alone h
@@ -507,7 +508,7 @@ module _ (l : Grounds) (answers : EveryAnswer) (coming : EveryComing) {D : Type 
 
             how : Answers g xs (changed_by d first own a.page key word) log
             how = record {
-              few = change_few;
+              few = let p = change_few in let q = most_least (asked d) in omega arith;
               refused = λ why q. absurd (no_refusal why q);
               refuses = λ why sure q. absurd (unrefused why (ap (refusal_in g at own is_half_aborted log) (sym asked_too) ∙ q));
               still = λ _ _. change_structure;

@@ -129,7 +129,7 @@ module _ (l : Grounds) (answers : EveryAnswer) (coming : EveryComing) {D : Type 
 
     -- the row is not to be had
     pub not_taken : x.is_open ≡ true → x.is_half_aborted ≡ false → (why : Refusal) → NotTaken why v (view_of n) own (key % x.held.count) Shared → DoesTied g x.group xs own (call.Get key) (answer.Refused why) (memory m) n (story m.machine.work.disk) (story n.machine.work.disk)
-    not_taken is_open whole refusal.RowSpent s = refused_now refusal.RowSpent (inl refl) (spent_end g xs [] (view_of n) (behind_as g xs [] v (view_of n) s.given s.seen b0) s.many) (inr refl) (λ q r. inr (inl refl))
+    not_taken is_open whole refusal.RowSpent s = refused_now refusal.RowSpent (inl refl) (spent_end g xs [] (view_of n) (behind_as g xs [] v (view_of n) s.given s.seen b0) s.many) (inr (inl refl)) (λ q r. inr (inl refl))
     not_taken is_open whole (refusal.Conflict h) s = refused_now (refusal.Conflict h) refl hinders (inl now) (λ q r. inl (some_is (refusal.Conflict h) q (sym now ∙ r)))
       where
         hinders : Hinders (at.row (g.row_of key)) own happening.Mode.Shared h

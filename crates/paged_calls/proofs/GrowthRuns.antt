@@ -349,7 +349,7 @@ module _ (l : Grounds) (residence : EveryResidence) (answers : EveryAnswer) (com
             omega arith
 
         pub put_spent : IsSpent u n → DoesTied g x.group xs own c (answer.Refused refusal.RowSpent) (memory m) n (story m.machine.work.disk) (story n.machine.work.disk)
-        put_spent s = refused refusal.RowSpent refl (inr refl) (late (tied.ties own).told s) (inr refl) (λ q e. inr (inl refl)) (pressed refusal.RowSpent tight)
+        put_spent s = refused refusal.RowSpent refl (inr refl) (late (tied.ties own).told s) (inr (inl refl)) (λ q e. inr (inl refl)) (pressed refusal.RowSpent tight)
 
         -- what else is tested there
         module _ (f : IsGoing n) where

@@ -45,6 +45,7 @@ use Rattle.session_state.specs.Holds.{Holds}
 use Rattle.session_state.specs.Ties.{Behind}
 use Rattle.session_state.specs.declared.session.Session.{Session}
 use Rattle.worker_log.specs.Logs.{Log}
+use Rattle.call_parts.proofs.EndLemmas.{most_least}
 use Rattle.call_parts.proofs.RunLemmas.{behind_more, core_is}
 use Rattle.call_parts.specs.Deeds.{Fails}
 use Rattle.call_parts.specs.Memory.{Memory}
@@ -212,7 +213,7 @@ module _ (l : Grounds) (answers : EveryAnswer) (coming : EveryComing) {D : Type 
   pub shown : (why : Refusal) (es : List happening.Event) → length es ≤ 2 ^ 18 → IsRefusedFor g (state_after g (front xs ++ es)) own (is_half_done own xs) log c why → ((q : Refusal) → refusal_in g at own (is_half_done own xs) log c ≡ Some q → IsOr why q)
       → any is_structure es ≡ false → IsAnswerTo g xs own c why es log
   shown why es few is_for refuses structure = record {
-    few = few;
+    few = let a = few in let b = most_least c in omega arith;
     is_for = subst (λ d. IsRefusedFor g (state_after g (front xs ++ es)) own (is_half_done own xs) log d why) (sym asks) is_for;
     refuses = λ q e. refuses q (ap (refusal_in g at own (is_half_done own xs) log) (sym asks) ∙ e);
     still = λ q e. structure;
@@ -320,7 +321,7 @@ module _ (l : Grounds) (answers : EveryAnswer) (coming : EveryComing) {D : Type 
           refused_tied l m n (story m.machine.work.disk) (story n.machine.work.disk) (lawful m.machine.work.disk) g xs workers tied halves (told.Lock own row (event_mode mode) ∷ come.events) so_far logged as_many answers own c refusal.RowSpent refl low high
           (is_refusal refusal.RowSpent (lock ∷ moves) (so_far.logged g xs [] b0).met (subst (TakesRows own) (sym kept) (refl, tt))
           (subst (λ ys. (ys ≡ []) ⊎ (ys ≡ happening.Event.Lock own (g.row_of key) how_held ∷ [])) (sym kept) (inr (ap (λ i. happening.Event.Lock own i how_held ∷ []) (sym row_is)))) no_structure (late (tied.ties own).told s) (due_spent g xs own c key how_held of_key asks (lock ∷ moves) tight))
-          (shown refusal.RowSpent (lock ∷ moves) (let a = few in omega arith) (inr refl) (λ q r. inr (inl refl)) no_structure)
+          (shown refusal.RowSpent (lock ∷ moves) (let a = few in omega arith) (inr (inl refl)) (λ q r. inr (inl refl)) no_structure)
           half_all
         where
           kept : keep is_step (lock ∷ moves) ≡ lock ∷ []

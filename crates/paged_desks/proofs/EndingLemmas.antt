@@ -1,5 +1,5 @@
 -- How a call ends in a run: by one outcome more, to which the machine is tied; or by a fault.
-use Rattle.std.proofs.Common.{◌≡◌, ◌∙◌, ◌≤◌, ◌<◌, ◌^◌, ◌==◌, ◌++◌, ◌||◌, ◌⊎◌, inl, inr, ℕ, true, false, cond, List, [], ◌∷◌, Some, length, ap, refl, sym, subst, arith, append-nil}
+use Rattle.std.proofs.Common.{◌≡◌, ◌∙◌, ◌≤◌, ◌<◌, ◌==◌, ◌++◌, ◌||◌, ◌⊎◌, inl, inr, ℕ, true, false, cond, List, [], ◌∷◌, Some, length, ap, refl, sym, subst, arith, append-nil}
 use Rattle.std.proofs.lemmas.Bool.{cases_eq, cond-false, eq-eqb, ne_eqb}
 use Rattle.map_model.specs.Lists.{any}
 use Rattle.map_model.specs.declared.call.Answer.{Answer}
@@ -47,7 +47,7 @@ use Rattle.call_parts.specs.Deeds.{Answers, Does, Fails, IsRefusedOr, Keeps}
 use Rattle.call_parts.specs.Laws.{EndLaws}
 use Rattle.call_parts.specs.Memory.{IsOf, Memory}
 use Rattle.call_parts.specs.Parts.{Failed, GoesOn, Part}
-use Rattle.call_parts.specs.Rooms.{IsRoomFor, looks, may_save}
+use Rattle.call_parts.specs.Rooms.{IsRoomFor, looks, may_save, most_of}
 use Rattle.engine_trait.specs.Rooms.{needs_sync}
 use Rattle.paged_desks.specs.Machines.{memory, view_of}
 use Rattle.paged_desks.specs.declared.machine.PagedMachine.{PagedMachine}
@@ -97,7 +97,7 @@ IsOr why q = (why ≡ q) ⊎ ((why ≡ refusal.RowSpent) ⊎ (why ≡ refusal.Cl
 
 -- what a call that is refused by these events has to show beside its cause
 pub record IsAnswerTo (g : Opening) (xs : List Done) (own : ℕ) (c : Call) (why : Refusal) (es : List happening.Event) (log : Log) : Type 0 where
-  pub few : length es ≤ 2 ^ 18
+  pub few : length es ≤ most_of c
   pub is_for : IsRefusedFor g (state_after g (front xs ++ es)) own (is_half_done own xs) log (call_behind (outcomes xs) c) why
   pub refuses : (q : Refusal) → refusal_in g (state_after g (front xs)) own (is_half_done own xs) log (call_behind (outcomes xs) c) ≡ Some q → IsOr why q
   pub still : (q : Refusal) → refusal_in g (state_after g (front xs)) own (is_half_done own xs) log (call_behind (outcomes xs) c) ≡ Some q → any is_structure es ≡ false

@@ -12,6 +12,7 @@ use Rattle.desk_parts.specs.Pages.{HasSlots}
 use Rattle.disk_slots.specs.declared.master.Master.{Master}
 use Rattle.image_model.specs.Entries.{Entry, is_record}
 use Rattle.lean_disk.specs.Story.{Story, Tells}
+use Rattle.map_model.specs.Maps.{MapAnswer}
 use Rattle.map_model.specs.Lists.{Has}
 use Rattle.page_calls.specs.Mirrors.{Mirrors}
 use Rattle.page_pool.specs.Pools.{Agrees, Pool}
@@ -19,6 +20,7 @@ use Rattle.page_provider.specs.Mirrored.{IsMirrored}
 use Rattle.page_provider.specs.Providers.{IsKept, Keeps, Provider, pool}
 use Rattle.row_words.specs.declared.event.Event.{Event}
 use Rattle.row_words.specs.declared.event.Event.TheVariants as told
+use Rattle.row_words.specs.declared.event.Met.TheVariants as met
 use Rattle.row_words.specs.declared.given.Given.{Given}
 use Rattle.row_words.specs.Moments.{Moment, event_of, mode_of}
 use Rattle.row_words.specs.Openings.{opening}
@@ -71,11 +73,12 @@ looked_none s = record { entries = s.entries; row = s.row; worker = s.worker; is
 pub looked_same : (v w : View) → w.given ≡ v.given → w.seen ≡ v.seen → IsLooked (state v).core (state w).core
 looked_same v w given seen = subst (λ (m : Moment). IsLooked (state v).core m.core) (λ i. after_all (sym given i) (sym seen i)) (looked_none (state v).core)
 
--- it takes a row, or reads, or begins
+-- it takes a row, reads or walks, or begins
 abbrev pub IsLook : Event → Type 0
 IsLook (told.Begin w f) = Unit {0}
 IsLook (told.Lock w i mode) = Unit {0}
 IsLook (told.Read w p k a) = Unit {0}
+IsLook (told.Next w p k a) = Unit {0}
 IsLook _ = ⊥
 
 looked_event : (g : Opening) (s : State) (e : Event) → IsLook e → IsLooked s (happens g s (event_of e))
@@ -86,6 +89,12 @@ looked_event g s (told.Read w p key a) k = let t = happens g s (happening.Event.
     less : (r : Entry) → is_record r.kind ≡ true → Has r (happens g s (happening.Event.Read w p key a)).entries → Has r s.entries
     less r is (inl e) = absurd (true≢false (sym is ∙ ap (λ (q : Entry). is_record q.kind) e))
     less r is (inr h) = h
+looked_event g s (told.Next w p key (met.Pair j x)) k = let t = happens g s (happening.Event.Next w p key (MapAnswer.Pair j x)) in record { entries = t.entries; row = t.row; worker = t.worker; is = refl; more = λ r h. inr h; less = less }
+  where
+    less : (r : Entry) → is_record r.kind ≡ true → Has r (happens g s (happening.Event.Next w p key (MapAnswer.Pair j x))).entries → Has r s.entries
+    less r is (inl e) = absurd (true≢false (sym is ∙ ap (λ (q : Entry). is_record q.kind) e))
+    less r is (inr h) = h
+looked_event g s (told.Next w p key (met.Gap high)) k = let t = happens g s (happening.Event.Next w p key (MapAnswer.Gap high)) in record { entries = t.entries; row = t.row; worker = t.worker; is = refl; more = λ r h. h; less = λ r k h. h }
 looked_event g s _ k = absurd k
 
 step_core : (v : Given) (m : Moment) (e : Event) → (stepped v m e).core ≡ cond (may (opening v) m.core (event_of e)) (happens (opening v) m.core (event_of e)) m.core

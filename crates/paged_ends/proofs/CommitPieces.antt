@@ -247,7 +247,7 @@ module _ (l : Grounds) (answers : EveryAnswer) (coming : EveryComing) {D : Type 
         })
         (record {
           few = let c = length_events es in let d = k.missed.few in let e = held.fewer in let f = held.rows.few in omega arith;
-          is_for = inr refl;
+          is_for = inr (inl refl);
           refuses = λ q e. inr (inl refl);
           still = λ q e. misses_structure es k.missed.are_misses;
           room = subst (λ (d : Call). MakesItsRoom own g s d first) (sym asks) (misses_structure es k.missed.are_misses);

@@ -42,7 +42,7 @@ spent_does l answers coming story lawful m ready half own c due tries room g xs 
     refused_half l m m st st (lawful m.machine.work.disk) g xs many tied halves [] part ready.logged (refl, refl) answers own c refusal.RowSpent is_refused
     (record {
       few = omega arith;
-      is_for = inr refl;
+      is_for = inr (inl refl);
       refuses = λ q e. inr (inl refl);
       still = λ q e. refl;
       room = subst (λ (d : Call). MakesItsRoom own g (state_after g (front xs)) d []) (sym asks) (room g (state_after g (front xs)));

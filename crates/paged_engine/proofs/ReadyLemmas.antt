@@ -35,6 +35,7 @@ use Rattle.worker_log.specs.Logs.{Log}
 use Rattle.paged_opening.specs.Opened as paging
 use Rattle.paged_opening.specs.Opened.{given_by}
 use Rattle.paged_opening.specs.declared.opening.Opened as paged
+use Rattle.paged_opening.proofs.BeginLemmas.{pages_long}
 use Rattle.paged_opening.proofs.MirrorLemmas.{opened_length}
 use Rattle.paged_desks.specs.Machines.{IsReady, memory, pages}
 use Rattle.paged_desks.specs.declared.machine.PagedMachine.{PagedMachine}
@@ -267,7 +268,7 @@ module _ (D : Type 0) (story : D → Story) (disk : D) (laws : Laws) (size : Siz
       sound = machine_is;
       works = first_is.works;
       logged = λ w low high. subst (λ (s : core.State). IsLogged s w (logs w)) (sym state_is) (logged w low high);
-      opens = subst (λ (t : View). HasOpening t.given) (sym h.paged.view) (record { opening = g; opens = h.paged.rooted.opens });
+      opens = subst (λ (t : View). HasOpening t.given) (sym h.paged.view) (record { opening = g; opens = h.paged.rooted.opens; few = (let a = pages_long r.pages.items in let b = few_pages in omega arith) });
       keeps = h.paged.keeps;
       well = h.paged.works;
       fed = fed;

@@ -9,6 +9,7 @@ use Rattle.core_state.specs.Needs.{may}
 use Rattle.core_state.specs.Steps.{happens, put_back}
 use Rattle.row_words.specs.declared.event.Event.{Event}
 use Rattle.row_words.specs.declared.event.Event.TheVariants as told
+use Rattle.row_words.specs.declared.event.Met.TheVariants as met
 use Rattle.row_words.specs.declared.given.Given.{Given}
 use Rattle.row_words.specs.Moments.{Moment, event_of}
 use Rattle.row_words.specs.Openings.{opening}
@@ -26,7 +27,8 @@ happens_floor own g s (told.PutBack w p) o = at (s.worker w).changes
     at (c ∷ cs) = refl
 happens_floor own g s (told.Sync n) o = absurd (true≢false (sym o))
 happens_floor own g s (told.Cut x heads) o = absurd (true≢false (sym o))
-happens_floor own g s (told.Next w p k a) o = absurd (true≢false (sym o))
+happens_floor own g s (told.Next w p k (met.Pair j x)) o = refl
+happens_floor own g s (told.Next w p k (met.Gap h)) o = refl
 happens_floor own g s e o = refl
 
 step_floor : (own : ℕ) (v : Given) (m : Moment) (e : Event) → is_of own e ≡ true → (stepped v m e).core.floor ≡ m.core.floor

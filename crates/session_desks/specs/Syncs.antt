@@ -33,10 +33,11 @@ use Rattle.session_desks.specs.Desks.{desk_of}
 use Rattle.session_desks.specs.Runs.{EachBreaks, EachFlushes, EachGoes, memory_with}
 use Rattle.session_desks.specs.declared.desk.Desk.{Desk}
 
--- the rows began as an opening of the core
+-- the rows began as an opening of the core, with no more pages than there may be
 pub record HasOpening (v : Given) : Type 0 where
   pub opening : Opening
   pub opens : Opens opening v
+  pub few : length v.pages ≤ 2 ^ 16
 
 -- the greatest of a clock and those of these sessions
 abbrev pub greatest : ℕ → List Desk → ℕ

@@ -4,6 +4,7 @@ use Rattle.std.proofs.lemmas.List.{append_assoc}
 use Rattle.std.proofs.lemmas.Bool.{and_from, and_parts, eqb-true, leb-true, ne_eqb}
 use Rattle.map_model.specs.Lists.{all, any, keep, upd}
 use Rattle.map_model.proofs.ListLemmas.{at_upd}
+use Rattle.map_model.specs.Maps.{MapAnswer}
 use Rattle.image_model.specs.Entries.{Entry, Kind, is_commit, is_record, word_in}
 use Rattle.page_model.specs.Needs as page_needs
 use Rattle.rfa_model.specs.Reaches.{least}
@@ -19,6 +20,7 @@ use Rattle.core_calls.specs.LogEvents.{behind}
 use Rattle.engine_calls.proofs.MarkLemmas.{met_join}
 use Rattle.row_words.specs.declared.event.Event.{Event}
 use Rattle.row_words.specs.declared.event.Event.TheVariants as told
+use Rattle.row_words.specs.declared.event.Met.TheVariants as met
 use Rattle.row_words.specs.declared.given.Given.{Given}
 use Rattle.row_words.specs.Moments.{Moment, event_of, events_of, mode_of}
 use Rattle.row_words.specs.Openings.{opening}
@@ -157,6 +159,11 @@ module _ (g : Opening) (s : State) (own u : ℕ) (other : u ≡ own → ⊥) whe
       let e = happening.Event.Read w p k a in
       let b = core.at_pages s w (s.worker w) (p ∷ []) in
       enters (happens g s e) (kept e (not_of w is) refl) refl refl (core.read_entry w b k (word_in g.format (s.page p).node k) (is_held_by (s.row (g.row_of k)).holder w)) refl refl
+  stays_event (told.Next w p k (met.Pair j x)) is need =
+      let e = happening.Event.Next w p k (MapAnswer.Pair j x) in
+      let b = core.at_pages s w (s.worker w) (p ∷ []) in
+      enters (happens g s e) (kept e (not_of w is) refl) refl refl (core.read_entry w b j (word_in g.format (s.page p).node j) (is_held_by (s.row (g.row_of j)).holder w)) refl refl
+  stays_event (told.Next w p k (met.Gap h)) is need = let e = happening.Event.Next w p k (MapAnswer.Gap h) in still (happens g s e) (kept e (not_of w is) refl) refl refl refl
   stays_event (told.Change w p k v) is need =
       let e = happening.Event.Change w p k v in
       enters (happens g s e) (kept e (not_of w is) refl) refl refl (core.write_entry g Kind.Change s w (core.at_pages s w (s.worker w) (p ∷ [])) p k v) refl refl

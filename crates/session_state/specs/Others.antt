@@ -17,6 +17,7 @@ abbrev pub is_of : (own : ℕ) → Event → Bool
 is_of own (told.Begin w f) = w == own
 is_of own (told.Lock w i m) = w == own
 is_of own (told.Read w p k a) = w == own
+is_of own (told.Next w p k a) = w == own
 is_of own (told.Change w p k v) = w == own
 is_of own (told.PutBack w p) = w == own
 is_of own (told.Split w l r q i) = w == own
