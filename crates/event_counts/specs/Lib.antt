@@ -1,0 +1,3 @@
+-- Read Draws, then Scans.
+pub mod Draws
+pub mod Scans
