@@ -4,9 +4,11 @@ use Rattle.std.proofs.lemmas.Bool.{cases_Bool, cases_eq, cond-true, eq-eqb, leb-
 use Rattle.std.proofs.lemmas.List.{append_assoc, append_cancel_left, length_push}
 use Rattle.map_model.specs.Journals.{Name}
 use Rattle.map_model.specs.Lists.{Has}
+use Rattle.map_model.specs.Pairings.{is_last}
 use Rattle.map_model.specs.declared.call.Answer.{Answer}
 use Rattle.map_model.specs.declared.call.Answer.TheVariants as answer
 use Rattle.map_model.specs.declared.call.Call.{Call}
+use Rattle.map_model.specs.declared.call.Call.TheVariants as call
 use Rattle.rfa_model.specs.Stamps.{need_of}
 use Rattle.core_commit.specs.Rises.{EveryRise}
 use Rattle.core_state.specs.Events.{Event}
@@ -29,7 +31,7 @@ use Rattle.rows_trait.specs.Views.{state}
 use Rattle.engine_trait.specs.Limits.{limits}
 use Rattle.engine_front.specs.Turns.{IsNext, behind_answer, is_conflict_in}
 use Rattle.engine_front.specs.declared.calls.Next.{Next}
-use Rattle.engine_front.specs.declared.calls.Next.TheVariants.{Abort, Durables, Line}
+use Rattle.engine_front.specs.declared.calls.Next.TheVariants.{Durables}
 use Rattle.group_commit.specs.Laws.{EveryOutcome, OutcomeLaws}
 use Rattle.group_commit.specs.Outcomes.{IsOfOutcome, ends_by}
 use Rattle.group_commit.specs.Queues.{pushed, queue_of}
@@ -45,15 +47,19 @@ use Rattle.session_desks.proofs.SeatLemmas.{turn_high, turn_low}
 use Rattle.paged_desks.specs.Calls.{DoesTied, Tied}
 use Rattle.paged_desks.specs.Machines.{IsReady, memory, view_of}
 use Rattle.paged_desks.specs.declared.machine.PagedMachine.{PagedMachine}
+use Rattle.paged_scans.specs.Calls.{StandsAt}
+use Rattle.paged_scans.specs.declared.scans.Scan.{Scan}
 use Rattle.buffered_engine.specs.Calls.{MayBe}
 use Rattle.buffered_engine.specs.Inside.Asks.{FindsFlushed, IsEndOf, IsEnding, WasFlushed, ends_in, is_commit_in, put_ends}
 use Rattle.buffered_engine.specs.Inside.Parts.{state_by}
+use Rattle.buffered_engine.specs.Inside.Scans.{scan_behind}
 use Rattle.buffered_engine.specs.Receipts.{flushed_in}
-use Rattle.buffered_engine.specs.States.{HasRoom, HasRun, InRun, IsOfTurn, IsSettled, State, WhereDue}
+use Rattle.buffered_engine.specs.States.{GoesOnAt, HasRoom, HasRun, InRun, IsOfTurn, IsSettled, State, WhereDue, WhereScanning}
 use Rattle.buffered_engine.proofs.AbortTracks.{IsOfAbort, abort_tracks}
 use Rattle.buffered_engine.proofs.BeginLemmas.{none_wait_behind}
-use Rattle.buffered_engine.proofs.DeedLemmas.{Begins, Ends, Neither, Sort, due_behind, end_open, ended, hindered_open, next_behind, sort, unended}
+use Rattle.buffered_engine.proofs.DeedLemmas.{Begins, Ends, Neither, Sort, conflict_more, due_behind, end_open, ended, hindered_open, next_behind, scanning_behind, sort, unended, unsettled}
 use Rattle.buffered_engine.proofs.OpenMarks.{open_after, open_other, open_own}
+use Rattle.buffered_engine.proofs.ScanLemmas.{goes_on}
 use Rattle.buffered_engine.proofs.SeenLemmas.{all_seen, core_is, events_seen}
 
 -- ## Sessions that are open
@@ -77,17 +83,25 @@ pub record Room (is_open : Bool) (queue : ℕ) : Type 0 where
   pub most : queue ≤ 256
   pub more : is_open ≡ true → queue < 256
 
-pub room_line : (b : Bool) (q waits : ℕ) → HasRoom Line b q waits → Room b q
-room_line true q waits h = record { most = omega arith; more = λ e. h }
-room_line false q waits h = record { most = h; more = λ e. absurd (true≢false (sym e)) }
+pub room_in : (n : Next) (b : Bool) (q waits : ℕ) → (n ≡ Durables → ⊥) → HasRoom n b q waits → Room b q
+room_in Durables b q waits other h = absurd (other refl)
+room_in _ true q waits other h = record { most = omega arith; more = λ e. h }
+room_in _ false q waits other h = record { most = h; more = λ e. absurd (true≢false (sym e)) }
 
-pub room_abort : (b : Bool) (q waits : ℕ) → HasRoom Abort b q waits → Room b q
-room_abort true q waits h = record { most = omega arith; more = λ e. h }
-room_abort false q waits h = record { most = h; more = λ e. absurd (true≢false (sym e)) }
+-- so there is room, whatever may be asked next
+has_room : (n : Next) (b : Bool) (q waits : ℕ) → q ≤ 256 → (b ≡ true → q < 256) → HasRoom n b q waits
+has_room Durables true q waits m h = inl (h refl)
+has_room Durables false q waits m h = m
+has_room _ true q waits m h = h refl
+has_room _ false q waits m h = m
 
-pub durables_room : (hindered b : Bool) (q waits : ℕ) → q ≤ 256 → (b ≡ true → (q < 256) ⊎ ((q ≤ 256) × (waits ≡ 0))) → HasRoom (Durables hindered) b q waits
-durables_room hindered true q waits m h = h refl
-durables_room hindered false q waits m h = m
+-- and behind a begin, which may have made all ends durable
+durables_room : (b : Bool) (q waits : ℕ) → q ≤ 256 → (b ≡ true → (q < 256) ⊎ ((q ≤ 256) × (waits ≡ 0))) → HasRoom Durables b q waits
+durables_room true q waits m h = h refl
+durables_room false q waits m h = m
+
+begun_room : (a : Answer) (k : ℕ) (b : Bool) (q waits : ℕ) → a ≡ answer.Begun k → q ≤ 256 → (b ≡ true → (q < 256) ⊎ ((q ≤ 256) × (waits ≡ 0))) → HasRoom (behind_answer a) b q waits
+begun_room a k b q waits e m h = subst (λ (p : Answer). HasRoom (behind_answer p) b q waits) (sym e) (durables_room b q waits m h)
 
 -- ## Queues
 
@@ -131,14 +145,15 @@ abort_flushed _ own v w f k l h = absurd (true≢false (sym k))
 
 -- ## An outcome more
 
-module _ {D : Type 0} (reached : EveryReached) (outcome : EveryOutcome) (rises : EveryRise) (m n : PagedMachine D) (next next_new : Next) (ends ends_new : List (List End)) (own : ℕ) (c : Call) (a : Answer) (receipt : Option Receipt) (old new : Story)
+module _ {D : Type 0} (reached : EveryReached) (outcome : EveryOutcome) (rises : EveryRise) (m n : PagedMachine D) (next next_new : Next) (scan scan_new : Scan) (ends ends_new : List (List End)) (own : ℕ) (c : Call) (a : Answer) (receipt : Option Receipt) (old new : Story)
     (same : AreAsMany m.machine n.machine) (may : MayBe m.machine.work.session.workers a) (ended_is : IsEndOf own (view_of m) (view_of n) a receipt)
-    (ends_are : ends_new ≡ put_ends receipt a ends) (next_is : next_new ≡ behind_answer a) (turn : is_conflict_in a ≡ true → n.machine.work.session.own ≡ own) where
+    (ends_are : ends_new ≡ put_ends receipt a ends) (next_is : next_new ≡ behind_answer a) (turn : is_last a ≡ false → n.machine.work.session.own ≡ own)
+    (scan_first : Scan) (scan_is : scan_new ≡ scan_behind a scan_first) (of_scan : (key value : ℕ) → a ≡ answer.Pair key value → c ≡ call.Scan scan_first.from scan_first.to) where
   abbrev was : State D
-  was = state_by m next ends
+  was = state_by m next scan ends
 
   abbrev is : State D
-  is = state_by n next_new ends_new
+  is = state_by n next_new scan_new ends_new
 
   abbrev v : View
   v = view_of m
@@ -210,21 +225,28 @@ module _ {D : Type 0} (reached : EveryReached) (outcome : EveryOutcome) (rises :
         go (Nothing e) = subst (λ (o : Option Receipt). Tracks g now names (put_ends o a ends)) (sym e) (laws.others (unended x a d.does.answer_is (ended_is.none e)))
         go (Receipt_is r e) = subst (λ (o : Option Receipt). Tracks g now names (put_ends o a ends)) (sym e) (pushed_is r e (is_commit_in a) refl)
 
-    pub in_run_behind : InRun is g (x ∷ xs) names
-    in_run_behind = record {
+    -- a scan goes on behind the pair that it told
+    scanning : ((key value : ℕ) → a ≡ answer.Pair key value → StandsAt own scan_first g xs) → (key value : ℕ) → a ≡ answer.Pair key value → GoesOnAt is.turn scan_new g (x ∷ xs)
+    scanning stands key value e = subst (λ (q : ℕ × Scan). GoesOnAt q.0 q.1 g (x ∷ xs)) (λ i. (sym (turn (ap is_last e)) i, sym (scan_is ∙ ap (λ (b : Answer). scan_behind b scan_first) e) i))
+        (goes_on own scan_first g xs x key value (stands key value e) d.does.session (d.does.asked_is ∙ of_scan key value e) (d.does.answer_is ∙ e))
+
+    pub in_run_behind : ((key value : ℕ) → a ≡ answer.Pair key value → StandsAt own scan_first g xs) → InRun is g (x ∷ xs) names
+    in_run_behind stands = record {
       workers = run.workers ∙ sym same.0;
       next = subst (λ (k : Next). IsNext k (x ∷ xs)) (sym next_is) (next_behind was.sessions x xs a d.does.answer_is may);
-      turn = subst (λ (k : Next). WhereDue k (IsOfTurn is.turn (x ∷ xs))) (sym next_is) (due_behind a (IsOfTurn is.turn (x ∷ xs)) (λ e. d.does.session ∙ sym (turn e)));
+      turn = subst (λ (k : Next). WhereDue k (IsOfTurn is.turn (x ∷ xs))) (sym next_is) (due_behind a (IsOfTurn is.turn (x ∷ xs)) (λ e. d.does.session ∙ sym (turn (conflict_more a e))));
+      scan = subst (λ (k : Next). WhereScanning k (GoesOnAt is.turn scan_new g (x ∷ xs))) (sym next_is) (scanning_behind a (GoesOnAt is.turn scan_new g (x ∷ xs)) (scanning stands));
       tied = subst (λ (k : ℕ). Tied g k (x ∷ xs) w (memory n)) (sym same.1) d.tied;
       tracks = subst (λ (qs : List (List End)). Tracks g now names qs) (sym ends_are) tracks;
-      told = subst (λ (k : Next). IsSettled k (due g now names ≡ [])) (sym next_is) tt;
-      settled = subst (λ (k : Next). IsSettled k ((u : ℕ) → 0 < u → u ≤ g.workers → length (queue_of ends_new u) ≡ waiting g now u)) (sym next_is) tt;
+      told = subst (λ (k : Next). IsSettled k (due g now names ≡ [])) (sym next_is) (unsettled a (due g now names ≡ []));
+      settled = subst (λ (k : Next). IsSettled k ((u : ℕ) → 0 < u → u ≤ g.workers → length (queue_of ends_new u) ≡ waiting g now u)) (sym next_is) (unsettled a ((u : ℕ) → 0 < u → u ≤ g.workers → length (queue_of ends_new u) ≡ waiting g now u));
     }
 
   -- ## In the run in which it stands
 
-  module _ (story : D → Story) (ready : IsReady story m) (ready_new : IsReady story n) (turned : is_conflict_in a ≡ true → n.machine.work.session.own ≡ own)
+  module _ (story : D → Story) (ready : IsReady story m) (ready_new : IsReady story n)
       (stood : HasRun was) (d : DoesTied stood.opening was.group stood.done own c a (memory m) n old new)
+      (stands : (key value : ℕ) → a ≡ answer.Pair key value → StandsAt own scan_first stood.opening stood.done)
       (some : ends_in a ≡ true → 0 < own)
       (room : (u : ℕ) → 0 < u → u ≤ stood.opening.workers → Room (desk_of was.work was.desks u).session.is_open (length (queue_of ends u)))
       (settled : (k : ℕ) → a ≡ answer.Begun k → length (queue_of ends own) ≡ waiting stood.opening (state_after stood.opening (front stood.done)) own) where
@@ -284,13 +306,13 @@ module _ {D : Type 0} (reached : EveryReached) (outcome : EveryOutcome) (rises :
       | inr e ↦ ap length (unended_queue e u)
     ]
 
-    other_room : (u : ℕ) → 0 < u → u ≤ g.workers → (u ≡ own → ⊥) → HasRoom (Durables (is_conflict_in a)) (second u).session.is_open (length (queue_of (put_ends receipt a ends) u)) (waiting g t u)
+    other_room : (u : ℕ) → 0 < u → u ≤ g.workers → (u ≡ own → ⊥) → HasRoom (behind_answer a) (second u).session.is_open (length (queue_of (put_ends receipt a ends) u)) (waiting g t u)
     other_room u low high k =
         let r = room u low high in
         let q = other_length u low k in
         let o = is_open u low high ∙ (open_other limits g was.group stood.done y told_of.1 u (λ e. k (e ∙ d.does.session)) ∙ sym (was_open u low high)) in
-        durables_room (is_conflict_in a) (second u).session.is_open (length (queue_of (put_ends receipt a ends) u)) (waiting g t u) (let l = r.most in omega arith)
-        (λ e. inl (let l = r.more (sym o ∙ e) in omega arith))
+        has_room (behind_answer a) (second u).session.is_open (length (queue_of (put_ends receipt a ends) u)) (waiting g t u) (let l = r.most in omega arith)
+        (λ e. let l = r.more (sym o ∙ e) in omega arith)
 
     ended_queue : ends_in a ≡ true → 0 < own → own ≤ g.workers → length (queue_of (put_ends receipt a ends) own) ≡ suc (length (queue_of ends own))
     ended_queue e low high = go (came receipt)
@@ -302,18 +324,18 @@ module _ {D : Type 0} (reached : EveryReached) (outcome : EveryOutcome) (rises :
     own_open : 0 < own → own ≤ g.workers → (second own).session.is_open ≡ open_after y.outcome.deed (first own).session.is_open
     own_open low high = is_open own low high ∙ (open_own limits g was.group stood.done y told_of.1 own (sym d.does.session) ∙ sym (ap (open_after y.outcome.deed) (was_open own low high)))
 
-    own_room : 0 < own → own ≤ g.workers → HasRoom (Durables (is_conflict_in a)) (second own).session.is_open (length (queue_of (put_ends receipt a ends) own)) (waiting g t own)
+    own_room : 0 < own → own ≤ g.workers → HasRoom (behind_answer a) (second own).session.is_open (length (queue_of (put_ends receipt a ends) own)) (waiting g t own)
     own_room low high = go (sort y.outcome.deed)
       where
         r : Room (first own).session.is_open (length (queue_of ends own))
         r = room own low high
 
-        go : Sort y.outcome.deed → HasRoom (Durables (is_conflict_in a)) (second own).session.is_open (length (queue_of (put_ends receipt a ends) own)) (waiting g t own)
+        go : Sort y.outcome.deed → HasRoom (behind_answer a) (second own).session.is_open (length (queue_of (put_ends receipt a ends) own)) (waiting g t own)
         go (Begins k e) =
             let begun = sym d.does.answer_is ∙ ap answered e in
             let q = ap length (unended_queue (ap ends_in begun) own) in
             let l = r.most in
-            durables_room (is_conflict_in a) (second own).session.is_open (length (queue_of (put_ends receipt a ends) own)) (waiting g t own) (omega arith)
+            begun_room a k (second own).session.is_open (length (queue_of (put_ends receipt a ends) own)) (waiting g t own) begun (omega arith)
             (λ o. elim (cases_Bool (leb 256 (waiting g s own))) [
               | inl long ↦ inr ((omega arith), none_wait_behind g was.group stood.done y k told_of.1 e (subst (λ (j : ℕ). leb 256 (waiting g s j) ≡ true) (sym d.does.session) long) own)
               | inr short ↦ inl (let f = leb-false 256 (waiting g s own) short in let z = settled k begun in omega arith)
@@ -322,17 +344,17 @@ module _ {D : Type 0} (reached : EveryReached) (outcome : EveryOutcome) (rises :
             let k = subst (λ (p : Answer). ends_in p ≡ true) d.does.answer_is e in
             let q = ended_queue k low high in
             let l = r.more (was_open own low high ∙ open_before k) in
-            durables_room (is_conflict_in a) (second own).session.is_open (length (queue_of (put_ends receipt a ends) own)) (waiting g t own) (omega arith)
+            has_room (behind_answer a) (second own).session.is_open (length (queue_of (put_ends receipt a ends) own)) (waiting g t own) (omega arith)
             (λ o. absurd (true≢false (sym o ∙ (own_open low high ∙ b (first own).session.is_open))))
         go (Neither e b) =
             let q = ap length (unended_queue (subst (λ (p : Answer). ends_in p ≡ false) d.does.answer_is e) own) in
             let l = r.most in
-            durables_room (is_conflict_in a) (second own).session.is_open (length (queue_of (put_ends receipt a ends) own)) (waiting g t own) (omega arith)
-            (λ o. inl (let f = r.more (sym (own_open low high ∙ b (first own).session.is_open) ∙ o) in omega arith))
+            has_room (behind_answer a) (second own).session.is_open (length (queue_of (put_ends receipt a ends) own)) (waiting g t own) (omega arith)
+            (λ o. let f = r.more (sym (own_open low high ∙ b (first own).session.is_open) ∙ o) in omega arith)
 
-    each_room : (u : ℕ) → 0 < u → u ≤ g.workers → HasRoom (Durables (is_conflict_in a)) (second u).session.is_open (length (queue_of (put_ends receipt a ends) u)) (waiting g t u)
+    each_room : (u : ℕ) → 0 < u → u ≤ g.workers → HasRoom (behind_answer a) (second u).session.is_open (length (queue_of (put_ends receipt a ends) u)) (waiting g t u)
     each_room u low high = elim (cases_eq u own) [
-      | inl e ↦ subst (λ (k : ℕ). HasRoom (Durables (is_conflict_in a)) (second k).session.is_open (length (queue_of (put_ends receipt a ends) k)) (waiting g t k)) (sym e) (own_room (omega arith) (omega arith))
+      | inl e ↦ subst (λ (k : ℕ). HasRoom (behind_answer a) (second k).session.is_open (length (queue_of (put_ends receipt a ends) k)) (waiting g t k)) (sym e) (own_room (omega arith) (omega arith))
       | inr k ↦ other_room u low high k
     ]
 
@@ -341,10 +363,10 @@ module _ {D : Type 0} (reached : EveryReached) (outcome : EveryOutcome) (rises :
       opening = g;
       done = y ∷ stood.done;
       names = stood.names;
-      in_run = in_run_behind g stood.done stood.names stood.in_run d;
+      in_run = in_run_behind g stood.done stood.names stood.in_run d stands;
       is_half_aborted = d.is_half_aborted;
       room = λ u low high. subst (λ (k : Next). HasRoom k (second u).session.is_open (length (queue_of ends_new u)) (waiting g t u)) (sym next_is)
-          (subst (λ (qs : List (List End)). HasRoom (Durables (is_conflict_in a)) (second u).session.is_open (length (queue_of qs u)) (waiting g t u)) (sym ends_are) (each_room u low high));
+          (subst (λ (qs : List (List End)). HasRoom (behind_answer a) (second u).session.is_open (length (queue_of qs u)) (waiting g t u)) (sym ends_are) (each_room u low high));
       is_open = subst (λ (k : Next). WhereDue k (is.work.session.is_open ≡ true)) (sym next_is) (due_behind a (is.work.session.is_open ≡ true) open_due);
     }
       where
@@ -355,5 +377,5 @@ module _ {D : Type 0} (reached : EveryReached) (outcome : EveryOutcome) (rises :
             let q = stood.in_run.workers in let l = same.0 in
             ap (λ (b : Desk). b.session.is_open) (sym (store_is is.work is.desks))
             ∙ (is_open is.work.session.own low (omega arith)
-            ∙ (ap (λ (k : ℕ). (t.worker k).is_open) (turned e ∙ sym d.does.session)
-            ∙ hindered_open g stood.done y ((memory m).log y.outcome.session) d.does.happens.how (subst (λ (b : Answer). is_conflict_in b ≡ true) (sym d.does.answer_is) e)))
+            ∙ (ap (λ (k : ℕ). (t.worker k).is_open) (turn (conflict_more a e) ∙ sym d.does.session)
+            ∙ hindered_open g was.group stood.done y ((memory m).log y.outcome.session) told_of.1 d.does.happens.how (subst (λ (b : Answer). is_conflict_in b ≡ true) (sym d.does.answer_is) e)))

@@ -1,6 +1,7 @@
 -- What a call of an engine did in each run in which it stands, and that it stands in one.
 use Rattle.std.proofs.Common.{◌≡◌, ◌≤◌, ◌<◌, ℕ, Bool, true, false, not, leb, List, ◌∷◌, length, Option, Some, None, IfSome, arith, refl, sym, ap, ◌∙◌, subst, true≢false}
 use Rattle.map_model.specs.Journals.{Name}
+use Rattle.map_model.specs.Pairings.{is_last}
 use Rattle.map_model.specs.declared.call.Answer.{Answer}
 use Rattle.map_model.specs.declared.call.Answer.TheVariants as answer
 use Rattle.map_model.specs.declared.call.Call.{Call}
@@ -10,6 +11,7 @@ use Rattle.page_model.specs.Limits.{most_sessions, waiting_ends}
 use Rattle.core_commit.specs.Rises.{EveryRise}
 use Rattle.core_state.specs.Openings.{Opening}
 use Rattle.core_state.specs.Steps.{state_after}
+use Rattle.core_calls.specs.Deeds.{asked}
 use Rattle.core_calls.specs.Fronts.{Done, front, outcomes}
 use Rattle.core_calls.specs.Refusals.{waiting}
 use Rattle.engine_calls.specs.Clauses.{IsNewLine}
@@ -18,8 +20,9 @@ use Rattle.row_opening.specs.Openings.{EveryReached}
 use Rattle.call_parts.specs.Deeds.{Fails}
 use Rattle.engine_trait.specs.Calls.{IsAsked}
 use Rattle.engine_front.specs.Stops.{StandsNot}
-use Rattle.engine_front.specs.Turns.{IsNext, behind_answer, is_conflict_in}
+use Rattle.engine_front.specs.Turns.{IsNext, behind_answer}
 use Rattle.engine_front.specs.declared.calls.Next.{Next}
+use Rattle.engine_front.specs.declared.calls.Next.TheVariants as following
 use Rattle.engine_front.specs.declared.calls.Next.TheVariants.{Abort, Line}
 use Rattle.group_commit.specs.Laws.{EveryOutcome}
 use Rattle.group_commit.specs.Queues.{queue_of}
@@ -31,12 +34,15 @@ use Rattle.session_desks.specs.Parts.{Works, here}
 use Rattle.paged_desks.specs.Calls.{AreHalf, CallDoes, Comes, DoesTied}
 use Rattle.paged_desks.specs.Machines.{memory, view_of}
 use Rattle.paged_desks.specs.declared.machine.PagedMachine.{PagedMachine}
-use Rattle.buffered_engine.specs.Calls.{AbortsInRuns, DoesIn, IsTo, MayBe, is_stop}
+use Rattle.paged_scans.specs.Calls.{StandsAt}
+use Rattle.paged_scans.specs.declared.scans.Scan.{Scan}
+use Rattle.buffered_engine.specs.Calls.{AbortsInRuns, DoesIn, IsTo, MayBe, ScansInRuns, is_stop}
 use Rattle.buffered_engine.specs.Inside.Asks.{IsDue, IsEndOf, OnAsked, ends_in, next_behind, put_ends}
 use Rattle.buffered_engine.specs.Inside.Parts.{IsEngine, MachineWent, state_by}
-use Rattle.buffered_engine.specs.States.{HasRoom, HasRun, InRun, IsOfTurn, IsSettled, State, WhereDue, memory_in}
+use Rattle.buffered_engine.specs.Inside.Scans.{scan_behind}
+use Rattle.buffered_engine.specs.States.{GoesOnAt, HasRoom, HasRun, InRun, IsOfTurn, IsSettled, State, WhereDue, WhereScanning, memory_in}
 use Rattle.buffered_engine.specs.declared.ends.Response.{Response}
-use Rattle.buffered_engine.proofs.AskLemmas.{Room, has_run, in_run_behind, room_abort, room_line}
+use Rattle.buffered_engine.proofs.AskLemmas.{Room, has_run, in_run_behind, room_in}
 use Rattle.buffered_engine.proofs.CallLemmas.{comes_if, did}
 use Rattle.buffered_engine.proofs.SeenLemmas.{same_half}
 
@@ -68,14 +74,18 @@ begun_by c a n t e = go c (subst (IsTo c) e t)
     go call.Begin t = refl
     go c t = absurd t
 
--- a conflict is no end
-none_hindered : (a : Answer) → MayBe 1 a → is_conflict_in a ≡ true → ⊥
-none_hindered (answer.Refused (refusal.Conflict h)) may e = may refl
-none_hindered _ may e = true≢false (sym e)
+-- a sync and an abort are answered once: no session alone meets a conflict
+pub once_sync : (a : Answer) → IsTo call.Sync a → MayBe 1 a → is_last a ≡ true
+once_sync (answer.Refused (refusal.Conflict h)) to may = absurd (may refl)
+once_sync (answer.Refused why) to may = refl
+once_sync (answer.Synced at) to may = refl
+once_sync a to may = absurd to
 
--- no session asks a sync, so it is answered no conflict
-pub sync_turn : (a : Answer) (P : Type 0) → MayBe 1 a → is_conflict_in a ≡ true → P
-sync_turn a P may e = absurd (none_hindered a may e)
+pub once_abort : (a : Answer) → IsTo call.Abort a → MayBe 1 a → is_last a ≡ true
+once_abort (answer.Refused (refusal.Conflict h)) to may = absurd (may refl)
+once_abort (answer.Refused why) to may = refl
+once_abort (answer.Aborted number) to may = refl
+once_abort a to may = absurd to
 
 not_stopped : (b : Bool) → not b ≡ true → b ≡ false
 not_stopped true e = absurd (true≢false (sym e))
@@ -83,14 +93,15 @@ not_stopped false e = refl
 
 -- ## A call
 
-module _ {D : Type 0} (reached : EveryReached) (outcome : EveryOutcome) (rises : EveryRise) (story : D → Story) (m n : PagedMachine D) (next next_new : Next) (ends ends_new : List (List End))
-    (works : Works m.machine) (e : IsEngine story m next ends) (faults : D → ℕ) (On : Opening → List Done → Type 0) (own : ℕ) (some_call : Call) (r : Response) (w : MachineWent story faults On m.machine.work.session.workers own some_call r m n)
-    (next_is : next_new ≡ next_behind n.machine.work.session.works next r.answer) (ends_are : ends_new ≡ put_ends r.receipt r.answer ends) (turn : Works n.machine → is_conflict_in r.answer ≡ true → n.machine.work.session.own ≡ own) where
+module _ {D : Type 0} (reached : EveryReached) (outcome : EveryOutcome) (rises : EveryRise) (story : D → Story) (m n : PagedMachine D) (next next_new : Next) (scan scan_new : Scan) (ends ends_new : List (List End))
+    (works : Works m.machine) (e : IsEngine story m next scan ends) (faults : D → ℕ) (On : Opening → List Done → Type 0) (own : ℕ) (some_call : Call) (r : Response) (w : MachineWent story faults On m.machine.work.session.workers own some_call r m n)
+    (next_is : next_new ≡ next_behind n.machine.work.session.works next r.answer) (ends_are : ends_new ≡ put_ends r.receipt r.answer ends) (turn : Works n.machine → is_last r.answer ≡ false → n.machine.work.session.own ≡ own)
+    (scan_first : Scan) (scan_is : scan_new ≡ scan_behind r.answer scan_first) where
   abbrev was : State D
-  was = state_by m next ends
+  was = state_by m next scan ends
 
   abbrev is : State D
-  is = state_by n next_new ends_new
+  is = state_by n next_new scan_new ends_new
 
   abbrev a : Answer
   a = r.answer
@@ -114,7 +125,9 @@ module _ {D : Type 0} (reached : EveryReached) (outcome : EveryOutcome) (rises :
   half g xs names run u low high = same_half g stood.opening was.group was.group xs stood.done (memory m) (memory m) (view_of m) run.tied stood.in_run.tied u
       ∙ stood.is_half_aborted u low (subst (λ (k : ℕ). u ≤ k) (run.workers ∙ sym stood.in_run.workers) high)
 
-  module _ (c : Call) (May : Opening → List Done → Type 0) (does : CallDoes story May own c a m n) where
+  module _ (c : Call) (May : Opening → List Done → Type 0) (does : CallDoes story May own c a m n)
+      (of_scan : (key value : ℕ) → a ≡ answer.Pair key value → c ≡ call.Scan scan_first.from scan_first.to)
+      (stands : (g : Opening) (xs : List Done) → May g xs → (key value : ℕ) → a ≡ answer.Pair key value → StandsAt own scan_first g xs) where
     abbrev Did : Opening → List Done → Type 0
     Did g xs = DoesTied g was.group xs own c a (memory m) n old new
 
@@ -126,18 +139,18 @@ module _ {D : Type 0} (reached : EveryReached) (outcome : EveryOutcome) (rises :
 
     pub in_runs : (g : Opening) (xs : List Done) (names : List Name) → InRun was g xs names → May g xs → Comes a (DoesIn g xs names own c a was is old new) (Failed g xs) (Never g xs)
     in_runs g xs names run may = comes_if a (Did g xs) (DoesIn g xs names own c a was is old new) (Failed g xs) (Never g xs) w.not_broken
-        (λ s d. record { does = d.does; in_run = in_run_behind reached outcome rises m n next next_new ends ends_new own c a r.receipt old new w.session w.may w.ends ends_are (next_of (going s)) (turn (going s)) g xs names run d })
+        (λ s d. record { does = d.does; in_run = in_run_behind reached outcome rises m n next next_new scan scan_new ends ends_new own c a r.receipt old new w.session w.may w.ends ends_are (next_of (going s)) (turn (going s)) scan_first scan_is of_scan g xs names run d (stands g xs may) })
         (does g xs run.workers run.tied (half g xs names run) may)
 
     pub run_behind : (ends_in a ≡ true → 0 < own)
         → ((u : ℕ) → 0 < u → u ≤ stood.opening.workers → Room (desk_of was.work was.desks u).session.is_open (length (queue_of ends u)))
         → ((k : ℕ) → a ≡ answer.Begun k → length (queue_of ends own) ≡ waiting stood.opening (state_after stood.opening (front stood.done)) own)
         → May stood.opening stood.done → Works n.machine → HasRun is
-    run_behind some room settled here q = has_run reached outcome rises m n next next_new ends ends_new own c a r.receipt old new w.session w.may w.ends ends_are (next_of q) (turn q)
-        story (e.ready works) (w.ready q) (turn q) stood
+    run_behind some room settled here q = has_run reached outcome rises m n next next_new scan scan_new ends ends_new own c a r.receipt old new w.session w.may w.ends ends_are (next_of q) (turn q) scan_first scan_is of_scan
+        story (e.ready works) (w.ready q) stood
         (did a (Did stood.opening stood.done) (Failed stood.opening stood.done) (Never stood.opening stood.done) (not_stopped (is_stop a) (sym w.works ∙ q))
         (does stood.opening stood.done stood.in_run.workers stood.in_run.tied (half stood.opening stood.done stood.names stood.in_run) here))
-        some room settled
+        (stands stood.opening stood.done here) some room settled
 
   pub few : n.machine.work.session.workers ≤ most_sessions
   few = subst (λ (k : ℕ). k ≤ most_sessions) (sym w.session.0) e.few
@@ -163,14 +176,14 @@ module _ {D : Type 0} (was : State D) (line : was.next ≡ Line) where
       settled_of g xs names run own i.0 (subst (λ (k : ℕ). own ≤ k) (sym run.workers) i.1)
 
   pub room_on_line : (stood : HasRun was) → (w : ℕ) → 0 < w → w ≤ stood.opening.workers → Room (desk_of was.work was.desks w).session.is_open (length (queue_of was.ends w))
-  room_on_line stood w low high = room_line (desk_of was.work was.desks w).session.is_open (length (queue_of was.ends w)) (waiting stood.opening (state_after stood.opening (front stood.done)) w)
+  room_on_line stood w low high = room_in Line (desk_of was.work was.desks w).session.is_open (length (queue_of was.ends w)) (waiting stood.opening (state_after stood.opening (front stood.done)) w) (λ e. absurd (cc))
       (subst (λ (n : Next). HasRoom n (desk_of was.work was.desks w).session.is_open (length (queue_of was.ends w)) (waiting stood.opening (state_after stood.opening (front stood.done)) w)) line (stood.room w low high))
 
 -- ## Behind a conflict
 
 module _ {D : Type 0} (was : State D) (due : was.next ≡ Abort) where
   pub room_on_abort : (stood : HasRun was) → (w : ℕ) → 0 < w → w ≤ stood.opening.workers → Room (desk_of was.work was.desks w).session.is_open (length (queue_of was.ends w))
-  room_on_abort stood w low high = room_abort (desk_of was.work was.desks w).session.is_open (length (queue_of was.ends w)) (waiting stood.opening (state_after stood.opening (front stood.done)) w)
+  room_on_abort stood w low high = room_in Abort (desk_of was.work was.desks w).session.is_open (length (queue_of was.ends w)) (waiting stood.opening (state_after stood.opening (front stood.done)) w) (λ e. absurd (cc))
       (subst (λ (n : Next). HasRoom n (desk_of was.work was.desks w).session.is_open (length (queue_of was.ends w)) (waiting stood.opening (state_after stood.opening (front stood.done)) w)) due (stood.room w low high))
 
   pub open_due : HasRun was → was.work.session.is_open ≡ true
@@ -192,6 +205,28 @@ module _ {D : Type 0} (was : State D) (due : was.next ≡ Abort) where
       let t = turn_of g y earlier names run in
       subst (λ (k : ℕ). Comes a (DoesIn g (y ∷ earlier) names k c a was is old new) (Fails g was.group (y ∷ earlier) k c (memory_in was) old new) (StandsNot g was.group (y ∷ earlier) (memory_in was) old)) (sym t)
       (does c g (y ∷ earlier) names run (record { newest = y; earlier = earlier; are = refl; hindered = h; session = t }))
+
+-- ## Behind a pair
+
+module _ {D : Type 0} (was : State D) (due : was.next ≡ following.Scan) where
+  pub room_on_scan : (stood : HasRun was) → (w : ℕ) → 0 < w → w ≤ stood.opening.workers → Room (desk_of was.work was.desks w).session.is_open (length (queue_of was.ends w))
+  room_on_scan stood w low high = room_in following.Scan (desk_of was.work was.desks w).session.is_open (length (queue_of was.ends w)) (waiting stood.opening (state_after stood.opening (front stood.done)) w) (λ e. absurd (cc))
+      (subst (λ (n : Next). HasRoom n (desk_of was.work was.desks w).session.is_open (length (queue_of was.ends w)) (waiting stood.opening (state_after stood.opening (front stood.done)) w)) due (stood.room w low high))
+
+  -- it goes on
+  pub going_of : (g : Opening) (xs : List Done) (names : List Name) → InRun was g xs names → GoesOnAt was.turn was.scan g xs
+  going_of g xs names run = subst (λ (n : Next). WhereScanning n (GoesOnAt was.turn was.scan g xs)) due run.scan
+
+  pub scans_in : (is : State D) (a : Answer) (old new : Story)
+      → ((g : Opening) (xs : List Done) (names : List Name) → InRun was g xs names → StandsAt was.turn was.scan g xs
+      → Comes a (DoesIn g xs names was.turn (call.Scan was.scan.from was.scan.to) a was is old new) (Fails g was.group xs was.turn (call.Scan was.scan.from was.scan.to) (memory_in was) old new) (StandsNot g was.group xs (memory_in was) old))
+      → ScansInRuns a was is old new
+  scans_in is a old new does g y earlier names run =
+      let s = going_of g (y ∷ earlier) names run in
+      let own : y.outcome.session ≡ was.turn = s.0.2 in
+      let c : asked y.outcome.deed ≡ call.Scan was.scan.from was.scan.to = s.0.3 in
+      subst (λ (q : ℕ × Call). Comes a (DoesIn g (y ∷ earlier) names q.0 q.1 a was is old new) (Fails g was.group (y ∷ earlier) q.0 q.1 (memory_in was) old new) (StandsNot g was.group (y ∷ earlier) (memory_in was) old)) (λ i. (sym own i, sym c i))
+      (does g (y ∷ earlier) names run s.1)
 
 -- ## Room for an end
 

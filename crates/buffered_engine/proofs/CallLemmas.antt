@@ -1,6 +1,7 @@
 -- What a caller is told of a call.
 use Rattle.std.proofs.Common.{◌≡◌, inl, inr, ◌↔◌, ℕ, Bool, true, false, not, Err, IfErr, IfOk, IsErr, refl, sym, ap, ◌∙◌, true≢false}
 use Rattle.std.proofs.lemmas.Bool.{cases_Bool}
+use Rattle.map_model.specs.Pairings.{is_last}
 use Rattle.map_model.specs.declared.call.Answer.{Answer}
 use Rattle.map_model.specs.declared.call.Answer.TheVariants as answer
 use Rattle.map_model.specs.declared.call.Call.{Call}
@@ -11,7 +12,7 @@ use Rattle.engine_trait.specs.Calls.{HasCome}
 use Rattle.engine_front.specs.Turns.{behind_answer}
 use Rattle.engine_front.specs.declared.calls.Unanswered.TheVariants as unanswered
 use Rattle.paged_desks.specs.Calls.{Comes}
-use Rattle.buffered_engine.specs.Calls.{AbortAnswered, AbortStopped, AbortsInRuns, Answered, Asked, AskedAbort, DoesInRuns, HinderedDoes, LineDoes, MayBe, Stopped, Went, is_stop, told}
+use Rattle.buffered_engine.specs.Calls.{AbortAnswered, AbortStopped, AbortsInRuns, Answered, Asked, AskedAbort, AskedScan, DoesInRuns, HinderedDoes, LineDoes, MayBe, ScanAnswered, ScanDoes, ScanStopped, ScansInRuns, Stopped, TellsFewer, Went, is_stop, told}
 use Rattle.buffered_engine.specs.Inside.Asks.{next_behind}
 use Rattle.buffered_engine.specs.States.{State}
 
@@ -181,3 +182,48 @@ module _ {D : Type 0} (story : D → Story) (was is : State D) where
     cause_broken = broken (Aborts a) a was is w;
     cause_disk_fault = cause_told a (faults was.disk) (faults is.disk) cause;
   }
+
+-- its answer is the last to its line
+pub last_told : (a : Answer) → is_last a ≡ true → IfOk (told a) (λ b. is_last b ≡ true)
+last_told (answer.Refused refusal.Broken) e = tt
+last_told (answer.Refused refusal.DiskFault) e = tt
+last_told (answer.Refused (refusal.Damaged area place)) e = tt
+last_told _ e = e
+
+-- ## Of what follows a pair
+
+module _ {D : Type 0} (story : D → Story) (was is : State D) where
+  abbrev Scans : Answer → Type 0
+  Scans a = ScansInRuns a was is (story was.disk) (story is.disk)
+
+  scan_answered : (a : Answer) → ((a ≡ no_device → ⊥) → Scans a) → IfOk (told a) (ScanAnswered story was is)
+  scan_answered (answer.Refused refusal.Broken) h = tt
+  scan_answered (answer.Refused refusal.DiskFault) h = tt
+  scan_answered (answer.Refused (refusal.Damaged area place)) h = tt
+  scan_answered _ h = λ g y earlier names run. let d = h (λ e. absurd (cc)) g y earlier names run in (d.does, d.in_run)
+
+  scan_stopped : (a : Answer) → ((a ≡ no_device → ⊥) → Scans a) → IfErr (told a) (ScanStopped story was is)
+  scan_stopped (answer.Refused refusal.Broken) h = λ g y earlier names run. tt
+  scan_stopped (answer.Refused refusal.DiskFault) h = λ g y earlier names run. h (λ e. absurd (cc)) g y earlier names run
+  scan_stopped (answer.Refused (refusal.Damaged area place)) h = λ g y earlier names run. h (λ e. absurd (cc)) g y earlier names run
+  scan_stopped _ h = tt
+
+  pub scan_does : (faults : D → ℕ) (a : Answer) → AskedScan story a was is → HasCause (faults was.disk) (faults is.disk) (a ≡ fault) → ScanDoes story faults (told a) was is
+  scan_does faults a w cause = record {
+    does = scan_answered a (worked (Scans a) a was is w);
+    come = come was.sessions a w.may;
+    next = next a is w.works w.next;
+    stops = scan_stopped a (worked (Scans a) a was is w);
+    works = works (Scans a) a was is w;
+    sizes = (w.sessions, w.group);
+    same = same (Scans a) a was is w;
+    cause_broken = broken (Scans a) a was is w;
+    cause_disk_fault = cause_told a (faults was.disk) (faults is.disk) cause;
+  }
+
+  -- where it goes on still, fewer pairs are left
+  pub fewer_told : (a : Answer) → is.works ≡ not (is_stop a) → (is.works ≡ true → TellsFewer was is) → IfOk (told a) (λ b. TellsFewer was is)
+  fewer_told (answer.Refused refusal.Broken) goes h = tt
+  fewer_told (answer.Refused refusal.DiskFault) goes h = tt
+  fewer_told (answer.Refused (refusal.Damaged area place)) goes h = tt
+  fewer_told _ goes h = h goes

@@ -13,25 +13,24 @@ use Rattle.core_state.specs.States.{State}
 use Rattle.core_state.specs.Steps.{state_after}
 use Rattle.core_calls.specs.Deeds.{Aborted, Absent, Begun, Changed, Checkpointed, Committed, Deed, Deleted, Got, Met, Outcome, Over, Paused, Refused, Synced, answered, asked}
 use Rattle.core_calls.specs.Fronts.{Done, front, outcomes}
+use Rattle.core_calls.specs.Runs.{Tells}
 use Rattle.core_calls.specs.Steps.{FollowsConflict, IsAnAbort, IsBehind, call_behind, due_call, hindered_in}
 use Rattle.worker_log.specs.Logs.{Log, limit, used}
 use Rattle.call_parts.specs.Deeds.{Answers}
 use Rattle.engine_trait.specs.Calls.{is_half_done}
-use Rattle.engine_trait.specs.Refusals.{in_transaction, log_refusal, refusal_in}
-use Rattle.engine_front.specs.Turns.{IsNext, behind_answer, is_conflict_in}
-use Rattle.engine_front.specs.declared.calls.Next.TheVariants.{Durables}
+use Rattle.engine_trait.specs.Limits.{limits}
+use Rattle.engine_trait.specs.Refusals.{IsMetOnWay, in_transaction, log_refusal, refusal_in}
+use Rattle.engine_front.specs.Turns.{IsNext, behind_answer, behind_last, is_conflict_in}
 use Rattle.group_commit.specs.Outcomes.{ends_by}
 use Rattle.buffered_engine.specs.Calls.{MayBe}
 use Rattle.buffered_engine.specs.Inside.Asks.{ends_in, is_commit_in}
-use Rattle.buffered_engine.specs.States.{WhereDue}
-use Rattle.buffered_engine.proofs.OpenMarks.{open_after}
+use Rattle.buffered_engine.specs.States.{IsSettled, WhereDue, WhereScanning}
+use Rattle.buffered_engine.proofs.OpenMarks.{open_after, open_own}
 
 -- ## What may be asked next
 
 next_of : (n : ℕ) (x : Done) (xs : List Done) (d : Deed) → x.outcome.deed ≡ d → MayBe n (answered d) → IsNext (behind_answer (answered d)) (x ∷ xs)
-next_of n x xs (Met from to k v alone) e m = absurd m
-next_of n x xs (Paused from to k) e m = absurd m
-next_of n x xs (Over from to) e m = absurd m
+next_of n x xs (Met from to k v alone) e m = record { newest = x; earlier = xs; are = refl; from = from; to = to; asked_is = ap asked e; more = ap (λ (d : Deed). is_last (answered d)) e; hindered = ap hindered_in e }
 next_of n x xs (Checkpointed at) e m = absurd m
 next_of n x xs (Refused c (refusal.Conflict h) backs) e m = record { newest = x; earlier = xs; are = refl; hindered = c; is = ap hindered_in e }
 next_of n x xs (Refused c why backs) e m = (ap hindered_in e, ap (λ (d : Deed). is_last (answered d)) e)
@@ -41,11 +40,34 @@ pub next_behind : (n : ℕ) (x : Done) (xs : List Done) (a : Answer) → answere
 next_behind n x xs a e m = subst (λ (b : Answer). IsNext (behind_answer b) (x ∷ xs)) e (next_of n x xs x.outcome.deed refl (subst (MayBe n) (sym e) m))
 
 pub due_behind : (a : Answer) (P : Type 0) → (is_conflict_in a ≡ true → P) → WhereDue (behind_answer a) P
+due_behind (answer.Pair key value) P h = tt
 due_behind a P h = go (is_conflict_in a) refl
   where
-    go : (b : Bool) → is_conflict_in a ≡ b → WhereDue (Durables b) P
+    go : (b : Bool) → is_conflict_in a ≡ b → WhereDue (behind_last b) P
     go true e = h e
     go false e = tt
+
+pub scanning_behind : (a : Answer) (P : Type 0) → ((key value : ℕ) → a ≡ answer.Pair key value → P) → WhereScanning (behind_answer a) P
+scanning_behind (answer.Pair key value) P h = h key value refl
+scanning_behind a P h = go (is_conflict_in a)
+  where
+    go : (b : Bool) → WhereScanning (behind_last b) P
+    go true = tt
+    go false = tt
+
+pub unsettled : (a : Answer) (P : Type 0) → IsSettled (behind_answer a) P
+unsettled (answer.Pair key value) P = tt
+unsettled a P = go (is_conflict_in a)
+  where
+    go : (b : Bool) → IsSettled (behind_last b) P
+    go true = tt
+    go false = tt
+
+-- a further answer comes behind a conflict
+pub conflict_more : (a : Answer) → is_conflict_in a ≡ true → is_last a ≡ false
+conflict_more (answer.Refused (refusal.Conflict h)) e = refl
+conflict_more (answer.Refused why) e = absurd (true≢false (sym e))
+conflict_more a e = absurd (true≢false (sym e))
 
 -- ## Ends
 
@@ -112,6 +134,7 @@ conflict_open g s own is_half_aborted log call.Begin h e = no_begin s own log h 
 conflict_open g s own is_half_aborted log (call.Get k) h e = not_open s own is_half_aborted _ h e
 conflict_open g s own is_half_aborted log (call.Put k v) h e = not_open s own is_half_aborted _ h e
 conflict_open g s own is_half_aborted log (call.Del k) h e = not_open s own is_half_aborted _ h e
+conflict_open g s own is_half_aborted log (call.Scan from to) h e = not_open s own is_half_aborted _ h e
 conflict_open g s own is_half_aborted log call.Commit h e = not_open s own is_half_aborted _ h e
 conflict_open g s own is_half_aborted log call.Abort h e = not_open s own false _ h e
 conflict_open g s own is_half_aborted log c h e = absurd (cc)
@@ -174,10 +197,40 @@ conflict_is (answer.Refused (refusal.Conflict h)) e = (h, refl)
 conflict_is (answer.Refused why) e = absurd (true≢false (sym e))
 conflict_is a e = absurd (true≢false (sym e))
 
-pub hindered_open : (g : Opening) (xs : List Done) (x : Done) (was : Log) → Answers g xs x was → is_conflict_in (answered x.outcome.deed) ≡ true → ((state_after g (front (x ∷ xs))).worker x.outcome.session).is_open ≡ true
-hindered_open g xs x was h e = let c = conflict_is (answered x.outcome.deed) e in elim (h.refused (refusal.Conflict c.0) c.1) [
+-- a scan is refused where none is open
+met_shut : (g : Opening) (s : State) (own : ℕ) (is_half_aborted : Bool) (log : Log) (c : Call) (why : Refusal) → IsMetOnWay c why → (s.worker own).is_open ≡ false → refusal_in g s own is_half_aborted log c ≡ Some refusal.NoTransaction
+met_shut g s own is_half_aborted log (call.Scan from to) (refusal.Conflict h) met closed = shut s own is_half_aborted closed
+met_shut g s own is_half_aborted log c why met closed = absurd met
+
+-- so one that met a conflict on its way was of an open transaction
+met_open : (g : Opening) (xs : List Done) (x : Done) (was : Log) (h : Answers g xs x was) (why : Refusal) → IsMetOnWay (call_behind (outcomes xs) (asked x.outcome.deed)) why → is_conflict_in (answered x.outcome.deed) ≡ true
+    → ((state_after g (front xs)).worker x.outcome.session).is_open ≡ true
+met_open g xs x was h why met k = elim (cases_Bool ((state_after g (front xs)).worker x.outcome.session).is_open) [
+  | inl e ↦ e
+  | inr e ↦ absurd (elim (h.refuses refusal.NoTransaction tt (met_shut g (state_after g (front xs)) x.outcome.session (is_half_done x.outcome.session xs) was (call_behind (outcomes xs) (asked x.outcome.deed)) why met e)) [
+    | inl q ↦ true≢false (sym k ∙ ap is_conflict_in q)
+    | inr o ↦ elim o [
+      | inl q ↦ true≢false (sym k ∙ ap is_conflict_in q)
+      | inr q ↦ true≢false (sym k ∙ ap is_conflict_in q)
+    ]
+  ])
+]
+
+-- and a conflict ends none
+still_open : (d : Deed) (b : Bool) → is_conflict_in (answered d) ≡ true → open_after d b ≡ b
+still_open (Begun n) b e = absurd (true≢false (sym e))
+still_open (Committed n at) b e = absurd (true≢false (sym e))
+still_open (Aborted c n at backs) b e = absurd (true≢false (sym e))
+still_open _ b e = refl
+
+pub hindered_open : (g : Opening) (group : ℕ) (xs : List Done) (x : Done) (was : Log) → Tells limits g group xs x → Answers g xs x was → is_conflict_in (answered x.outcome.deed) ≡ true → ((state_after g (front (x ∷ xs))).worker x.outcome.session).is_open ≡ true
+hindered_open g group xs x was t h e = let c = conflict_is (answered x.outcome.deed) e in elim (h.refused (refusal.Conflict c.0) c.1) [
   | inl q ↦ conflict_open g (state_after g (front (x ∷ xs))) x.outcome.session (is_half_done x.outcome.session xs) was (call_behind (outcomes xs) (asked x.outcome.deed)) c.0 q
-  | inr q ↦ absurd (no_latch c.0 q)
+  | inr o ↦ elim o [
+    | inl q ↦ absurd (no_latch c.0 q)
+    | inr q ↦ open_own limits g group xs x t x.outcome.session refl
+        ∙ (still_open x.outcome.deed ((state_after g (front xs)).worker x.outcome.session).is_open e ∙ met_open g xs x was h (refusal.Conflict c.0) q e)
+  ]
 ]
   where
     no_latch : (h : ℕ) → refusal.Conflict h ≡ refusal.RowSpent → ⊥

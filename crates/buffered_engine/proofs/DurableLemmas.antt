@@ -19,6 +19,7 @@ use Rattle.session_desks.specs.Parts.{IsSeated, Works, here, logs, shape}
 use Rattle.session_desks.proofs.SeatLemmas.{seated_of}
 use Rattle.paged_desks.specs.Machines.{memory, view_of}
 use Rattle.paged_desks.specs.declared.machine.PagedMachine.{PagedMachine}
+use Rattle.paged_scans.specs.declared.scans.Scan.{Scan}
 use Rattle.buffered_engine.specs.Inside.Asks.{AreNumbers, durable_of}
 use Rattle.buffered_engine.specs.Inside.Parts.{IsEngine, state_by}
 use Rattle.buffered_engine.specs.Receipts.{AreFlushed}
@@ -30,9 +31,9 @@ use Rattle.buffered_engine.proofs.TakeLemmas.{flushed_take, has_run_none, has_ru
 pub works_of : {T E : Type 0} (r : Result T E) (x : T) (works : Bool) → r ≡ Ok x → IsErr r ↔ (works ≡ false) → works ≡ true
 works_of r x works e h = elim (cases_Bool works) [ inl t ↦ t | inr f ↦ absurd (true≢false (sym (subst (λ q. IsErr q) e (h.1 f)))) ]
 
-module _ {D : Type 0} (story : D → Story) (m : PagedMachine D) (next : Next) (ends : List (List End)) (works : Works m.machine) (e : IsEngine story m next ends) where
+module _ {D : Type 0} (story : D → Story) (m : PagedMachine D) (next : Next) (scan : Scan) (ends : List (List End)) (works : Works m.machine) (e : IsEngine story m next scan ends) where
   abbrev was : State D
-  was = state_by m next ends
+  was = state_by m next scan ends
 
   abbrev many : ℕ
   many = m.machine.work.session.workers
@@ -57,19 +58,19 @@ module _ {D : Type 0} (story : D → Story) (m : PagedMachine D) (next : Next) (
   module _ (law : EveryTake) (next_new : Next) (ends_new : List (List End)) (numbers : List ℕ) (found : Option Receipt) (long : many ≤ length numbers)
       (are : AreNumbers many (logs m.machine) numbers) (takes : Takes (take many numbers) ends found ends_new) where
     abbrev is : State D
-    is = state_by m next_new ends_new
+    is = state_by m next_new scan ends_new
 
     abbrev Tells : Type 0
     Tells = (g : Opening) (xs : List Done) (names : List Name) → InRun was g xs names → IsTaken g xs names (durable_of found) × InRun is g xs (told_with (durable_of found) names)
 
     pub tells_some : (r : Receipt) → found ≡ Some r → next_new ≡ next → Tells
-    tells_some r q n g xs names run = in_run_some law was is (take many numbers) numbers found refl long are refl refl refl refl refl takes g xs names run r q n
+    tells_some r q n g xs names run = in_run_some law was is (take many numbers) numbers found refl long are refl refl refl refl refl refl takes g xs names run r q n
 
     pub tells_none : found ≡ None → next_new ≡ behind_durables next → Tells
-    tells_none q n g xs names run = in_run_none law was is (take many numbers) numbers found refl long are refl refl refl refl refl takes g xs names run q n
+    tells_none q n g xs names run = in_run_none law was is (take many numbers) numbers found refl long are refl refl refl refl refl refl takes g xs names run q n
 
-    pub engine_some : (r : Receipt) → found ≡ Some r → next_new ≡ next → IsEngine story m next_new ends_new
-    engine_some r q n = record { few = e.few; fits = e.fits; ready = e.ready; run = λ w. has_run_some law was is (take many numbers) numbers found refl long are refl refl refl refl refl takes (λ k. refl) refl (e.run w) r q n }
+    pub engine_some : (r : Receipt) → found ≡ Some r → next_new ≡ next → IsEngine story m next_new scan ends_new
+    engine_some r q n = record { few = e.few; fits = e.fits; ready = e.ready; within = e.within; run = λ w. has_run_some law was is (take many numbers) numbers found refl long are refl refl refl refl refl refl takes (λ k. refl) refl (e.run w) r q n }
 
-    pub engine_none : found ≡ None → next_new ≡ behind_durables next → IsEngine story m next_new ends_new
-    engine_none q n = record { few = e.few; fits = e.fits; ready = e.ready; run = λ w. has_run_none law was is (take many numbers) numbers found refl long are refl refl refl refl refl takes (λ k. refl) refl (e.run w) q n }
+    pub engine_none : found ≡ None → next_new ≡ behind_durables next → IsEngine story m next_new scan ends_new
+    engine_none q n = record { few = e.few; fits = e.fits; ready = e.ready; within = e.within; run = λ w. has_run_none law was is (take many numbers) numbers found refl long are refl refl refl refl refl refl takes (λ k. refl) refl (e.run w) q n }

@@ -1,6 +1,7 @@
 pub mod HalfMarks
 pub mod OpenMarks
 pub mod BeginLemmas
+pub mod ScanLemmas
 pub mod SeenLemmas
 pub mod AbortTracks
 pub mod AbortLemmas

@@ -16,6 +16,7 @@ use Rattle.page_store.specs.Saved.{Reaches}
 use Rattle.paged_desks.specs.Machines.{IsReady, pages}
 use Rattle.paged_desks.specs.declared.machine.PagedMachine.{PagedMachine}
 use Rattle.paged_rows.specs.Paged.{IsFedIfFaithful, Paged}
+use Rattle.paged_scans.specs.declared.scans.Scan.{Scan}
 use Rattle.buffered_engine.specs.Inside.Parts.{IsEngine, state_by}
 use Rattle.buffered_engine.specs.States.{HasRun, InRun, State}
 
@@ -33,19 +34,19 @@ fed_noted p old new noted h faithful = let f = h faithful in record {
   };
 }
 
-module _ {D : Type 0} (story : D → Story) (m : PagedMachine D) (disk : D) (next : Next) (ends : List (List End)) where
+module _ {D : Type 0} (story : D → Story) (m : PagedMachine D) (disk : D) (next : Next) (scan : Scan) (ends : List (List End)) where
   abbrev n : PagedMachine D
   n = on_disk disk m
 
   abbrev was : State D
-  was = state_by m next ends
+  was = state_by m next scan ends
 
   abbrev is : State D
-  is = state_by n next ends
+  is = state_by n next scan ends
 
   -- it stands in the same runs
   pub in_run_on : (g : Opening) (xs : List Done) (names : List Name) → InRun was g xs names → InRun is g xs names
-  in_run_on g xs names r = record { workers = r.workers; next = r.next; turn = r.turn; tied = r.tied; tracks = r.tracks; told = r.told; settled = r.settled }
+  in_run_on g xs names r = record { workers = r.workers; next = r.next; turn = r.turn; scan = r.scan; tied = r.tied; tracks = r.tracks; told = r.told; settled = r.settled }
 
   has_run_on : HasRun was → HasRun is
   has_run_on h = record { opening = h.opening; done = h.done; names = h.names; in_run = in_run_on h.opening h.done h.names h.in_run; is_half_aborted = h.is_half_aborted; room = h.room; is_open = h.is_open }
@@ -69,5 +70,5 @@ module _ {D : Type 0} (story : D → Story) (m : PagedMachine D) (disk : D) (nex
   fed_put put.Done noted not_noted h = fed_noted (pages m) (story m.machine.work.disk) (story disk) (noted refl) h
   fed_put put.Failed noted not_noted h = subst (λ (d : D). IsFedIfFaithful (pages m) (story d)) (sym (not_noted refl)) h
 
-  pub engine_on : (p : Put) → (p ≡ put.Done → Noted (story m.machine.work.disk) (story disk)) → (p ≡ put.Failed → disk ≡ m.machine.work.disk) → IsEngine story m next ends → IsEngine story n next ends
-  engine_on p noted not_noted e = record { few = e.few; fits = e.fits; ready = λ w. let r = e.ready w in ready_on (fed_put p noted not_noted r.fed) r; run = λ w. has_run_on (e.run w) }
+  pub engine_on : (p : Put) → (p ≡ put.Done → Noted (story m.machine.work.disk) (story disk)) → (p ≡ put.Failed → disk ≡ m.machine.work.disk) → IsEngine story m next scan ends → IsEngine story n next scan ends
+  engine_on p noted not_noted e = record { few = e.few; fits = e.fits; within = e.within; ready = λ w. let r = e.ready w in ready_on (fed_put p noted not_noted r.fed) r; run = λ w. has_run_on (e.run w) }

@@ -17,6 +17,8 @@ use Rattle.paged_desks.specs.Machines.{IsReady, memory, view_of}
 use Rattle.paged_desks.specs.declared.machine.PagedMachine.{PagedMachine}
 use Rattle.paged_engine.specs.Openings as paged
 use Rattle.paged_engine.specs.declared.opening.Size.{Size}
+use Rattle.paged_scans.specs.Calls.{IsIn}
+use Rattle.paged_scans.specs.declared.scans.Scan.{Scan}
 use Rattle.buffered_engine.specs.Inside.Parts.{IsEngine, state_by}
 use Rattle.buffered_engine.specs.Openings.{HasOpened}
 use Rattle.buffered_engine.specs.States.{HasRoom, HasRun, InRun, State}
@@ -25,12 +27,12 @@ use Rattle.buffered_engine.specs.States.{HasRoom, HasRun, InRun, State}
 room_closed : (is_open : Bool) (q : List End) (waits : ℕ) → is_open ≡ false → q ≡ [] → HasRoom Line is_open (length q) waits
 room_closed is_open q waits shut none = subst (λ (b : Bool). HasRoom Line b (length q) waits) (sym shut) (let e = ap (λ (l : List End). length l) none in omega arith)
 
-module _ {D : Type 0} (story : D → Story) (law : EveryStart) (size : Size) (s0 : Story) (m : PagedMachine D) (won lost : ℕ) (ready : IsReady story m) (o : paged.HasOpened story size s0 m won lost) (ends : List (List End)) (new : AreNew m.machine.work.session.workers ends) where
+module _ {D : Type 0} (story : D → Story) (law : EveryStart) (size : Size) (s0 : Story) (m : PagedMachine D) (won lost : ℕ) (ready : IsReady story m) (o : paged.HasOpened story size s0 m won lost) (scan : Scan) (within : IsIn scan) (ends : List (List End)) (new : AreNew m.machine.work.session.workers ends) where
   abbrev g : Opening
   g = o.opening
 
   abbrev is : State D
-  is = state_by m Line ends
+  is = state_by m Line scan ends
 
   tied : Tied g m.machine.work.session.group [] (view_of m) (memory m)
   tied = let b = o.at_start.behind in record {
@@ -44,6 +46,7 @@ module _ {D : Type 0} (story : D → Story) (law : EveryStart) (size : Size) (s0
     workers = o.at_start.workers;
     next = tt;
     turn = tt;
+    scan = tt;
     tied = tied;
     tracks = law g ends (subst (λ k. AreNew k ends) (sym o.at_start.workers) new);
     told = refl;
@@ -61,12 +64,13 @@ module _ {D : Type 0} (story : D → Story) (law : EveryStart) (size : Size) (s0
     is_open = tt;
   }
 
-  pub is_engine : IsEngine story m Line ends
+  pub is_engine : IsEngine story m Line scan ends
   is_engine = record {
     few = (holds_of (shape m.machine) (view_of m) (here m.machine) m.machine.desks.items ready.sound.desks).rows.most;
     fits = ready.sound.fits;
     ready = λ _. ready;
     run = λ _. has_run;
+    within = within;
   }
 
   pub has_opened : HasOpened size s0 (story m.machine.work.disk) is m.machine.master.generation won lost

@@ -1,16 +1,21 @@
 -- An engine's call: what it says, and what holds of the engine behind it.
-use Rattle.std.proofs.Common.{◌≡◌, ◌≤◌, ◌<◌, ℕ, Bool, true, leb, List, length, IfSome, sym, ◌∙◌, subst}
+use Rattle.std.proofs.Common.{◌≡◌, ◌≤◌, ◌<◌, ℕ, Bool, true, false, leb, List, length, IfSome, refl, sym, ap, ◌∙◌, subst}
+use Rattle.map_model.specs.Pairings.{is_last}
 use Rattle.map_model.specs.declared.call.Answer.{Answer}
 use Rattle.map_model.specs.declared.call.Answer.TheVariants as answer
 use Rattle.map_model.specs.declared.call.Call.{Call}
 use Rattle.map_model.specs.declared.call.Call.TheVariants as call
 use Rattle.page_model.specs.Limits.{waiting_ends}
+use Rattle.core_calls.specs.Fronts.{Done}
+use Rattle.core_calls.specs.Steps.{is_conflict}
 use Rattle.core_commit.specs.Rises.{EveryRise}
+use Rattle.core_state.specs.Openings.{Opening}
 use Rattle.lean_disk.specs.Story.{Story}
 use Rattle.row_opening.specs.Openings.{EveryReached}
 use Rattle.engine_trait.specs.Calls.{IsAsked}
-use Rattle.engine_front.specs.Turns.{is_conflict_in}
+use Rattle.engine_front.specs.Turns.{behind_answer, behind_last}
 use Rattle.engine_front.specs.declared.calls.Next.{Next}
+use Rattle.engine_front.specs.declared.calls.Next.TheVariants as following
 use Rattle.engine_front.specs.declared.calls.Next.TheVariants.{Abort, Line}
 use Rattle.group_commit.specs.Laws.{EveryOutcome}
 use Rattle.group_commit.specs.Queues.{queue_of}
@@ -21,22 +26,30 @@ use Rattle.session_desks.proofs.SeatLemmas.{turn_high, turn_low}
 use Rattle.paged_desks.specs.Calls.{CallDoes, OnLine}
 use Rattle.paged_desks.specs.Machines.{view_of}
 use Rattle.paged_desks.specs.declared.machine.PagedMachine.{PagedMachine}
-use Rattle.buffered_engine.specs.Calls.{AbortsInRuns, Asked, AskedAbort, DoesInRuns, IsTo}
+use Rattle.paged_scans.specs.Calls.{IsIn, StandsAt}
+use Rattle.paged_scans.specs.declared.scans.Scan.{Scan}
+use Rattle.buffered_engine.specs.Calls.{AbortsInRuns, Asked, AskedAbort, AskedScan, DoesInRuns, IsTo, ScansInRuns, TellsFewer}
 use Rattle.buffered_engine.specs.Inside.Asks.{IsDue, OnAsked, next_behind, put_ends}
 use Rattle.buffered_engine.specs.Inside.Parts.{IsEngine, MachineWent, state_by}
-use Rattle.buffered_engine.specs.States.{HasRun, State}
+use Rattle.buffered_engine.specs.Inside.Scans.{scan_behind, scan_of}
+use Rattle.buffered_engine.specs.States.{HasRun, State, pairs_left}
 use Rattle.buffered_engine.specs.declared.ends.Response.{Response}
-use Rattle.buffered_engine.proofs.AskingLemmas.{aborts_in, asked_of, begun_of, due_of, end_room, few, in_runs, open_due, room_on_abort, room_on_line, run_behind, some_session}
+use Rattle.buffered_engine.proofs.AskingLemmas.{aborts_in, asked_of, begun_of, due_of, end_room, few, going_of, in_runs, open_due, room_on_abort, room_on_line, room_on_scan, run_behind, scans_in, some_session}
 use Rattle.buffered_engine.proofs.CallLemmas.{went}
+use Rattle.buffered_engine.proofs.ScanLemmas.{fewer_left, pair_asked, pair_stands, scan_kept}
 use Rattle.buffered_engine.proofs.WentLemmas.{went_more}
 
-module _ {D : Type 0} (reached : EveryReached) (outcome : EveryOutcome) (rises : EveryRise) (story : D → Story) (faults : D → ℕ) (m n : PagedMachine D) (next next_new : Next) (ends ends_new : List (List End)) (works : Works m.machine) (e : IsEngine story m next ends) (r : Response)
-    (next_is : next_new ≡ next_behind n.machine.work.session.works next r.answer) (ends_are : ends_new ≡ put_ends r.receipt r.answer ends) where
+no_scan : (b : Bool) → following.Scan ≡ behind_last b → ⊥
+no_scan true e = absurd (cc)
+no_scan false e = absurd (cc)
+
+module _ {D : Type 0} (reached : EveryReached) (outcome : EveryOutcome) (rises : EveryRise) (story : D → Story) (faults : D → ℕ) (m n : PagedMachine D) (next next_new : Next) (scan scan_new : Scan) (ends ends_new : List (List End)) (works : Works m.machine) (e : IsEngine story m next scan ends) (r : Response)
+    (next_is : next_new ≡ next_behind n.machine.work.session.works next r.answer) (ends_are : ends_new ≡ put_ends r.receipt r.answer ends) (within : IsIn scan_new) where
   abbrev was : State D
-  was = state_by m next ends
+  was = state_by m next scan ends
 
   abbrev is : State D
-  is = state_by n next_new ends_new
+  is = state_by n next_new scan_new ends_new
 
   abbrev a : Answer
   a = r.answer
@@ -56,20 +69,30 @@ module _ {D : Type 0} (reached : EveryReached) (outcome : EveryOutcome) (rises :
   -- ## On a line
 
   module _ (own : ℕ) (c : Call) (is_long : Bool) (line : next ≡ Line) (asked : IsAsked sessions own c) (long : c ≡ call.Begin → is_long ≡ leb waiting_ends (length (queue_of ends own)))
-      (turn : Works n.machine → is_conflict_in a ≡ true → n.machine.work.session.own ≡ own) (w : MachineWent story faults (OnAsked own c is_long) sessions own c r m n) where
+      (turn : Works n.machine → is_last a ≡ false → n.machine.work.session.own ≡ own) (scan_is : scan_new ≡ scan_behind a (scan_of c scan)) (w : MachineWent story faults (OnAsked own c is_long) sessions own c r m n) where
+    pair_to : (key value : ℕ) → a ≡ answer.Pair key value → IsTo c (answer.Pair key value)
+    pair_to key value q = subst (IsTo c) q w.to
+
+    of_scan : (key value : ℕ) → a ≡ answer.Pair key value → c ≡ call.Scan (scan_of c scan).from (scan_of c scan).to
+    of_scan key value q = pair_asked c scan key value (pair_to key value q)
+
+    stands : (g : Opening) (xs : List Done) → OnAsked own c is_long g xs → (key value : ℕ) → a ≡ answer.Pair key value → StandsAt own (scan_of c scan) g xs
+    stands g xs on key value q = pair_stands own c is_long scan g xs key value (pair_to key value q) on
+
     pub asked_went : Asked story own c a was is
     asked_went = went (DoesInRuns own c a was is old new) a was is works
-        (λ g xs names run. in_runs reached outcome rises story m n next next_new ends ends_new works e faults (OnAsked own c is_long) own c r w next_is ends_are turn c (OnAsked own c is_long) w.does g xs names run (asked_of was line own c is_long g xs names run asked long))
+        (λ g xs names run. in_runs reached outcome rises story m n next next_new scan scan_new ends ends_new works e faults (OnAsked own c is_long) own c r w next_is ends_are turn (scan_of c scan) scan_is c (OnAsked own c is_long) w.does of_scan stands g xs names run (asked_of was line own c is_long g xs names run asked long))
         w.may w.works w.not_broken next_is w.session.0 w.session.1
 
-    pub asked_engine : IsEngine story n next_new ends_new
+    pub asked_engine : IsEngine story n next_new scan_new ends_new
     asked_engine = record {
-      few = few reached outcome rises story m n next next_new ends ends_new works e faults (OnAsked own c is_long) own c r w next_is ends_are turn;
+      few = few reached outcome rises story m n next next_new scan scan_new ends ends_new works e faults (OnAsked own c is_long) own c r w next_is ends_are turn (scan_of c scan) scan_is;
       fits = w.fits;
       ready = w.ready;
-      run = run_behind reached outcome rises story m n next next_new ends ends_new works e faults (OnAsked own c is_long) own c r w next_is ends_are turn c (OnAsked own c is_long) w.does
+      run = run_behind reached outcome rises story m n next next_new scan scan_new ends ends_new works e faults (OnAsked own c is_long) own c r w next_is ends_are turn (scan_of c scan) scan_is c (OnAsked own c is_long) w.does of_scan stands
           (λ q. (some_session sessions own c a asked w.to q).0) (room_on_line was line stood) (λ k q. begun_of was line own c a stood.opening stood.done stood.names stood.in_run asked w.to k q)
           (asked_of was line own c is_long stood.opening stood.done stood.names stood.in_run asked long);
+      within = within;
     }
 
     -- its end finds room
@@ -79,7 +102,7 @@ module _ {D : Type 0} (reached : EveryReached) (outcome : EveryOutcome) (rises :
 
   -- ## Behind a conflict
 
-  module _ (due : next ≡ Abort) (turn : Works n.machine → n.machine.work.session.own ≡ m.machine.work.session.own) (w : MachineWent story faults OnLine 1 m.machine.work.session.own call.Abort r m n)
+  module _ (due : next ≡ Abort) (turn : Works n.machine → n.machine.work.session.own ≡ m.machine.work.session.own) (scan_is : scan_new ≡ scan) (w : MachineWent story faults OnLine 1 m.machine.work.session.own call.Abort r m n)
       (does : m.machine.work.session.is_open ≡ true → (c : Call) → CallDoes story (IsDue m.machine.work.session.own c) m.machine.work.session.own c a m n) where
     abbrev own : ℕ
     own = m.machine.work.session.own
@@ -96,20 +119,66 @@ module _ {D : Type 0} (reached : EveryReached) (outcome : EveryOutcome) (rises :
     no_begin : (k : ℕ) → a ≡ answer.Begun k → ⊥
     no_begin k q = subst (IsTo call.Abort) q w.to
 
+    no_pair : (key value : ℕ) → a ≡ answer.Pair key value → ⊥
+    no_pair key value q = subst (IsTo call.Abort) q w.to
+
+    kept : scan_new ≡ scan_behind a scan
+    kept = scan_is ∙ scan_kept call.Abort a scan w.to (λ from to q. absurd (cc))
+
     pub abort_went : AskedAbort story a was is
     abort_went = went (AbortsInRuns a was is old new) a was is works
-        (aborts_in was due is a old new (λ c g xs names run. in_runs reached outcome rises story m n next next_new ends ends_new works e faults OnLine own call.Abort r all next_is ends_are (λ b q. turn b) c (IsDue own c) (does is_open c) g xs names run))
+        (aborts_in was due is a old new (λ c g xs names run. in_runs reached outcome rises story m n next next_new scan scan_new ends ends_new works e faults OnLine own call.Abort r all next_is ends_are (λ b q. turn b) scan kept c (IsDue own c) (does is_open c) (λ key value q. absurd (no_pair key value q)) (λ h ys may key value q. absurd (no_pair key value q)) g xs names run))
         all.may w.works w.not_broken next_is w.session.0 w.session.1
 
-    pub abort_engine : IsEngine story n next_new ends_new
+    pub abort_engine : IsEngine story n next_new scan_new ends_new
     abort_engine = let d = due_of was due stood.opening stood.done stood.names stood.in_run in record {
-      few = few reached outcome rises story m n next next_new ends ends_new works e faults OnLine own call.Abort r all next_is ends_are (λ b q. turn b);
+      few = few reached outcome rises story m n next next_new scan scan_new ends ends_new works e faults OnLine own call.Abort r all next_is ends_are (λ b q. turn b) scan kept;
       fits = w.fits;
       ready = w.ready;
-      run = run_behind reached outcome rises story m n next next_new ends ends_new works e faults OnLine own call.Abort r all next_is ends_are (λ b q. turn b) d.0 (IsDue own d.0) (does is_open d.0)
+      run = run_behind reached outcome rises story m n next next_new scan scan_new ends ends_new works e faults OnLine own call.Abort r all next_is ends_are (λ b q. turn b) scan kept d.0 (IsDue own d.0) (does is_open d.0) (λ key value q. absurd (no_pair key value q)) (λ h ys may key value q. absurd (no_pair key value q))
           (λ q. seated.0) (room_on_abort was due stood) (λ k q. absurd (no_begin k q)) d.1;
+      within = within;
     }
 
     pub room_abort_of : IfSome r.receipt (λ x. (0 < x.log) × (x.log ≤ length ends)) × IfSome r.receipt (λ x. length (queue_of ends x.log) < 257)
     room_abort_of = end_room sessions own a r.receipt (view_of m) (view_of n) ends (λ k. (desk_of was.work was.desks k).session.is_open) w.ends (λ q. seated) (stood.in_run.tracks.sessions ∙ stood.in_run.workers)
         (λ k low high. room_on_abort was due stood k low (subst (λ (u : ℕ). k ≤ u) (sym stood.in_run.workers) high))
+
+  -- ## Behind a pair of a scan
+
+  module _ (due : next ≡ following.Scan) (turn : Works n.machine → n.machine.work.session.own ≡ m.machine.work.session.own) (scan_is : scan_new ≡ scan_behind a scan)
+      (w : MachineWent story faults (StandsAt m.machine.work.session.own scan) sessions m.machine.work.session.own (call.Scan scan.from scan.to) r m n) where
+    abbrev asker : ℕ
+    asker = m.machine.work.session.own
+
+    asker_low : 0 < asker
+    asker_low = turn_low (shape m.machine) (view_of m) (here m.machine) m.machine.desks.items (e.ready works).sound.desks
+
+    none_begun : (k : ℕ) → a ≡ answer.Begun k → ⊥
+    none_begun k q = subst (IsTo (call.Scan scan.from scan.to)) q w.to
+
+    pub scan_went : AskedScan story a was is
+    scan_went = went (ScansInRuns a was is old new) a was is works
+        (scans_in was due is a old new (λ g xs names run. in_runs reached outcome rises story m n next next_new scan scan_new ends ends_new works e faults (StandsAt asker scan) asker (call.Scan scan.from scan.to) r w next_is ends_are (λ b q. turn b) scan scan_is
+        (call.Scan scan.from scan.to) (StandsAt asker scan) w.does (λ key value q. refl) (λ h ys may key value q. may) g xs names run))
+        w.may w.works w.not_broken next_is w.session.0 w.session.1
+
+    pub scan_engine : IsEngine story n next_new scan_new ends_new
+    scan_engine = record {
+      few = few reached outcome rises story m n next next_new scan scan_new ends ends_new works e faults (StandsAt asker scan) asker (call.Scan scan.from scan.to) r w next_is ends_are (λ b q. turn b) scan scan_is;
+      fits = w.fits;
+      ready = w.ready;
+      run = run_behind reached outcome rises story m n next next_new scan scan_new ends ends_new works e faults (StandsAt asker scan) asker (call.Scan scan.from scan.to) r w next_is ends_are (λ b q. turn b) scan scan_is
+          (call.Scan scan.from scan.to) (StandsAt asker scan) w.does (λ key value q. refl) (λ h ys may key value q. may)
+          (λ q. asker_low) (room_on_scan was due stood) (λ k q. absurd (none_begun k q)) (going_of was due stood.opening stood.done stood.names stood.in_run).1;
+      within = within;
+    }
+
+    -- behind a pair it has one pair less to tell
+    pub scan_fewer : Works n.machine → TellsFewer was is
+    scan_fewer q goes = go a (sym goes ∙ (next_is ∙ ap (λ (b : Bool). next_behind b next a) q)) scan_is
+      where
+        go : (b : Answer) → following.Scan ≡ behind_answer b → scan_new ≡ scan_behind b scan → pairs_left scan_new < pairs_left scan
+        go (answer.Pair key value) g k = fewer_left scan.met scan_new.met (ap (λ (x : Scan). x.met) k) within.met
+        go (answer.Refused why) g k = absurd (no_scan (is_conflict why) g)
+        go b g k = absurd (cc)

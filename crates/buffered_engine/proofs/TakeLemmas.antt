@@ -14,7 +14,7 @@ use Rattle.call_parts.specs.Memory.{Memory}
 use Rattle.engine_trait.specs.Calls.{is_half_done}
 use Rattle.engine_front.specs.Turns.{IsNext, IsTaken, behind_durables, told_with}
 use Rattle.engine_front.specs.declared.calls.Next.{Next}
-use Rattle.engine_front.specs.declared.calls.Next.TheVariants.{Abort, Durables, Line}
+use Rattle.engine_front.specs.declared.calls.Next.TheVariants.{Abort, Durables, Line, Scan}
 use Rattle.group_commit.specs.Laws.{EveryTake, NothingLaws, TakenLaws}
 use Rattle.group_commit.specs.Queues.{IsSoonest, Takes, is_done, left, next_of, queue_of, settled}
 use Rattle.group_commit.specs.Ripeness.{flushed_of}
@@ -26,7 +26,8 @@ use Rattle.rows_trait.specs.declared.view.View.{View}
 use Rattle.session_desks.specs.Desks.{desk_of}
 use Rattle.buffered_engine.specs.Inside.Asks.{AreNumbers, durable_of}
 use Rattle.paged_desks.specs.Calls.{Tied}
-use Rattle.buffered_engine.specs.States.{HasRoom, HasRun, InRun, IsOfTurn, IsSettled, State, WhereDue, memory_in}
+use Rattle.paged_scans.specs.declared.scans.Scan as scans
+use Rattle.buffered_engine.specs.States.{GoesOnAt, HasRoom, HasRun, InRun, IsOfTurn, IsSettled, State, WhereDue, WhereScanning, memory_in}
 use Rattle.session_desks.specs.declared.desk.Desk.{Desk}
 
 -- ## Queues get no longer
@@ -64,42 +65,51 @@ taken_less fs old new found t w low high =
 
 pub behind_next : (n : Next) (xs : List Done) → IsNext n xs → IsNext (behind_durables n) xs
 behind_next Line xs h = h
-behind_next (Durables true) xs h = h
-behind_next (Durables false) xs h = h
+behind_next Durables xs h = h
+behind_next Scan xs h = h
 behind_next Abort xs h = h
 
 pub behind_due : (n : Next) (P : Type 0) → WhereDue n P → WhereDue (behind_durables n) P
 behind_due Line P h = h
-behind_due (Durables true) P h = h
-behind_due (Durables false) P h = h
+behind_due Durables P h = h
+behind_due Scan P h = h
 behind_due Abort P h = h
+
+behind_scanning : (n : Next) (P : Type 0) → WhereScanning n P → WhereScanning (behind_durables n) P
+behind_scanning Line P h = h
+behind_scanning Durables P h = h
+behind_scanning Scan P h = h
+behind_scanning Abort P h = h
 
 settled_if : (n : Next) (P : Type 0) → P → IsSettled n P
 settled_if Line P h = h
-settled_if (Durables hindered) P h = tt
-settled_if Abort P h = h
+settled_if Durables P h = tt
+settled_if Scan P h = tt
+settled_if Abort P h = tt
 
 -- where it is said that it is settled, it is, or durable lines are still to be told
 settled_as : (n : Next) (P Q : Type 0) → (P → Q) → IsSettled n P → IsSettled n Q
 settled_as Line P Q f h = f h
-settled_as (Durables hindered) P Q f h = tt
-settled_as Abort P Q f h = f h
+settled_as Durables P Q f h = tt
+settled_as Scan P Q f h = tt
+settled_as Abort P Q f h = tt
 
 room_less : (n : Next) (b : Bool) (p q waits : ℕ) → p ≤ q → HasRoom n b q waits → HasRoom n b p waits
 room_less Line true p q waits l h = omega arith
 room_less Line false p q waits l h = omega arith
+room_less Scan true p q waits l h = omega arith
+room_less Scan false p q waits l h = omega arith
 room_less Abort true p q waits l h = omega arith
 room_less Abort false p q waits l h = omega arith
-room_less (Durables hindered) true p q waits l h = elim h [ inl a ↦ inl (omega arith) | inr a ↦ inr (let c = a.0 in (omega arith), a.1) ]
-room_less (Durables hindered) false p q waits l h = omega arith
+room_less Durables true p q waits l h = elim h [ inl a ↦ inl (omega arith) | inr a ↦ inr (let c = a.0 in (omega arith), a.1) ]
+room_less Durables false p q waits l h = omega arith
 
 room_behind : (n : Next) (b : Bool) (p q waits : ℕ) → p ≤ q → p ≡ waits → HasRoom n b q waits → HasRoom (behind_durables n) b p waits
 room_behind Line b p q waits l e h = room_less Line b p q waits l h
+room_behind Scan b p q waits l e h = room_less Scan b p q waits l h
 room_behind Abort b p q waits l e h = room_less Abort b p q waits l h
-room_behind (Durables true) true p q waits l e h = elim h [ inl a ↦ (omega arith) | inr a ↦ (let c = a.1 in omega arith) ]
-room_behind (Durables true) false p q waits l e h = omega arith
-room_behind (Durables false) true p q waits l e h = elim h [ inl a ↦ (omega arith) | inr a ↦ (let c = a.1 in omega arith) ]
-room_behind (Durables false) false p q waits l e h = omega arith
+room_behind Durables true p q waits l e h = elim h [ inl a ↦ (omega arith) | inr a ↦ (let c = a.1 in omega arith) ]
+room_behind Durables false p q waits l e h = omega arith
 
 -- ## A take
 
@@ -112,7 +122,7 @@ flushed_take n w numbers low high = get_or-take n numbers (w - 1) 0 (omega arith
 
 module _ {D : Type 0} (law : EveryTake) (was is : State D) (fs : List ℕ) (numbers : List ℕ) (found : Option Receipt)
     (fs_are : fs ≡ take was.sessions numbers) (long : was.sessions ≤ length numbers) (flushed : AreNumbers was.sessions (memory_in was).log numbers)
-    (view : is.view ≡ was.view) (memory : (memory_in is) ≡ (memory_in was)) (sessions : is.sessions ≡ was.sessions) (group : is.group ≡ was.group) (turn : is.turn ≡ was.turn)
+    (view : is.view ≡ was.view) (memory : (memory_in is) ≡ (memory_in was)) (sessions : is.sessions ≡ was.sessions) (group : is.group ≡ was.group) (turn : is.turn ≡ was.turn) (scan : is.scan ≡ was.scan)
     (takes : Takes fs was.ends found is.ends) where
   pub are_flushed : (g : Opening) (xs : List Done) (names : List Name) → InRun was g xs names → AreFlushed g (state_after g (front xs)) fs
   are_flushed g xs names run = record {
@@ -136,6 +146,9 @@ module _ {D : Type 0} (law : EveryTake) (was is : State D) (fs : List ℕ) (numb
     turned : (n : Next) → WhereDue n (IsOfTurn was.turn xs) → WhereDue n (IsOfTurn is.turn xs)
     turned n h = subst (λ (t : ℕ). WhereDue n (IsOfTurn t xs)) (sym turn) h
 
+    scanned : (n : Next) → WhereScanning n (GoesOnAt was.turn was.scan g xs) → WhereScanning n (GoesOnAt is.turn is.scan g xs)
+    scanned n h = subst (λ (q : ℕ × scans.Scan). WhereScanning n (GoesOnAt q.0 q.1 g xs)) (λ i. (sym turn i, sym scan i)) h
+
     -- the line that is due first
     pub in_run_some : (r : Receipt) → found ≡ Some r → is.next ≡ was.next → IsTaken g xs names (durable_of found) × InRun is g xs (told_with (durable_of found) names)
     in_run_some r e next = subst (λ (o : Option Receipt). IsTaken g xs names (durable_of o) × InRun is g xs (told_with (durable_of o) names)) (sym e) (
@@ -144,6 +157,7 @@ module _ {D : Type 0} (law : EveryTake) (was is : State D) (fs : List ℕ) (numb
         workers = run.workers ∙ sym sessions;
         next = subst (λ (n : Next). IsNext n xs) (sym next) run.next;
         turn = turned is.next (subst (λ (n : Next). WhereDue n (IsOfTurn was.turn xs)) (sym next) run.turn);
+        scan = scanned is.next (subst (λ (n : Next). WhereScanning n (GoesOnAt was.turn was.scan g xs)) (sym next) run.scan);
         tied = moved;
         tracks = t.tracks;
         told = subst (λ (n : Next). IsSettled n (due g (state_after g (front xs)) (told_with (durable_of (Some r)) names) ≡ [])) (sym next) (settled_as was.next (due g (state_after g (front xs)) names ≡ []) (due g (state_after g (front xs)) (told_with (durable_of (Some r)) names) ≡ []) (λ d. absurd (not_none d)) run.told);
@@ -165,6 +179,7 @@ module _ {D : Type 0} (law : EveryTake) (was is : State D) (fs : List ℕ) (numb
         workers = run.workers ∙ sym sessions;
         next = subst (λ (n : Next). IsNext n xs) (sym next) (behind_next was.next xs run.next);
         turn = turned is.next (subst (λ (n : Next). WhereDue n (IsOfTurn was.turn xs)) (sym next) (behind_due was.next (IsOfTurn was.turn xs) run.turn));
+        scan = scanned is.next (subst (λ (n : Next). WhereScanning n (GoesOnAt was.turn was.scan g xs)) (sym next) (behind_scanning was.next (GoesOnAt was.turn was.scan g xs) run.scan));
         tied = moved;
         tracks = t.tracks;
         told = settled_if is.next (due g (state_after g (front xs)) names ≡ []) t.due_is;

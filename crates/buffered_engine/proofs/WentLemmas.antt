@@ -27,6 +27,9 @@ use Rattle.paged_desks.specs.Machines.{IsReady, view_of}
 use Rattle.paged_desks.specs.declared.machine.PagedMachine.{PagedMachine}
 use Rattle.paged_calls.specs.Calls.{del_answer, get_answer, put_answer}
 use Rattle.paged_ends.specs.Ends.{begin_answer, commit_answer, sync_answer}
+use Rattle.paged_scans.specs.Calls.{step_answer}
+use Rattle.paged_scans.specs.declared.scans.Step.{Step}
+use Rattle.paged_scans.specs.declared.scans.Step.TheVariants as step
 use Rattle.buffered_engine.specs.Calls.{IsTo, MayBe, is_stop}
 use Rattle.paged_aborts.specs.Aborts.{HasReceipt, abort_answer}
 use Rattle.buffered_engine.specs.Inside.Asks.{FindsFlushed, IsEndOf, IsEnding, ends_in, receipt_in}
@@ -34,6 +37,7 @@ use Rattle.buffered_engine.specs.Inside.Parts.{MachineWent}
 use Rattle.buffered_engine.specs.Receipts.{IsReceipt, flushed_in}
 use Rattle.buffered_engine.specs.declared.ends.Response.{Response}
 use Rattle.buffered_engine.proofs.AskingLemmas.{may_more}
+use Rattle.buffered_engine.proofs.ScanLemmas.{is_step}
 
 -- ## Refusals
 
@@ -91,6 +95,24 @@ dels many key = record { refused = λ q. refl; to = to; come = λ x. tt; goes = 
     to (Ok x) = tt
     to (Err q) = tt
 
+pub steps : (many from to : ℕ) → IsAnswer many (Call.Scan from to) step_answer
+steps many from to = record { refused = λ q. refl; to = is_step from to; come = come; goes = goes; apart = apart }
+  where
+    come : (x : Step) → MayBe many (step_answer (Ok x))
+    come (step.Pair key value) = tt
+    come (step.More at) = tt
+    come step.End = tt
+
+    goes : (x : Step) → is_stop (step_answer (Ok x)) ≡ false
+    goes (step.Pair key value) = refl
+    goes (step.More at) = refl
+    goes step.End = refl
+
+    apart : (x : Step) (q : Refusal) → step_answer (Ok x) ≡ answer.Refused q → ⊥
+    apart (step.Pair key value) q e = absurd (cc)
+    apart (step.More at) q e = absurd (cc)
+    apart step.End q e = absurd (cc)
+
 pub commits : (many : ℕ) → IsAnswer many Call.Commit commit_answer
 commits many = record { refused = λ q. refl; to = to; come = λ x. tt; goes = λ x. refl; apart = λ x q e. absurd (cc) }
   where
@@ -137,6 +159,12 @@ puts_none own v w (Err why) = ends_none own v w (answer.Refused why) refl
 pub dels_none : (own : ℕ) (v w : View) (r : Result (Option ℕ) Refusal) → IsEndOf own v w (del_answer r) None
 dels_none own v w (Ok x) = ends_none own v w (answer.Was x) refl
 dels_none own v w (Err why) = ends_none own v w (answer.Refused why) refl
+
+pub steps_none : (own : ℕ) (v w : View) (r : Result Step Refusal) → IsEndOf own v w (step_answer r) None
+steps_none own v w (Ok (step.Pair key value)) = ends_none own v w (answer.Pair key value) refl
+steps_none own v w (Ok (step.More at)) = ends_none own v w (answer.More at) refl
+steps_none own v w (Ok step.End) = ends_none own v w answer.End refl
+steps_none own v w (Err why) = ends_none own v w (answer.Refused why) refl
 
 pub syncs_none : (own : ℕ) (v w : View) (r : Result ℕ Refusal) → IsEndOf own v w (sync_answer r) None
 syncs_none own v w (Ok x) = ends_none own v w (answer.Synced x) refl

@@ -8,6 +8,7 @@ use Rattle.map_model.specs.declared.call.Call.TheVariants as call
 use Rattle.map_model.specs.declared.call.Refusal.{Refusal}
 use Rattle.map_model.specs.declared.call.Refusal.TheVariants as refusal
 use Rattle.core_state.specs.Openings.{Opening}
+use Rattle.core_calls.specs.Deeds.{asked}
 use Rattle.core_calls.specs.Fronts.{Done}
 use Rattle.core_calls.specs.Steps.{hindered_in}
 use Rattle.lean_disk.specs.Faults.{HasCause}
@@ -17,12 +18,13 @@ use Rattle.call_parts.specs.Deeds.{Does, Fails}
 use Rattle.engine_front.specs.Stops.{StandsNot, StopsBy}
 use Rattle.engine_front.specs.Turns.{IsTaken, behind_answer, behind_durables, told_with}
 use Rattle.engine_front.specs.declared.calls.Durable.{Durable}
+use Rattle.engine_front.specs.declared.calls.Next.TheVariants.{Scan}
 use Rattle.engine_front.specs.declared.calls.Unanswered.{Unanswered}
 use Rattle.engine_front.specs.declared.calls.Unanswered.TheVariants as unanswered
 use Rattle.group_commit.specs.Queues.{queued}
 use Rattle.group_commit.specs.declared.receipts.Receipt.{Receipt}
 use Rattle.paged_desks.specs.Calls.{Comes, ends_work}
-use Rattle.buffered_engine.specs.States.{InRun, State, memory_in}
+use Rattle.buffered_engine.specs.States.{InRun, State, memory_in, pairs_left}
 use Rattle.buffered_engine.specs.declared.calls.Aborted.{Aborted}
 use Rattle.buffered_engine.specs.declared.calls.Began.{Began}
 use Rattle.buffered_engine.specs.declared.calls.Synced.{Synced}
@@ -48,12 +50,21 @@ MayBe sessions (answer.Refused refusal.DiskFault) = Unit {0}
 MayBe sessions (answer.Refused (refusal.Damaged area place)) = Unit {0}
 MayBe sessions a = HasCome sessions a
 
+-- a step of a scan, which is not refused
+abbrev pub IsStep : Answer → Type 0
+IsStep (answer.Pair key value) = Unit {0}
+IsStep (answer.More from) = Unit {0}
+IsStep answer.End = Unit {0}
+IsStep (answer.Refused why) = Unit {0}
+IsStep a = ⊥
+
 -- an answer to a call of its kind, which is not refused
 abbrev pub IsTo : Call → Answer → Type 0
 IsTo call.Begin (answer.Begun number) = Unit {0}
 IsTo (call.Get key) (answer.Value value) = Unit {0}
 IsTo (call.Put key value) (answer.Was was) = Unit {0}
 IsTo (call.Del key) (answer.Was was) = Unit {0}
+IsTo (call.Scan from to) a = IsStep a
 IsTo call.Commit (answer.Committed number at) = Unit {0}
 IsTo call.Abort (answer.Aborted number) = Unit {0}
 IsTo call.Sync (answer.Synced at) = Unit {0}
@@ -103,6 +114,11 @@ abbrev pub AbortsInRuns : {D : Type 0} → Answer → (was is : State D) → (ol
 AbortsInRuns a was is old new = (g : Opening) (y : Done) (earlier : List Done) (names : List Name) → InRun was g (y ∷ earlier) names → (c : Call) → hindered_in y.outcome.deed ≡ Some c
     → Comes a (DoesIn g (y ∷ earlier) names y.outcome.session c a was is old new) (Fails g was.group (y ∷ earlier) y.outcome.session c (memory_in was) old new) (StandsNot g was.group (y ∷ earlier) (memory_in was) old)
 
+-- what follows the newest outcome, a pair of a scan
+abbrev pub ScansInRuns : {D : Type 0} → Answer → (was is : State D) → (old new : Story) → Type 0
+ScansInRuns a was is old new = (g : Opening) (y : Done) (earlier : List Done) (names : List Name) → InRun was g (y ∷ earlier) names
+    → Comes a (DoesIn g (y ∷ earlier) names y.outcome.session (asked y.outcome.deed) a was is old new) (Fails g was.group (y ∷ earlier) y.outcome.session (asked y.outcome.deed) (memory_in was) old new) (StandsNot g was.group (y ∷ earlier) (memory_in was) old)
+
 -- One call, whatever it did, which took the engine from one state to another.
 pub record Went {D : Type 0} (Did : Type 0) (a : Answer) (was is : State D) : Type 0 where
   pub does : was.works ≡ true → Did
@@ -123,6 +139,14 @@ Asked story own c a was is = Went (DoesInRuns own c a was is (story was.disk) (s
 abbrev pub AskedAbort : {D : Type 0} → (story : D → Story) → Answer → (was is : State D) → Type 0
 AskedAbort story a was is = Went (AbortsInRuns a was is (story was.disk) (story is.disk)) a was is
 
+-- what follows a pair of a scan was asked
+abbrev pub AskedScan : {D : Type 0} → (story : D → Story) → Answer → (was is : State D) → Type 0
+AskedScan story a was is = Went (ScansInRuns a was is (story was.disk) (story is.disk)) a was is
+
+-- where the scan still goes on, it may tell fewer pairs than before
+abbrev pub TellsFewer : {D : Type 0} → (was is : State D) → Type 0
+TellsFewer was is = is.next ≡ Scan → pairs_left is.scan < pairs_left was.scan
+
 -- it was answered so, by one outcome more in each run
 abbrev pub Answered : {D : Type 0} → (story : D → Story) → (own : ℕ) → Call → (was is : State D) → Answer → Type 0
 Answered story own c was is a = (g : Opening) (xs : List Done) (names : List Name) → InRun was g xs names
@@ -141,6 +165,15 @@ AbortAnswered story was is a = (g : Opening) (y : Done) (earlier : List Done) (n
 abbrev pub AbortStopped : {D : Type 0} → (story : D → Story) → (was is : State D) → Unanswered → Type 0
 AbortStopped story was is why = (g : Opening) (y : Done) (earlier : List Done) (names : List Name) → InRun was g (y ∷ earlier) names → (c : Call) → hindered_in y.outcome.deed ≡ Some c
     → StopsBy why (Fails g was.group (y ∷ earlier) y.outcome.session c (memory_in was) (story was.disk) (story is.disk)) (StandsNot g was.group (y ∷ earlier) (memory_in was) (story was.disk))
+
+-- of what follows a pair of a scan
+abbrev pub ScanAnswered : {D : Type 0} → (story : D → Story) → (was is : State D) → Answer → Type 0
+ScanAnswered story was is a = (g : Opening) (y : Done) (earlier : List Done) (names : List Name) → InRun was g (y ∷ earlier) names
+    → (d : Does g was.group (y ∷ earlier) y.outcome.session (asked y.outcome.deed) a (memory_in was) (memory_in is) (story was.disk) (story is.disk)) × InRun is g (d.done ∷ y ∷ earlier) names
+
+abbrev pub ScanStopped : {D : Type 0} → (story : D → Story) → (was is : State D) → Unanswered → Type 0
+ScanStopped story was is why = (g : Opening) (y : Done) (earlier : List Done) (names : List Name) → InRun was g (y ∷ earlier) names
+    → StopsBy why (Fails g was.group (y ∷ earlier) y.outcome.session (asked y.outcome.deed) (memory_in was) (story was.disk) (story is.disk)) (StandsNot g was.group (y ∷ earlier) (memory_in was) (story was.disk))
 
 -- ## What is answered
 
@@ -163,6 +196,10 @@ LineDoes story faults own c result was is = EngineDoes faults was.sessions (Answ
 -- to the abort of a call that met a conflict
 abbrev pub HinderedDoes : {D : Type 0} → (story : D → Story) → (faults : D → ℕ) → Result Answer Unanswered → (was is : State D) → Type 0
 HinderedDoes story faults result was is = EngineDoes faults 1 (AbortAnswered story was is) (AbortStopped story was is) result was is
+
+-- to what follows a pair of a scan
+abbrev pub ScanDoes : {D : Type 0} → (story : D → Story) → (faults : D → ℕ) → Result Answer Unanswered → (was is : State D) → Type 0
+ScanDoes story faults result was is = EngineDoes faults was.sessions (ScanAnswered story was is) (ScanStopped story was is) result was is
 
 -- The durable line that is due first was taken, or none is due; then nothing else has changed but what may be asked next.
 pub record DurableDoes {D : Type 0} (result : Option Durable) (was is : State D) : Type 0 where

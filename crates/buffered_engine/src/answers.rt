@@ -1,8 +1,9 @@
 // What a line is answered.
-ghost use Rattle.std.specs.Prelude.{◌≡◌, true};
+ghost use Rattle.std.specs.Prelude.{◌≡◌, IfOk, true};
+ghost use Rattle.map_model.specs.Pairings.{is_last};
 ghost use Rattle.engine_trait.specs.Calls.{IsAsked};
 ghost use Rattle.engine_front.specs.declared.calls.Next.{Next};
-ghost use Rattle.buffered_engine.specs.Calls.{DurableDoes, HinderedDoes, LineDoes, told};
+ghost use Rattle.buffered_engine.specs.Calls.{DurableDoes, HinderedDoes, LineDoes, ScanDoes, TellsFewer, told};
 
 use crate::engine::{Engine, disk_of};
 use engine_front::calls::{Calls, Durable, Unanswered};
@@ -37,15 +38,27 @@ impl<D: Stages> Engine<D> {
     /// The abort of a call that met a conflict.
     pub fn answer_abort(&mut self) -> Result<Answer, Unanswered>
         requires next { self.old.next ≡ Next.Abort }
-        ensures { HinderedDoes D.story D.faults result self.old self.new }
+        ensures does { HinderedDoes D.story D.faults result self.old self.new }
+        ensures last { IfOk result (λ a. is_last a ≡ true) }
     {
         let answer = self.ask_abort();
         told(answer)
     }
+
+    /// What follows a pair of a scan.
+    pub fn answer_scan(&mut self) -> Result<Answer, Unanswered>
+        requires next { self.old.next ≡ Next.Scan }
+        ensures does { ScanDoes D.story D.faults result self.old self.new }
+        // So a scan ends.
+        ensures fewer { IfOk result (λ a. TellsFewer self.old self.new) }
+    {
+        let answer = self.ask_scan();
+        told(answer)
+    }
 }
 
-/// A disk on which an engine runs. Each disk writes its methods as `engine.answer(session, call)`, `engine.answer_abort()` and `engine.next_durable()`: the
-/// method of an impl may not call what is generic over its disk.
+/// A disk on which an engine runs. Each disk writes its methods as `engine.answer(session, call)`, `engine.answer_abort()`, `engine.answer_scan()` and
+/// `engine.next_durable()`: the method of an impl may not call what is generic over its disk.
 pub trait Hosts: Stages {
     /// What a line of a session asks; for a sync the session is 0.
     fn answer_on(engine: &mut Engine<Self>, session: u32, call: &Call) -> Result<Answer, Unanswered>
@@ -56,7 +69,14 @@ pub trait Hosts: Stages {
     /// The abort of a call that met a conflict.
     fn abort_on(engine: &mut Engine<Self>) -> Result<Answer, Unanswered>
         requires next { engine.old.next ≡ Next.Abort }
-        ensures { HinderedDoes Self.story Self.faults result engine.old engine.new };
+        ensures does { HinderedDoes Self.story Self.faults result engine.old engine.new }
+        ensures last { IfOk result (λ a. is_last a ≡ true) };
+
+    /// What follows a pair of a scan.
+    fn scan_on(engine: &mut Engine<Self>) -> Result<Answer, Unanswered>
+        requires next { engine.old.next ≡ Next.Scan }
+        ensures does { ScanDoes Self.story Self.faults result engine.old engine.new }
+        ensures fewer { IfOk result (λ a. TellsFewer engine.old engine.new) };
 
     /// The commit that has become durable and was not told yet, if there is one.
     fn durable_on(engine: &mut Engine<Self>) -> Option<Durable>
@@ -80,11 +100,15 @@ impl Hosts for MemDisk {
     fn abort_on(engine: &mut Engine<MemDisk>) -> Result<Answer, Unanswered> {
         engine.answer_abort()
     }
+
+    fn scan_on(engine: &mut Engine<MemDisk>) -> Result<Answer, Unanswered> {
+        engine.answer_scan()
+    }
 }
 
 impl<D: Hosts> Calls<D> for Engine<D> {
     ghost use Rattle.group_commit.specs.Queues.{queued};
-    ghost use Rattle.buffered_engine.specs.States.{InRun, memory_in};
+    ghost use Rattle.buffered_engine.specs.States.{InRun, memory_in, pairs_left};
 
     ghost in_run = { λ e g xs names. InRun e g xs names };
 
@@ -95,6 +119,8 @@ impl<D: Hosts> Calls<D> for Engine<D> {
     ghost memory = { λ e. memory_in e };
 
     ghost waiting = { λ e. queued e.ends };
+
+    ghost pairs_left = { λ e. pairs_left e.scan };
 
     ghost next = { λ e. e.next };
 
@@ -116,6 +142,10 @@ impl<D: Hosts> Calls<D> for Engine<D> {
         D::abort_on(self)
     }
 
+    fn scan_on(&mut self) -> Result<Answer, Unanswered> {
+        D::scan_on(self)
+    }
+
     fn next_durable(&mut self) -> Option<Durable> {
         D::durable_on(self)
     }
@@ -129,6 +159,7 @@ impl<D: Hosts> Calls<D> for Engine<D> {
             machine,
             unripe: _,
             next: _,
+            scan: _,
             calm: _,
         } = self;
         disk_of(machine)

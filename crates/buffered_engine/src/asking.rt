@@ -1,5 +1,6 @@
 // What a session asks of an engine, whatever it is.
-ghost use Rattle.std.specs.Prelude.{◌≡◌, ◌<◌, ◌≤◌, IfSome, leb, length, true};
+ghost use Rattle.std.specs.Prelude.{◌≡◌, ◌<◌, ◌≤◌, IfSome, false, leb, length, true};
+ghost use Rattle.map_model.specs.Pairings.{is_last};
 ghost use Rattle.map_model.specs.declared.call.Call.TheVariants as calls;
 ghost use Rattle.map_model.specs.declared.call.Answer.TheVariants as answer;
 ghost use Rattle.map_model.specs.declared.call.Refusal.TheVariants as refusal;
@@ -8,31 +9,26 @@ ghost use Rattle.group_commit.specs.Queues.{queue_of};
 ghost use Rattle.group_commit.specs.declared.queue.TheConstants.{ROOM};
 ghost use Rattle.lean_disk.specs.Faults.{HasCause};
 ghost use Rattle.engine_trait.specs.Calls.{IsAsked};
-ghost use Rattle.engine_front.specs.Turns.{is_conflict_in};
 ghost use Rattle.engine_front.specs.declared.calls.Next.{Next};
 ghost use Rattle.session_desks.specs.Parts.{Works};
 ghost use Rattle.paged_desks.specs.Machines.{IsReady};
-ghost use Rattle.buffered_engine.specs.Calls.{Asked, AskedAbort, IsTo, MayBe};
+ghost use Rattle.paged_scans.specs.Calls.{IsIn};
+ghost use Rattle.buffered_engine.specs.Calls.{Asked, AskedAbort, AskedScan, IsStep, IsTo, MayBe, TellsFewer};
 ghost use Rattle.buffered_engine.specs.Inside.Asks.{IsEndOf, OnAsked, next_behind, put_ends};
 ghost use Rattle.buffered_engine.specs.Inside.Calm.{calm_behind};
 ghost use Rattle.buffered_engine.specs.Inside.Parts.{MachineWent};
+ghost use Rattle.buffered_engine.specs.Inside.Scans.{scan_behind, scan_of};
 
 use crate::ends::Response;
 use crate::engine::Engine;
-use crate::machine::{abort, begin, row_call, sync, turn_to};
+use crate::machine::{abort, begin, row_call, scan_step, sync, turn_to};
 use engine_front::calls::Next;
 use group_commit::{LOGS, Receipt, Unripe};
 use map_model::{Answer, Call, Refusal};
 use page_model::limits::WAITING_ENDS;
 use paged_desks::PagedMachine;
+use paged_scans::Scan;
 use session_state::Stages;
-
-// A conflict is the answer.
-fn is_conflict(answer: &Answer) -> bool
-    ensures { result ≡ is_conflict_in answer.now }
-{
-    matches!(answer, Answer::Refused(Refusal::Conflict { .. }))
-}
 
 // So many ends of the session wait that its begin makes a sync first.
 fn is_long(unripe: &Unripe, session: u32, call: &Call) -> bool
@@ -61,12 +57,13 @@ fn put_end(unripe: &mut Unripe, response: Response)
 fn next_behind(works: bool, next: Next, answer: &Answer) -> Next
     ensures { result ≡ next_behind works next answer.now }
 {
-    if works {
-        Next::Durables {
-            hindered: is_conflict(answer),
-        }
-    } else {
-        next
+    if !works {
+        return next;
+    }
+    match answer {
+        Answer::Pair { .. } => Next::Scan,
+        Answer::Refused(Refusal::Conflict { .. }) => Next::Abort,
+        _ => Next::Durables,
     }
 }
 
@@ -83,14 +80,17 @@ fn end_calm(calm: &mut Option<[u64; LOGS]>, receipt: &Option<Receipt>)
 // What a session asks, or for 0 nobody does.
 fn ask<D: Stages>(
     machine: &mut PagedMachine<D>,
+    scan: &mut Scan,
     session: u32,
     call: &Call,
     is_long: bool,
 ) -> Response
     requires asked { IsAsked machine.old.machine.work.session.workers session call.now }
     requires ready { IsReady D.story machine.old }
+    requires within { IsIn scan.old }
     ensures went { MachineWent D.story D.faults (OnAsked session call.now is_long) machine.old.machine.work.session.workers session call.now result machine.old machine.new }
-    ensures turn { Works machine.new.machine → is_conflict_in result.answer ≡ true → machine.new.machine.work.session.own ≡ session }
+    ensures scan { (scan.new ≡ scan_behind result.answer (scan_of call.now scan.old)) × IsIn scan.new }
+    ensures turn { Works machine.new.machine → is_last result.answer ≡ false → machine.new.machine.work.session.own ≡ session }
 {
     match call {
         Call::Sync => sync(machine),
@@ -101,6 +101,11 @@ fn ask<D: Stages>(
         Call::Abort => {
             turn_to(machine, session);
             abort(machine)
+        }
+        Call::Scan { from, to } => {
+            turn_to(machine, session);
+            *scan = Scan::new(*from, *to);
+            scan_step(machine, scan)
         }
         call => {
             turn_to(machine, session);
@@ -127,7 +132,7 @@ impl<D: Stages> Engine<D> {
         group_commit::every_outcome();
         core_commit::every_rise();
         let is_long = is_long(&self.unripe, session, call);
-        let response = ask(&mut self.machine, session, call, is_long);
+        let response = ask(&mut self.machine, &mut self.scan, session, call, is_long);
         put_end(&mut self.unripe, response);
         end_calm(&mut self.calm, &response.receipt);
         self.next = next_behind(
@@ -143,6 +148,7 @@ impl<D: Stages> Engine<D> {
         requires next { self.old.next ≡ Next.Abort }
         ensures went { AskedAbort D.story result self.old self.new }
         ensures may { MayBe 1 result }
+        ensures last { is_last result ≡ true }
 
         ensures cause_disk_fault { HasCause (D.faults self.old.disk) (D.faults self.new.disk) (result ≡ answer.Refused refusal.DiskFault) }
     {
@@ -155,6 +161,30 @@ impl<D: Stages> Engine<D> {
         let response = abort(&mut self.machine);
         put_end(&mut self.unripe, response);
         end_calm(&mut self.calm, &response.receipt);
+        self.next = next_behind(
+            self.machine.machine.work.session.works,
+            self.next,
+            &response.answer,
+        );
+        response.answer
+    }
+
+    /// What follows a pair of a scan.
+    pub(crate) fn ask_scan(&mut self) -> Answer
+        requires next { self.old.next ≡ Next.Scan }
+        ensures went { AskedScan D.story result self.old self.new }
+        ensures step { IsStep result }
+        ensures fewer { self.new.works ≡ true → TellsFewer self.old self.new }
+
+        ensures cause_disk_fault { HasCause (D.faults self.old.disk) (D.faults self.new.disk) (result ≡ answer.Refused refusal.DiskFault) }
+    {
+        if !self.machine.machine.work.session.works {
+            return Answer::Refused(Refusal::Broken);
+        }
+        row_opening::every_reached();
+        group_commit::every_outcome();
+        core_commit::every_rise();
+        let response = scan_step(&mut self.machine, &mut self.scan);
         self.next = next_behind(
             self.machine.machine.work.session.works,
             self.next,

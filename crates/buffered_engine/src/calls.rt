@@ -1,16 +1,18 @@
 // The calls of sessions, by their types.
-ghost use Rattle.std.specs.Prelude.{◌≡◌, ◌↔◌, ◌<◌, Err, IfOk, false};
+ghost use Rattle.std.specs.Prelude.{◌≡◌, ◌↔◌, ◌<◌, Err, IfOk, false, true};
 ghost use Rattle.map_model.specs.declared.call.Call.TheVariants as calls;
 ghost use Rattle.map_model.specs.declared.call.Refusal.{Refusal};
 ghost use Rattle.lean_disk.specs.Faults.{HasCause};
 ghost use Rattle.engine_trait.specs.Calls.{IsAsked};
 ghost use Rattle.engine_front.specs.declared.calls.Next.{Next};
-ghost use Rattle.buffered_engine.specs.Calls.{Asked, aborted_answer, began_answer, receipt_answer, synced_answer, value_answer, was_answer};
+ghost use Rattle.paged_scans.specs.Calls.{step_answer};
+ghost use Rattle.buffered_engine.specs.Calls.{Asked, AskedScan, IsStep, TellsFewer, aborted_answer, began_answer, receipt_answer, synced_answer, value_answer, was_answer};
 ghost use Rattle.buffered_engine.specs.Receipts.{IsReceipt, flushed_in};
 
 use crate::engine::Engine;
 use group_commit::Receipt;
 use map_model::{Answer, Call, Refusal};
+use paged_scans::Step;
 use session_state::Stages;
 
 /// A transaction has begun, with this number.
@@ -29,6 +31,20 @@ pub struct Aborted {
 #[derive(Clone, Copy, Debug, PartialEq, Eq)]
 pub struct Synced {
     pub at: u64,
+}
+
+// The step that is the answer to a scan.
+fn step_in(answer: Answer) -> Result<Step, Refusal>
+    requires { IsStep answer }
+    ensures { answer ≡ step_answer result }
+{
+    match answer {
+        Answer::Pair { key, value } => Ok(Step::Pair { key, value }),
+        Answer::More { from } => Ok(Step::More { from }),
+        Answer::End => Ok(Step::End),
+        Answer::Refused(why) => Err(why),
+        _ => unreachable!(),
+    }
 }
 
 impl<D: Stages> Engine<D> {
@@ -94,6 +110,33 @@ impl<D: Stages> Engine<D> {
             Answer::Refused(why) => Err(why),
             _ => unreachable!(),
         }
+    }
+
+    /// The pairs from a key up to another, the least first: the first of them, or that there is none. Behind a pair the scan goes on by `next_pair`, until a step
+    /// is no pair, and no other call may come before that.
+    pub fn scan(&mut self, session: u32, from: u64, to: u64) -> Result<Step, Refusal>
+        requires asked { IsAsked self.old.sessions session (calls.Scan from to) }
+        requires next { self.old.next ≡ Next.Line }
+        ensures asked { Asked D.story session (calls.Scan from to) (step_answer result) self.old self.new }
+
+        ensures cause_broken { (result ≡ Err Refusal.Broken) ↔ (self.old.works ≡ false) }
+        ensures cause_disk_fault { HasCause (D.faults self.old.disk) (D.faults self.new.disk) (result ≡ Err Refusal.DiskFault) }
+    {
+        step_in(self.ask(session, &Call::Scan { from, to }).answer)
+    }
+
+    /// What follows a pair of a scan: the next pair, or from which key on it is to be asked again since it has told as many pairs as one scan does, or that there is
+    /// no further one.
+    pub fn next_pair(&mut self) -> Result<Step, Refusal>
+        requires next { self.old.next ≡ Next.Scan }
+        ensures asked { AskedScan D.story (step_answer result) self.old self.new }
+        // So a scan ends.
+        ensures fewer { self.new.works ≡ true → TellsFewer self.old self.new }
+
+        ensures cause_broken { (result ≡ Err Refusal.Broken) ↔ (self.old.works ≡ false) }
+        ensures cause_disk_fault { HasCause (D.faults self.old.disk) (D.faults self.new.disk) (result ≡ Err Refusal.DiskFault) }
+    {
+        step_in(self.ask_scan())
     }
 
     /// A session's transaction commits. It is durable once its receipt is ripe.

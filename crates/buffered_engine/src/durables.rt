@@ -29,8 +29,7 @@ fn behind(next: Next) -> Next
     ensures { result ≡ behind_durables next }
 {
     match next {
-        Next::Durables { hindered: true } => Next::Abort,
-        Next::Durables { hindered: false } => Next::Line,
+        Next::Durables => Next::Line,
         next => next,
     }
 }

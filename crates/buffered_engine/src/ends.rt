@@ -3,10 +3,12 @@ ghost use Rattle.std.specs.Prelude.{◌≡◌, None};
 ghost use Rattle.paged_calls.specs.Calls.{del_answer, get_answer, put_answer};
 ghost use Rattle.paged_ends.specs.Ends.{begin_answer, commit_answer, sync_answer};
 ghost use Rattle.paged_aborts.specs.Aborts.{abort_answer};
+ghost use Rattle.paged_scans.specs.Calls.{step_answer};
 ghost use Rattle.buffered_engine.specs.Inside.Asks.{receipt_in};
 
 use group_commit::Receipt;
 use map_model::{Answer, Refusal};
+use paged_scans::Step;
 use row_ends::Ended;
 
 /// What a call came to: its answer, and the receipt of the end, if it ended a transaction.
@@ -54,6 +56,18 @@ impl Response {
     {
         Response::only(match was {
             Ok(was) => Answer::Was(was),
+            Err(why) => Answer::Refused(why),
+        })
+    }
+
+    /// That of a step of a scan.
+    pub(crate) fn stepped(step: Result<Step, Refusal>) -> Response
+        ensures { result ≡ record { answer = step_answer step; receipt = None } }
+    {
+        Response::only(match step {
+            Ok(Step::Pair { key, value }) => Answer::Pair { key, value },
+            Ok(Step::More { from }) => Answer::More { from },
+            Ok(Step::End) => Answer::End,
             Err(why) => Answer::Refused(why),
         })
     }

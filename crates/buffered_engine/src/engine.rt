@@ -12,18 +12,20 @@ use group_commit::{LOGS, Unripe};
 use lean_disk::Disk;
 use paged_desks::PagedMachine;
 use paged_engine::{Size, Unopened};
+use paged_scans::Scan;
 use recovery::Unrecovered;
 use session_desks::Machine;
 use session_state::Work;
 use std::alloc::Global;
 use std::marker::Model;
 
-/// An engine of several sessions over the pages of a disk, which it owns: what works on rows and disk, the ends that wait, and what may be asked next; and where
-/// it is known that none of these ends is ripe, the numbers up to which the logs were flushed then.
+/// An engine of several sessions over the pages of a disk, which it owns: what works on rows and disk, the ends that wait, what may be asked next, and the scan
+/// of the newest line that was one; and where it is known that none of these ends is ripe, the numbers up to which the logs were flushed then.
 pub struct Engine<D: Disk> {
     pub(crate) machine: PagedMachine<D>,
     pub(crate) unripe: Unripe,
     pub(crate) next: Next,
+    pub(crate) scan: Scan,
     pub(crate) calm: Option<[u64; LOGS]>,
 }
 
@@ -34,9 +36,9 @@ impl<D: Disk> Model for Engine<D> {
 
     ghost Value = { State D };
 
-    ghost view = { λ e. state_by e.machine e.next e.unripe };
+    ghost view = { λ e. state_by e.machine e.next e.scan e.unripe };
 
-    ghost invariant = { λ e. IsEngine D.story e.machine e.next e.unripe × IsCalm e.calm e.machine.machine.work.session.workers e.unripe };
+    ghost invariant = { λ e. IsEngine D.story e.machine e.next e.scan e.unripe × IsCalm e.calm e.machine.machine.work.session.workers e.unripe };
 }
 
 /// An engine, and what its first line tells of the opening.
@@ -107,6 +109,7 @@ impl<D: Disk> Engine<D> {
                 machine,
                 unripe,
                 next: Next::Line,
+                scan: Scan::new(0, 0),
                 calm: None,
             },
             generation,
@@ -123,6 +126,7 @@ impl<D: Disk> Engine<D> {
             machine,
             unripe: _,
             next: _,
+            scan: _,
             calm: _,
         } = self;
         disk_of(machine)

@@ -17,5 +17,6 @@ pub use engine::{Engine, Opened};
 pub use engine_front::calls::{Durable, Next, Unanswered};
 pub use group_commit::{Receipt, Ripeness};
 pub use paged_engine::{Size, Unopened};
+pub use paged_scans::Step;
 pub use session_desks::Desk;
 pub use session_state::{Stages, stage_end};

@@ -1,17 +1,20 @@
 // The calls of sessions, each by what its machine does.
-ghost use Rattle.std.specs.Prelude.{◌≡◌, ◌<◌, ◌≤◌, true};
+ghost use Rattle.std.specs.Prelude.{◌≡◌, ◌<◌, ◌≤◌, None, true};
 ghost use Rattle.map_model.specs.declared.call.Call.{Call};
 ghost use Rattle.map_model.specs.declared.call.Call.TheVariants as call;
 ghost use Rattle.session_desks.specs.Parts.{Works};
 ghost use Rattle.paged_desks.specs.Calls.{CallDoes, OnLine};
 ghost use Rattle.paged_desks.specs.Machines.{IsReady};
 ghost use Rattle.paged_ends.specs.Ends.{OnBegin};
+ghost use Rattle.paged_scans.specs.Calls.{IsIn, StandsAt};
 ghost use Rattle.buffered_engine.specs.Inside.Asks.{IsDue, IsRowCall};
+ghost use Rattle.buffered_engine.specs.Inside.Scans.{scan_behind};
 ghost use Rattle.buffered_engine.specs.Inside.Parts.{IsTurned, MachineWent};
 
 use crate::ends::Response;
 use map_model::Call;
 use paged_desks::PagedMachine;
+use paged_scans::{Scan, scan_on};
 use session_state::Stages;
 
 /// The turn goes to this session.
@@ -42,7 +45,7 @@ pub(crate) fn begin<D: Stages>(machine: &mut PagedMachine<D>, is_long: bool) -> 
     Response::begun(paged_ends::begin(machine, is_long))
 }
 
-/// What the session whose turn it is asks; it is no begin, no abort and no sync.
+/// What the session whose turn it is asks; it is no begin, no scan, no abort and no sync.
 pub(crate) fn row_call<D: Stages>(machine: &mut PagedMachine<D>, call: &Call) -> Response
     requires call { IsRowCall call.now }
     requires ready { IsReady D.story machine.old }
@@ -56,6 +59,18 @@ pub(crate) fn row_call<D: Stages>(machine: &mut PagedMachine<D>, call: &Call) ->
         Call::Del { key } => Response::was(paged_calls::del(machine, key)),
         _ => Response::committed(own, paged_ends::commit(machine)),
     }
+}
+
+/// The next step of a scan of the session whose turn it is.
+pub(crate) fn scan_step<D: Stages>(machine: &mut PagedMachine<D>, scan: &mut Scan) -> Response
+    requires ready { IsReady D.story machine.old }
+    requires within { IsIn scan.old }
+    ensures went { MachineWent D.story D.faults (StandsAt machine.old.machine.work.session.own scan.old) machine.old.machine.work.session.workers machine.old.machine.work.session.own (call.Scan scan.old.from scan.old.to) result machine.old machine.new }
+    ensures none { result.receipt ≡ None }
+    ensures behind { (scan.new ≡ scan_behind result.answer scan.old) × IsIn scan.new }
+    ensures turn { Works machine.new.machine → machine.new.machine.work.session.own ≡ machine.old.machine.work.session.own }
+{
+    Response::stepped(scan_on(machine, scan))
 }
 
 /// The session whose turn it is aborts its transaction: its line asks it, or a call of it met a conflict.

@@ -1,17 +1,19 @@
 //! A program with a map of its own, which an engine keeps in files of the current folder.
 //!
-//! The rule of a caller: behind each call the commits that have become durable are taken, until there is none, and only
-//! then the next call is asked; behind a conflict the abort of its transaction comes first. `ask` keeps it.
+//! The rule of a caller: behind a pair of a scan what follows it is asked, and behind a conflict the abort of its transaction;
+//! behind the last answer the commits that have become durable are taken, until there is none, and only then the next call
+//! is asked. `ask` keeps it.
 #![tactic(auto)]
 
 ghost use Rattle.std.specs.Prelude.{◌≡◌, IfOk, true};
+ghost use Rattle.embed.specs.Turns.{IsBehindAnswer, IsNoScan};
 ghost use Rattle.engine_trait.specs.Calls.{IsAsked};
 ghost use Rattle.engine_front.specs.Turns.{behind_durables};
 ghost use Rattle.engine_front.specs.declared.calls.Next.{Next};
 
-use buffered_engine::{Engine, Formatted, Opened, Shape, Size, Unopened, format};
+use buffered_engine::{Engine, Formatted, Next, Opened, Shape, Size, Unopened, format};
 use host_disk::HostDisk;
-use map_model::{Answer, Call, Refusal};
+use map_model::Call;
 use std::io;
 
 const SHAPE: Shape = Shape {
@@ -43,6 +45,23 @@ fn take_durables(rt: &HostRuntime, engine: &mut Engine<HostDisk<'_>>) -> io::Res
     Ok(())
 }
 
+// Asks what follows each pair of a scan, and prints it.
+fn tell_pairs(rt: &HostRuntime, engine: &mut Engine<HostDisk<'_>>) -> io::Result<()>
+    requires works { engine.old.works ≡ true }
+    requires next { IsBehindAnswer engine.old.next }
+    ensures next { IfOk result (λ done. IsBehindAnswer engine.new.next × IsNoScan engine.new.next) }
+    ensures works { IfOk result (λ done. engine.new.works ≡ true) }
+    ensures sessions { engine.new.sessions ≡ engine.old.sessions }
+{
+    'pairs: while engine.expects() == Next::Scan {
+        let Ok(answer) = engine.answer_scan() else {
+            return Err(failed());
+        };
+        println!(rt; "  {answer:?}")?;
+    }
+    Ok(())
+}
+
 // Asks a call of a session, and prints what it is answered.
 fn ask(
     rt: &HostRuntime,
@@ -59,10 +78,10 @@ fn ask(
         return Err(failed());
     };
     println!(rt; "{session} {call:?}: {answer:?}")?;
-    take_durables(rt, engine)?;
-    let Answer::Refused(Refusal::Conflict { .. }) = answer else {
-        return Ok(());
-    };
+    tell_pairs(rt, engine)?;
+    if engine.expects() != Next::Abort {
+        return take_durables(rt, engine);
+    }
     let Ok(aborted) = engine.answer_abort() else {
         return Err(failed());
     };
@@ -70,7 +89,7 @@ fn ask(
     take_durables(rt, engine)
 }
 
-// A transaction of two keys, and two sessions that both want one of them.
+// A transaction of two keys, which a scan finds, and two sessions that both want one of them.
 fn talk(rt: &HostRuntime, engine: &mut Engine<HostDisk<'_>>) -> io::Result<()>
     requires sessions { engine.old.sessions ≡ 2 }
     requires next { engine.old.next ≡ Next.Line }
@@ -78,6 +97,7 @@ fn talk(rt: &HostRuntime, engine: &mut Engine<HostDisk<'_>>) -> io::Result<()>
     ask(rt, engine, 1, Call::Begin)?;
     ask(rt, engine, 1, Call::Put { key: 5, value: 7 })?;
     ask(rt, engine, 1, Call::Put { key: 6, value: 8 })?;
+    ask(rt, engine, 1, Call::Scan { from: 0, to: 9 })?;
     ask(rt, engine, 1, Call::Commit)?;
     ask(rt, engine, 1, Call::Begin)?;
     ask(rt, engine, 1, Call::Put { key: 5, value: 9 })?;

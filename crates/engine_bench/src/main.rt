@@ -1,11 +1,11 @@
-// How long gets and puts of an engine take, over a tree of three levels. With no argument a handful of each, and what they add up to; with
+// How long gets, scans and puts of an engine take, over a tree of three levels. With no argument a handful of each, and what they add up to; with
 // a number N, N rounds, with times.
 #![tactic(auto)]
 
 ghost use Rattle.std.specs.Prelude.{◌≡◌, ◌≤◌, ◌<◌, ◌^◌, IfOk, IsTrue};
 ghost use Rattle.engine_front.specs.declared.calls.Next.{Next};
 
-use buffered_engine::{Engine, Opened, Size, Unopened};
+use buffered_engine::{Engine, Opened, Size, Step, Unopened};
 use disk_format::{Formatted, Shape, format};
 use engine_front::calls::Next;
 use lean_disk::MemDisk;
@@ -30,6 +30,9 @@ const SIZE: Size = Size {
 const KEYS: u64 = 16000;
 
 const PUTS: u64 = 20;
+
+/// As many pairs as one scan tells, and one call more.
+const PAIRS: u64 = 65;
 
 /// No factor in common with the number of keys: the keys come in mixed order.
 const STRIDE: u64 = 6007;
@@ -123,6 +126,47 @@ fn gets(engine: &mut Engine<MemDisk>, times: u64) -> u64 {
     sum
 }
 
+// The pairs from a key on, as many as one scan tells. What their values add up to, and where the next scan goes on.
+fn pairs(engine: &mut Engine<MemDisk>, from: u64) -> (u64, u64)
+    requires { from < KEYS }
+{
+    let mut sum = 0u64;
+    if !is_ready(engine) {
+        return (sum, KEYS);
+    }
+    let mut step = engine.scan(1, from, KEYS);
+    for _ in 0..PAIRS {
+        match step {
+            Ok(Step::Pair { key: _, value }) if engine.expects() == Next::Scan => {
+                sum = sum.wrapping_add(value);
+                step = engine.next_pair();
+            }
+            _ => break,
+        }
+    }
+    match step {
+        Ok(Step::More { from }) => (sum, from),
+        _ => (sum, KEYS),
+    }
+}
+
+// All pairs, so many times. What their values add up to.
+fn scans(engine: &mut Engine<MemDisk>, times: u64) -> u64 {
+    let mut sum = 0u64;
+    for _ in 0..times {
+        let mut from = 0u64;
+        for _ in 0..KEYS {
+            if from >= KEYS {
+                break;
+            }
+            let (more, behind) = pairs(engine, from);
+            sum = sum.wrapping_add(more);
+            from = behind;
+        }
+    }
+    sum
+}
+
 // Puts all keys, without the time of begins and commits. How many had no value, and the microseconds.
 fn fill(rt: &HostRuntime, engine: &mut Engine<MemDisk>) -> io::Result<(u64, u128)> {
     let mut sum = 0u64;
@@ -156,15 +200,25 @@ fn look(rt: &HostRuntime, engine: &mut Engine<MemDisk>, times: u64) -> io::Resul
     Ok((sum, start.elapsed(rt)?.as_micros()))
 }
 
+// Scans of all pairs, in the same transaction. What they add up to, and the microseconds.
+fn walk(rt: &HostRuntime, engine: &mut Engine<MemDisk>, times: u64) -> io::Result<(u64, u128)> {
+    let start = Instant::now(rt)?;
+    let sum = scans(engine, times);
+    Ok((sum, start.elapsed(rt)?.as_micros()))
+}
+
 fn round(rt: &HostRuntime, times: u64) -> io::Result<()> {
     let mut engine = opened(rt.alloc())?;
     let filled = fill(rt, &mut engine);
     let looked = look(rt, &mut engine, times);
+    let walked = walk(rt, &mut engine, times / KEYS);
     let _disk = engine.close();
     let (sum, took) = filled?;
     println!(rt; "new keys {sum} {took} us")?;
     let (sum, took) = looked?;
-    println!(rt; "gets {sum} {took} us")
+    println!(rt; "gets {sum} {took} us")?;
+    let (sum, took) = walked?;
+    println!(rt; "pairs {sum} {took} us")
 }
 
 // A handful, with no times.
@@ -173,8 +227,9 @@ fn handful(rt: &HostRuntime) -> io::Result<()> {
     begin(&mut engine);
     let new = puts(&mut engine, 0);
     let sum = gets(&mut engine, 1000);
+    let pairs = scans(&mut engine, 1);
     let _disk = engine.close();
-    println!(rt; "{new} {sum}")
+    println!(rt; "{new} {sum} {pairs}")
 }
 
 fn main(rt: HostRuntime) -> io::Result<()> {

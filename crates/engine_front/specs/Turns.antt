@@ -1,35 +1,40 @@
 -- What may be asked of an engine next, and what a call that is due says.
-use Rattle.std.specs.Prelude.{◌≡◌, Bool, true, false, List, [], ◌∷◌, ◌++◌, Option, Some, None}
+use Rattle.std.specs.Prelude.{◌≡◌, ℕ, Bool, true, false, List, [], ◌∷◌, ◌++◌, Option, Some, None}
 use Rattle.map_model.specs.Journals.{Name}
 use Rattle.map_model.specs.declared.call.Answer.{Answer}
 use Rattle.map_model.specs.declared.call.Answer.TheVariants as answer
 use Rattle.map_model.specs.declared.call.Call.{Call}
+use Rattle.map_model.specs.declared.call.Call.TheVariants as call
+use Rattle.map_model.specs.Pairings.{is_last}
 use Rattle.core_state.specs.Openings.{Opening}
 use Rattle.core_state.specs.Steps.{state_after}
+use Rattle.core_calls.specs.Deeds.{answered, asked}
 use Rattle.core_calls.specs.Durables.{due}
 use Rattle.core_calls.specs.Fronts.{Done, front, outcomes}
 use Rattle.core_calls.specs.Steps.{hindered_in, is_conflict}
 use Rattle.engine_calls.specs.Clauses.{IsNewLine}
 use Rattle.engine_front.specs.declared.calls.Durable.{Durable}
 use Rattle.engine_front.specs.declared.calls.Next.{Next}
-use Rattle.engine_front.specs.declared.calls.Next.TheVariants.{Abort, Durables, Line}
+use Rattle.engine_front.specs.declared.calls.Next.TheVariants.{Abort, Durables, Line, Scan}
 
 -- it is that a row is held by another session
 abbrev pub is_conflict_in : Answer → Bool
 is_conflict_in (answer.Refused why) = is_conflict why
 is_conflict_in _ = false
 
--- behind an answer come the durable lines
+-- behind the last answer to a line come the durable lines; behind a conflict the abort of its call
+abbrev pub behind_last : Bool → Next
+behind_last true = Abort
+behind_last false = Durables
+
+-- and behind a pair of a scan what follows it
 abbrev pub behind_answer : Answer → Next
-behind_answer a = Durables (is_conflict_in a)
+behind_answer (answer.Pair key value) = Scan
+behind_answer a = behind_last (is_conflict_in a)
 
--- behind these the abort of the call, if it met a conflict, or a new line
-abbrev pub behind_lines : Bool → Next
-behind_lines true = Abort
-behind_lines false = Line
-
+-- behind the durable lines comes a new line
 abbrev pub behind_durables : Next → Next
-behind_durables (Durables hindered) = behind_lines hindered
+behind_durables Durables = Line
 behind_durables n = n
 
 -- the newest outcome is a call that met a conflict, and its abort is due
@@ -40,11 +45,22 @@ pub record IsHindered (xs : List Done) : Type 0 where
   pub hindered : Call
   pub is : hindered_in newest.outcome.deed ≡ Some hindered
 
+-- the newest outcome is a pair of a scan, which goes on
+pub record IsScanning (xs : List Done) : Type 0 where
+  pub newest : Done
+  pub earlier : List Done
+  pub are : xs ≡ newest ∷ earlier
+  pub from : ℕ
+  pub to : ℕ
+  pub asked_is : asked newest.outcome.deed ≡ call.Scan from to
+  pub more : is_last (answered newest.outcome.deed) ≡ false
+  pub hindered : hindered_in newest.outcome.deed ≡ None
+
 -- what may be asked next, by the newest outcome
 abbrev pub IsNext : Next → List Done → Type 0
 IsNext Line xs = IsNewLine (outcomes xs)
-IsNext (Durables true) xs = IsHindered xs
-IsNext (Durables false) xs = IsNewLine (outcomes xs)
+IsNext Durables xs = IsNewLine (outcomes xs)
+IsNext Scan xs = IsScanning xs
 IsNext Abort xs = IsHindered xs
 
 -- as a name in the core's words

@@ -1,6 +1,7 @@
 //! The calls of an engine.
 ghost use Rattle.std.specs.Prelude.{◌≡◌, ◌↔◌, ◌≤◌, ◌<◌, ◌^◌, ℕ, Bool, true, false, List, ◌∷◌, IfOk, IfErr, IfSome, IsErr, Err, MatchOption, Some};
 ghost use Rattle.core_state.specs.Openings.{Opening};
+ghost use Rattle.core_calls.specs.Deeds.{asked};
 ghost use Rattle.core_calls.specs.Fronts.{Done};
 ghost use Rattle.core_calls.specs.Runs.{EachTells};
 ghost use Rattle.core_calls.specs.Steps.{hindered_in};
@@ -9,6 +10,7 @@ ghost use Rattle.lean_disk.specs.Calls.{Noted};
 ghost use Rattle.lean_disk.specs.Story.{IsLawful};
 ghost use Rattle.lean_edge.specs.Outside.{IsWholeLine, Puts};
 ghost use Rattle.map_model.specs.Journals.{Name};
+ghost use Rattle.map_model.specs.Pairings.{is_last};
 ghost use Rattle.map_model.specs.declared.call.Call.{Call};
 ghost use Rattle.engine_trait.specs.Calls.{HasCome, IsAsked};
 ghost use Rattle.engine_trait.specs.Limits.{limits};
@@ -37,8 +39,10 @@ pub enum Unanswered {
 pub enum Next {
     /// What a line asks.
     Line,
-    /// Which commits have become durable. Behind these comes the abort of the call, if it met a conflict, and else a line.
-    Durables { hindered: bool },
+    /// Which commits have become durable, behind the last answer to a line. Behind these comes a line.
+    Durables,
+    /// What follows a pair of a scan.
+    Scan,
     /// The abort of a call that met a conflict.
     Abort,
 }
@@ -70,6 +74,9 @@ pub trait Calls<D: Disk> {
 
     // How many ends it remembers, of which each that is told durable is one less.
     ghost waiting: { Self → ℕ };
+
+    // How many pairs the scan that goes on may still tell.
+    ghost pairs_left: { Self → ℕ };
 
     // No device has failed, and no page was damaged.
     ghost works: { Self → Bool };
@@ -112,9 +119,28 @@ pub trait Calls<D: Disk> {
         ensures does { IfOk result (λ a. (g : Opening) (y : Done) (earlier : List Done) (names : List Name) → in_run self.old g (y ∷ earlier) names → (c : Call) → hindered_in y.outcome.deed ≡ Some c
             → (d : Does g (group self.old) (y ∷ earlier) y.outcome.session c a (memory self.old) (memory self.new) (D.story (disk self.old)) (D.story (disk self.new))) × in_run self.new g (d.done ∷ y ∷ earlier) names) }
         ensures come { IfOk result (HasCome 1) }
+        ensures last { IfOk result (λ a. is_last a ≡ true) }
         ensures next { IfOk result (λ a. next self.new ≡ behind_answer a) }
         ensures stops { IfErr result (λ why. (g : Opening) (y : Done) (earlier : List Done) (names : List Name) → in_run self.old g (y ∷ earlier) names → (c : Call) → hindered_in y.outcome.deed ≡ Some c
             → StopsBy why (Fails g (group self.old) (y ∷ earlier) y.outcome.session c (memory self.old) (D.story (disk self.old)) (D.story (disk self.new))) (StandsNot g (group self.old) (y ∷ earlier) (memory self.old) (D.story (disk self.old)))) }
+        ensures works { works self.new ≡ true ↔ (IsErr result → ⊥) }
+        ensures sizes { (sessions self.new ≡ sessions self.old) × (group self.new ≡ group self.old) }
+        ensures same { result ≡ Err Unanswered.Broken → self.new ≡ self.old }
+
+        ensures cause_broken { (result ≡ Err Unanswered.Broken) ↔ (works self.old ≡ false) }
+        ensures cause_disk_fault { HasCause (D.faults (disk self.old)) (D.faults (disk self.new)) (result ≡ Err Unanswered.DiskFault) };
+
+    /// What follows a pair of a scan: the next pair, where it stops, or that it is over.
+    fn scan_on(&mut self) -> Result<Answer, Unanswered>
+        requires next { next self.old ≡ Next.Scan }
+        ensures does { IfOk result (λ a. (g : Opening) (y : Done) (earlier : List Done) (names : List Name) → in_run self.old g (y ∷ earlier) names
+            → (d : Does g (group self.old) (y ∷ earlier) y.outcome.session (asked y.outcome.deed) a (memory self.old) (memory self.new) (D.story (disk self.old)) (D.story (disk self.new))) × in_run self.new g (d.done ∷ y ∷ earlier) names) }
+        ensures come { IfOk result (HasCome (sessions self.old)) }
+        ensures next { IfOk result (λ a. next self.new ≡ behind_answer a) }
+        // So it ends.
+        ensures fewer { IfOk result (λ a. next self.new ≡ Next.Scan → pairs_left self.new < pairs_left self.old) }
+        ensures stops { IfErr result (λ why. (g : Opening) (y : Done) (earlier : List Done) (names : List Name) → in_run self.old g (y ∷ earlier) names
+            → StopsBy why (Fails g (group self.old) (y ∷ earlier) y.outcome.session (asked y.outcome.deed) (memory self.old) (D.story (disk self.old)) (D.story (disk self.new))) (StandsNot g (group self.old) (y ∷ earlier) (memory self.old) (D.story (disk self.old)))) }
         ensures works { works self.new ≡ true ↔ (IsErr result → ⊥) }
         ensures sizes { (sessions self.new ≡ sessions self.old) × (group self.new ≡ group self.old) }
         ensures same { result ≡ Err Unanswered.Broken → self.new ≡ self.old }
@@ -140,7 +166,7 @@ pub trait Calls<D: Disk> {
         ensures noted { result ≡ Put.Done → Noted (D.story (disk self.old)) (D.story (disk self.new)) }
         ensures not_noted { result ≡ Put.Failed → self.new ≡ self.old }
         ensures same { (memory self.new ≡ memory self.old) × (works self.new ≡ works self.old) × (D.faults (disk self.new) ≡ D.faults (disk self.old)) × (next self.new ≡ next self.old) }
-        ensures sizes { (sessions self.new ≡ sessions self.old) × (group self.new ≡ group self.old) × (waiting self.new ≡ waiting self.old) }
+        ensures sizes { (sessions self.new ≡ sessions self.old) × (group self.new ≡ group self.old) × (waiting self.new ≡ waiting self.old) × (pairs_left self.new ≡ pairs_left self.old) }
         ensures in_run { (g : Opening) (xs : List Done) (names : List Name) → in_run self.old g xs names → in_run self.new g xs names }
 
         ensures cause { HasCause (K.faults sink.old) (K.faults sink.new) (result ≡ Put.Failed) };

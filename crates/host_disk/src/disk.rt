@@ -85,6 +85,10 @@ impl<'a> Hosts for HostDisk<'a> {
         engine.answer_abort()
     }
 
+    fn scan_on(engine: &mut Engine<HostDisk<'a>>) -> Result<Answer, Unanswered> {
+        engine.answer_scan()
+    }
+
     fn durable_on(engine: &mut Engine<HostDisk<'a>>) -> Option<Durable> {
         engine.next_durable()
     }

@@ -14,6 +14,8 @@ use Rattle.session_desks.specs.Parts.{AreAsMany, HasTurned, SeatFits, Works, her
 use Rattle.paged_desks.specs.Calls.{CallDoes}
 use Rattle.paged_desks.specs.Machines.{IsReady, view_of}
 use Rattle.paged_desks.specs.declared.machine.PagedMachine.{PagedMachine}
+use Rattle.paged_scans.specs.Calls.{IsIn}
+use Rattle.paged_scans.specs.declared.scans.Scan.{Scan}
 use Rattle.buffered_engine.specs.Calls.{IsTo, MayBe, is_stop}
 use Rattle.buffered_engine.specs.Inside.Asks.{IsEndOf}
 use Rattle.buffered_engine.specs.States.{HasRun, State}
@@ -22,8 +24,8 @@ use Rattle.buffered_engine.specs.declared.ends.Response.{Response}
 -- ## Its parts
 
 -- the engine of this machine, as its callers see it
-abbrev pub state_by : {D : Type 0} → PagedMachine D → Next → List (List End) → State D
-state_by m next ends = record {
+abbrev pub state_by : {D : Type 0} → PagedMachine D → Next → Scan → List (List End) → State D
+state_by m next scan ends = record {
   view = view_of m;
   disk = m.machine.work.disk;
   work = here m.machine;
@@ -32,6 +34,7 @@ state_by m next ends = record {
   slots = m.pager.slots;
   works = m.machine.work.session.works;
   next = next;
+  scan = scan;
   sessions = m.machine.work.session.workers;
   turn = m.machine.work.session.own;
   group = m.machine.work.session.group;
@@ -40,12 +43,13 @@ state_by m next ends = record {
 
 -- ## What holds
 
--- Its machine is as between two calls, and stands in a run, unless the engine works no longer: then its seat is still the rows'.
-pub record IsEngine {D : Type 0} (story : D → Story) (m : PagedMachine D) (next : Next) (ends : List (List End)) : Type 0 where
+-- Its machine is as between two calls, and stands in a run, unless the engine works no longer: then its seat is still the rows'. Its scan tells of keys that there may be.
+pub record IsEngine {D : Type 0} (story : D → Story) (m : PagedMachine D) (next : Next) (scan : Scan) (ends : List (List End)) : Type 0 where
   pub few : m.machine.work.session.workers ≤ most_sessions
   pub fits : SeatFits m.machine
   pub ready : Works m.machine → IsReady story m
-  pub run : Works m.machine → HasRun (state_by m next ends)
+  pub run : Works m.machine → HasRun (state_by m next scan ends)
+  pub within : IsIn scan
 
 -- ## Behind a call
 

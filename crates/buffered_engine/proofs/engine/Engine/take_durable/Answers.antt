@@ -10,7 +10,7 @@ invariant_of-self g c =
     let m = c.self.inside.machine in
     let numbers = c.args.numbers in
     let long : m.machine.work.session.workers ≤ length numbers = (let few = c.self.invariant.0.few in omega arith) in (
-      engine_some g.D.Disk.story m c.self.inside.next c.self.inside.unripe (ap (λ s. s.works) c.self.view_is ∙ c.requires.works) c.self.invariant.0 c.every_take.ensures c.self.inside.next c.take.new.self numbers (Some c.in-Some.receipt) long
+      engine_some g.D.Disk.story m c.self.inside.next c.self.inside.scan c.self.inside.unripe (ap (λ s. s.works) c.self.view_is ∙ c.requires.works) c.self.invariant.0 c.every_take.ensures c.self.inside.next c.take.new.self numbers (Some c.in-Some.receipt) long
           (subst (λ (s : State g.row.D.Denot). AreNumbers s.sessions (memory_in s).log numbers) (sym c.self.view_is) c.requires.numbers) c.in-Some.ensures.takes c.in-Some.receipt refl refl,
       tt,
     )
@@ -21,7 +21,7 @@ returns-in-Some g c =
     let numbers = c.args.numbers in
     let long : m.machine.work.session.workers ≤ length numbers = (let few = c.self.invariant.0.few in omega arith) in
     record {
-      taken = λ o xs names run. tells_some g.D.Disk.story m c.self.inside.next c.self.inside.unripe (ap (λ s. s.works) c.self.view_is ∙ c.requires.works) c.self.invariant.0 c.every_take.ensures c.self.inside.next c.take.new.self numbers (Some c.in-Some.receipt) long
+      taken = λ o xs names run. tells_some g.D.Disk.story m c.self.inside.next c.self.inside.scan c.self.inside.unripe (ap (λ s. s.works) c.self.view_is ∙ c.requires.works) c.self.invariant.0 c.every_take.ensures c.self.inside.next c.take.new.self numbers (Some c.in-Some.receipt) long
           (subst (λ (s : State g.row.D.Denot). AreNumbers s.sessions (memory_in s).log numbers) (sym c.self.view_is) c.requires.numbers) c.in-Some.ensures.takes c.in-Some.receipt refl refl
           o xs names (subst (λ (s : State g.row.D.Denot). InRun s o xs names) (sym c.self.view_is) run);
       next = search rules;
@@ -36,7 +36,7 @@ invariant_of-self-in-None g c =
     let m = c.self.inside.machine in
     let numbers = c.args.numbers in
     let long : m.machine.work.session.workers ≤ length numbers = (let few = c.self.invariant.0.few in omega arith) in (
-      engine_none g.D.Disk.story m c.self.inside.next c.self.inside.unripe (ap (λ s. s.works) c.self.view_is ∙ c.requires.works) c.self.invariant.0 c.every_take.ensures c.behind-self-inside.result c.take.new.self numbers None long
+      engine_none g.D.Disk.story m c.self.inside.next c.self.inside.scan c.self.inside.unripe (ap (λ s. s.works) c.self.view_is ∙ c.requires.works) c.self.invariant.0 c.every_take.ensures c.behind-self-inside.result c.take.new.self numbers None long
           (subst (λ (s : State g.row.D.Denot). AreNumbers s.sessions (memory_in s).log numbers) (sym c.self.view_is) c.requires.numbers) c.in-None.ensures.takes refl c.behind-self-inside.ensures,
       calm_found m.machine.work.session.workers numbers c.take.new.self long (c.in-None.ensures.again refl),
     )
@@ -47,7 +47,7 @@ returns-in-None g c =
     let numbers = c.args.numbers in
     let long : m.machine.work.session.workers ≤ length numbers = (let few = c.self.invariant.0.few in omega arith) in
     record {
-      taken = λ o xs names run. tells_none g.D.Disk.story m c.self.inside.next c.self.inside.unripe (ap (λ s. s.works) c.self.view_is ∙ c.requires.works) c.self.invariant.0 c.every_take.ensures c.behind-self-inside.result c.take.new.self numbers None long
+      taken = λ o xs names run. tells_none g.D.Disk.story m c.self.inside.next c.self.inside.scan c.self.inside.unripe (ap (λ s. s.works) c.self.view_is ∙ c.requires.works) c.self.invariant.0 c.every_take.ensures c.behind-self-inside.result c.take.new.self numbers None long
           (subst (λ (s : State g.row.D.Denot). AreNumbers s.sessions (memory_in s).log numbers) (sym c.self.view_is) c.requires.numbers) c.in-None.ensures.takes refl c.behind-self-inside.ensures
           o xs names (subst (λ (s : State g.row.D.Denot). InRun s o xs names) (sym c.self.view_is) run);
       next = search rules;

@@ -1,0 +1,2 @@
+-- Read Turns: what is asked behind an answer.
+pub mod Turns
