@@ -17,7 +17,7 @@ use std::str;
 
 const WORKERS: u32 = 16;
 
-static GOOD: [(&[u8], u32, Call); 17] = [
+static GOOD: [(&[u8], u32, Call); 23] = [
     (b"1 begin", 1, Call::Begin),
     (b"16 begin", 16, Call::Begin),
     (b"2 commit", 2, Call::Commit),
@@ -67,10 +67,37 @@ static GOOD: [(&[u8], u32, Call); 17] = [
             value: 9223372036854775807,
         },
     ),
+    (b"1 scan 0 0", 1, Call::Scan { from: 0, to: 0 }),
+    (b"1 scan 0 9", 1, Call::Scan { from: 0, to: 9 }),
+    (b"3 scan 9 1", 3, Call::Scan { from: 9, to: 1 }),
+    (
+        b"16 scan 0 18446744073709551614",
+        16,
+        Call::Scan {
+            from: 0,
+            to: 18446744073709551614,
+        },
+    ),
+    (
+        b"1 scan 18446744073709551614 0",
+        1,
+        Call::Scan {
+            from: 18446744073709551614,
+            to: 0,
+        },
+    ),
+    (
+        b"10 scan 18446744073709551609 18446744073709551614",
+        10,
+        Call::Scan {
+            from: 18446744073709551609,
+            to: 18446744073709551614,
+        },
+    ),
     (b"sync", 0, Call::Sync),
 ];
 
-static BAD: [&[u8]; 105] = [
+static BAD: [&[u8]; 131] = [
     b"",
     b" ",
     b"1",
@@ -149,7 +176,33 @@ static BAD: [&[u8]; 105] = [
     b"1 delete 5",
     b"1del 5",
     b"1 Del 5",
-    b"1 scan 0 9",
+    b"1 scan",
+    b"1 scan ",
+    b"1 scan 5",
+    b"1 scan 5 ",
+    b"1 scan  5 7",
+    b"1 scan 5  7",
+    b"1 scan 5 7 ",
+    b"1 scan 5 7 9",
+    b"1 scan 05 7",
+    b"1 scan 5 07",
+    b"1 scan -5 7",
+    b"1 scan 5 -7",
+    b"1 scan 18446744073709551615 7",
+    b"1 scan 5 18446744073709551615",
+    b"1 scan 5 18446744073709551616",
+    b"1 scans 5 7",
+    b"1 scan5 7",
+    b"1 scan 5,7",
+    b"1 scan 5-7",
+    b"1 scan 5 7a",
+    b"1 Scan 5 7",
+    b"1 sca 5 7",
+    b"1scan 5 7",
+    b"scan 5 7",
+    b"1 pair 5 7",
+    b"1 more 5",
+    b"1 end",
     b"1 aborts",
     b"1 abort ",
     b"1 abort 1",
@@ -263,6 +316,9 @@ enum Told {
     NoValue,
     Was(u64),
     WasNone,
+    Pair(u64, u64),
+    More(u64),
+    End,
     Committed(u64, u64),
     Aborted(u64),
     Synced(u64),
@@ -277,7 +333,7 @@ enum Told {
     NoPages,
 }
 
-static REPLIES: [(u32, Told, &[u8]); 23] = [
+static REPLIES: [(u32, Told, &[u8]); 31] = [
     (1, Told::Begun(1), b"1 begun 1.1\n"),
     (1, Told::Value(7), b"1 value 7\n"),
     (1, Told::NoValue, b"1 none\n"),
@@ -288,6 +344,26 @@ static REPLIES: [(u32, Told, &[u8]); 23] = [
     ),
     (2, Told::WasNone, b"2 was none\n"),
     (3, Told::Was(0), b"3 was 0\n"),
+    (1, Told::Pair(5, 7), b"1 pair 5 7\n"),
+    (16, Told::Pair(0, 0), b"16 pair 0 0\n"),
+    (
+        1,
+        Told::Pair(18446744073709551614, 9223372036854775807),
+        b"1 pair 18446744073709551614 9223372036854775807\n",
+    ),
+    (
+        4294967295,
+        Told::Pair(18446744073709551615, 18446744073709551615),
+        b"4294967295 pair 18446744073709551615 18446744073709551615\n",
+    ),
+    (1, Told::More(65), b"1 more 65\n"),
+    (
+        4294967295,
+        Told::More(18446744073709551615),
+        b"4294967295 more 18446744073709551615\n",
+    ),
+    (1, Told::End, b"1 end\n"),
+    (16, Told::End, b"16 end\n"),
     (1, Told::Committed(1, 2), b"1 committed 1.1 at 2\n"),
     (1, Told::Aborted(2), b"1 aborted 1.2\n"),
     (0, Told::Synced(0), b"synced 0\n"),
@@ -332,6 +408,12 @@ fn answer_of(told: &Told) -> Answer
         Told::NoValue => Answer::Value(None),
         Told::Was(value) => Answer::Was(Some(*value)),
         Told::WasNone => Answer::Was(None),
+        Told::Pair(key, value) => Answer::Pair {
+            key: *key,
+            value: *value,
+        },
+        Told::More(from) => Answer::More { from: *from },
+        Told::End => Answer::End,
         Told::Committed(number, at) => Answer::Committed {
             number: *number,
             at: *at,

@@ -1,16 +1,17 @@
 -- A line that is spelled is read, and a line that is read was spelled so.
-use Rattle.std.proofs.Common.{◌≡◌, ◌⊎◌, inl, inr, ⊎_elim, ◌++◌, ◌∷◌, ℕ, List, Option, Some, None, codes, ◌∙◌, sym, refl, ap, subst, ◌+◌, ◌-◌, ◌^◌, ◌<◌, ◌≤◌, Bool, true, false, cond, nat_lt, length, option_map, arith}
-use Rattle.std.proofs.lemmas.List.{length-append}
+use Rattle.std.proofs.Common.{◌≡◌, ◌⊎◌, inl, inr, ⊎_elim, ◌++◌, ◌∷◌, [], ℕ, List, Option, Some, None, codes, ◌∙◌, sym, refl, ap, subst, ◌+◌, ◌-◌, ◌^◌, ◌<◌, ◌≤◌, Bool, true, false, cond, nat_eq, nat_lt, length, take, option_map, arith}
+use Rattle.std.proofs.lemmas.List.{length-append, take_at}
 use Rattle.std.proofs.lemmas.Bool.Decides.{nat_tests}
 use Rattle.std.proofs.lemmas.Slice.Eq.{bytes_eq-Decides}
 use Rattle.std.proofs.lemmas.Fmt.{length-decimal-le}
 use Rattle.std.specs.Str.{bytes_eq}
 use Rattle.std.specs.Fmt.{decimal}
 use Rattle.script_lang.specs.Words.{first_word, after_word, number_of, ranged, word, rest, ends, with_one, with_two}
-use Rattle.script_lang.specs.Lines.{call_text, text_by, IsSessionOf, CallFits, Spells, key_of, put_of, lone_verb_of, verb_of, line_with, sync_line, line_of}
+use Rattle.script_lang.specs.Lines.{call_text, text_by, IsSessionOf, CallFits, Spells, key_of, put_of, scan_of, lone_verb_of, verb_of, line_with, sync_line, line_of}
+use Rattle.script_lang.specs.Inside.{behind_scan}
 use Rattle.script_lang.specs.declared.line.Line.{Line}
 use Rattle.map_model.specs.declared.call.Call.{Call}
-use Rattle.map_model.specs.declared.call.Call.TheVariants.{Begin, Get, Put, Del, Commit, Abort, Sync}
+use Rattle.map_model.specs.declared.call.Call.TheVariants.{Begin, Get, Put, Del, Scan, Commit, Abort, Sync}
 use Rattle.script_lang.proofs.NumberLemmas.{word_number, word_last, after_last, word_before, after_before, Joins, joins, guard, number_is, number_spelled, ranged_is, in_range}
 
 -- what is spelled is read
@@ -67,6 +68,23 @@ call_read (Put k v) h has =
       number_is v fits,
       ranged_is 0 (2 ^ 63) v (omega arith) value,
     ) refl
+call_read (Scan from to) h has =
+    let first : from < 2 ^ 64 - 1 = h.0 in
+    let last : to < 2 ^ 64 - 1 = h.1 in
+    let low : from < 2 ^ 64 = omega arith in
+    let high : to < 2 ^ 64 = omega arith in
+    let w = word_number from low in
+    let u = word_number to high in
+    rw (
+      word_before (decimal from) (decimal to) w,
+      after_before (decimal from) (decimal to) w,
+      number_is from low,
+      ranged_is 0 (2 ^ 64 - 1) from (omega arith) first,
+      word_last (decimal to) u,
+      after_last (decimal to) u,
+      number_is to high,
+      ranged_is 0 (2 ^ 64 - 1) to (omega arith) last,
+    ) refl
 call_read _ h has = absurd h
 
 call_short : (call : Call) → CallFits call → length (call_text call) ≤ 50
@@ -82,6 +100,12 @@ call_short (Put k v) h =
     let l = length-decimal-le 20 k (omega arith) (omega arith) (omega arith) in
     let m = length-decimal-le 20 v (omega arith) (omega arith) (omega arith) in
     let e = length-append (decimal k) (32 ∷ decimal v) in omega arith
+call_short (Scan from to) h =
+    let first : from < 2 ^ 64 - 1 = h.0 in
+    let last : to < 2 ^ 64 - 1 = h.1 in
+    let l = length-decimal-le 20 from (omega arith) (omega arith) (omega arith) in
+    let m = length-decimal-le 20 to (omega arith) (omega arith) (omega arith) in
+    let e = length-append (decimal from) (32 ∷ decimal to) in omega arith
 call_short _ h = absurd h
 
 split : {A : Type 0} (b : Bool) (x y : Option A) (a : A) → cond b x y ≡ Some a → ((b ≡ true) × (x ≡ Some a)) ⊎ (y ≡ Some a)
@@ -203,29 +227,36 @@ key_says c verb ws call (Some more) text fits has after is e = at (key_of (Some 
         let P : Call → Type 0 = λ call. Says (Some ws) call in
         subst P made (record { spelled = ap (λ (w : List ℕ). Some w) (words ∙ ap (λ (w : List ℕ). verb ++ 32 ∷ w) h.spelled ∙ sym (text k)); fits = fits k h.fits; session = has k })
 
--- the second number of a put
-value_says : (k : ℕ) (more : List ℕ) (left : Option (List ℕ)) (call : Call) → after_word more ≡ left → first_word more ≡ decimal k
-    → OneIs (Put k) (ranged 0 (2 ^ 63) (number_of (word left))) (rest left) call
-    → (v : ℕ) × (more ≡ decimal k ++ 32 ∷ decimal v) × (v < 2 ^ 63) × (Put k v ≡ call)
-value_says k more None call after is o = let no = o.is in cc
-value_says k more (Some last) call after is o =
+-- the second number of a put or a scan, whose first is k
+second_says : (c : ℕ → Call) (k end : ℕ) (more : List ℕ) (left : Option (List ℕ)) (call : Call) → after_word more ≡ left → first_word more ≡ decimal k
+    → OneIs c (ranged 0 end (number_of (word left))) (rest left) call
+    → (v : ℕ) × (more ≡ decimal k ++ 32 ∷ decimal v) × (v < end) × (c v ≡ call)
+second_says c k end more None call after is o = let no = o.is in cc
+second_says c k end more (Some last) call after is o =
     let v : ℕ = o.number in
-    let r = in_range 0 (2 ^ 63) v (number_of (first_word last)) o.is in
+    let r = in_range 0 end v (number_of (first_word last)) o.is in
     let n = number_spelled (first_word last) v r.read in
     let words : last ≡ decimal v = last_word last (decimal v) n.0 o.last in
     (v, then_word more (decimal k) last is after ∙ ap (λ (w : List ℕ). decimal k ++ 32 ∷ w) words, r.under, o.made)
 
-put_says : (ws : List ℕ) (call : Call) (more : Option (List ℕ)) → after_word ws ≡ more → bytes_eq (first_word ws) (codes "put") ≡ true → put_of more ≡ Some call → Says (Some ws) call
-put_says ws call None after is e = let t = two_are Put None None None call e in let no = t.is in cc
-put_says ws call (Some more) after is e =
-    let t = two_are Put (ranged 0 (2 ^ 64 - 1) (number_of (first_word more))) (ranged 0 (2 ^ 63) (number_of (word (after_word more)))) (rest (after_word more)) call e in
+-- a key, and a number below an end
+abbrev pair_of : (ℕ → ℕ → Call) → ℕ → Option (List ℕ) → Option Call
+pair_of c end words = with_two c (ranged 0 (2 ^ 64 - 1) (number_of (word words))) (ranged 0 end (number_of (word (rest words)))) (rest (rest words))
+
+-- a verb and two numbers
+two_says : (c : ℕ → ℕ → Call) (verb : List ℕ) (end : ℕ) (ws : List ℕ) (call : Call) (more : Option (List ℕ)) → ((k v : ℕ) → call_text (c k v) ≡ verb ++ 32 ∷ (decimal k ++ 32 ∷ decimal v))
+    → ((k v : ℕ) → k < 2 ^ 64 - 1 → v < end → CallFits (c k v)) → ((k v : ℕ) → HasSession (c k v))
+    → after_word ws ≡ more → bytes_eq (first_word ws) verb ≡ true → pair_of c end more ≡ Some call → Says (Some ws) call
+two_says c verb end ws call None text fits has after is e = let t = two_are c None (ranged 0 end None) None call e in let no = t.is in cc
+two_says c verb end ws call (Some more) text fits has after is e =
+    let t = two_are c (ranged 0 (2 ^ 64 - 1) (number_of (first_word more))) (ranged 0 end (number_of (word (after_word more)))) (rest (after_word more)) call e in
     let k : ℕ = t.first in
     let r = in_range 0 (2 ^ 64 - 1) k (number_of (first_word more)) t.is in
     let n = number_spelled (first_word more) k r.read in
-    let s = value_says k more (after_word more) call refl n.0 t.second in
-    let text : ws ≡ codes "put" ++ 32 ∷ more = then_word ws (codes "put") more (same (first_word ws) (codes "put") is) after in
+    let s = second_says (c k) k end more (after_word more) call refl n.0 t.second in
+    let words : ws ≡ verb ++ 32 ∷ more = then_word ws verb more (same (first_word ws) verb is) after in
     let P : Call → Type 0 = λ call. Says (Some ws) call in
-    subst P s.3 (record { spelled = ap (λ (w : List ℕ). Some w) (text ∙ ap (λ (w : List ℕ). codes "put" ++ 32 ∷ w) s.1); fits = (r.under, s.2); session = tt })
+    subst P s.3 (record { spelled = ap (λ (w : List ℕ). Some w) (words ∙ ap (λ (w : List ℕ). verb ++ 32 ∷ w) s.1 ∙ sym (text k s.0)); fits = fits k s.0 r.under s.2; session = has k s.0 })
 
 abbrev abort_tail : List ℕ → Option Call
 abort_tail ws = cond (bytes_eq (first_word ws) (codes "abort")) (ends Abort (after_word ws)) None
@@ -247,8 +278,11 @@ lone_verb_says ws call e =
     (split (bytes_eq (first_word ws) (codes "commit")) (ends Commit (after_word ws)) (abort_tail ws) call e))
     (split (bytes_eq (first_word ws) (codes "begin")) (ends Begin (after_word ws)) (commit_tail ws) call e)
 
+abbrev scan_tail : List ℕ → Option Call
+scan_tail ws = cond (bytes_eq (first_word ws) (codes "scan")) (scan_of (after_word ws)) (lone_verb_of (Some ws))
+
 abbrev del_tail : List ℕ → Option Call
-del_tail ws = cond (bytes_eq (first_word ws) (codes "del")) (option_map Del (key_of (after_word ws))) (lone_verb_of (Some ws))
+del_tail ws = cond (bytes_eq (first_word ws) (codes "del")) (option_map Del (key_of (after_word ws))) (scan_tail ws)
 
 abbrev put_tail : List ℕ → Option Call
 put_tail ws = cond (bytes_eq (first_word ws) (codes "put")) (put_of (after_word ws)) (del_tail ws)
@@ -257,10 +291,12 @@ pub verb_says : (words : Option (List ℕ)) (call : Call) → verb_of words ≡ 
 verb_says None call e = cc
 verb_says (Some ws) call e =
     ⊎_elim (λ h. key_says Get (codes "get") ws call (after_word ws) (λ k. refl) (λ k small. small) (λ k. tt) refl h.0 h.1)
-    (λ e. ⊎_elim (λ h. put_says ws call (after_word ws) refl h.0 h.1)
+    (λ e. ⊎_elim (λ h. two_says Put (codes "put") (2 ^ 63) ws call (after_word ws) (λ k v. refl) (λ k v key value. (key, value)) (λ k v. tt) refl h.0 h.1)
     (λ e. ⊎_elim (λ h. key_says Del (codes "del") ws call (after_word ws) (λ k. refl) (λ k small. small) (λ k. tt) refl h.0 h.1)
+    (λ e. ⊎_elim (λ h. two_says Scan (codes "scan") (2 ^ 64 - 1) ws call (after_word ws) (λ k v. refl) (λ k v first last. (first, last)) (λ k v. tt) refl h.0 h.1)
     (λ e. (lone_verb_says ws call e).says)
-    (split (bytes_eq (first_word ws) (codes "del")) (option_map Del (key_of (after_word ws))) (lone_verb_of (Some ws)) call e))
+    (split (bytes_eq (first_word ws) (codes "scan")) (scan_of (after_word ws)) (lone_verb_of (Some ws)) call e))
+    (split (bytes_eq (first_word ws) (codes "del")) (option_map Del (key_of (after_word ws))) (scan_tail ws) call e))
     (split (bytes_eq (first_word ws) (codes "put")) (put_of (after_word ws)) (del_tail ws) call e))
     (split (bytes_eq (first_word ws) (codes "get")) (option_map Get (key_of (after_word ws))) (put_tail ws) call e)
 
@@ -323,8 +359,27 @@ passed verb ws of other unlike none alone = at (bytes_eq (first_word ws) verb) r
 
 -- words that begin with no verb that wants a number are read as a verb alone
 pub no_numbers : (ws : List ℕ) → ((more : List ℕ) → ws ≡ codes "get " ++ more → ⊥) → ((more : List ℕ) → ws ≡ codes "put " ++ more → ⊥) → ((more : List ℕ) → ws ≡ codes "del " ++ more → ⊥)
-    → verb_of (Some ws) ≡ lone_verb_of (Some ws)
-no_numbers ws get put del =
+    → ((more : List ℕ) → ws ≡ codes "scan " ++ more → ⊥) → verb_of (Some ws) ≡ lone_verb_of (Some ws)
+no_numbers ws get put del scan =
     passed (codes "get") ws (λ more. option_map Get (key_of more)) (put_tail ws) get refl (λ e. subst (λ (ws : List ℕ). put_tail ws ≡ None) (sym e) refl)
     ∙ passed (codes "put") ws put_of (del_tail ws) put refl (λ e. subst (λ (ws : List ℕ). del_tail ws ≡ None) (sym e) refl)
-    ∙ passed (codes "del") ws (λ more. option_map Del (key_of more)) (lone_verb_of (Some ws)) del refl (λ e. subst (λ (ws : List ℕ). lone_verb_of (Some ws) ≡ None) (sym e) refl)
+    ∙ passed (codes "del") ws (λ more. option_map Del (key_of more)) (scan_tail ws) del refl (λ e. subst (λ (ws : List ℕ). scan_tail ws ≡ None) (sym e) refl)
+    ∙ passed (codes "scan") ws scan_of (lone_verb_of (Some ws)) scan refl (λ e. subst (λ (ws : List ℕ). lone_verb_of (Some ws) ≡ None) (sym e) refl)
+
+-- words that begin with these four bytes ask for a scan, or nothing
+pub scan_read : (ws behind : List ℕ) → ws ≡ codes "scan" ++ behind → behind_scan behind ≡ verb_of (Some ws)
+scan_read ws behind e = subst (λ (ws : List ℕ). behind_scan behind ≡ verb_of (Some ws)) (sym e) (at behind)
+  where
+    space : (b : ℕ) (keys : List ℕ) (t : Bool) → nat_eq b 32 ≡ t → behind_scan (b ∷ keys) ≡ verb_of (Some (codes "scan" ++ b ∷ keys))
+    space b keys true is = rw is refl
+    space b keys false is = rw is refl
+
+    at : (behind : List ℕ) → behind_scan behind ≡ verb_of (Some (codes "scan" ++ behind))
+    at [] = refl
+    at (b ∷ keys) = space b keys (nat_eq b 32) refl
+
+-- words whose first four bytes are others begin with no such four
+pub begins_so : (verb front ws : List ℕ) → length verb ≡ 4 → front ≡ take 4 ws → bytes_eq front verb ≡ false → (more : List ℕ) → ws ≡ verb ++ more → ⊥
+begins_so verb front ws four first other more e =
+    let is : front ≡ verb = first ∙ ap (take 4) e ∙ take_at verb more 4 four in
+    let yes : bytes_eq front verb ≡ true = (bytes_eq-Decides front verb).1 is in cc

@@ -12,7 +12,7 @@ use Rattle.script_lang.specs.Replies.{reply_text, reply_of, answer_text, said_of
 use Rattle.script_lang.specs.Text.{IsLine}
 use Rattle.map_model.specs.Outputs.Reply.{Answered, Durable}
 use Rattle.map_model.specs.declared.call.Answer.{Answer}
-use Rattle.map_model.specs.declared.call.Answer.TheVariants.{Begun, Value, Was, Committed, Aborted, Synced, Refused}
+use Rattle.map_model.specs.declared.call.Answer.TheVariants.{Begun, Value, Was, Pair, More, End, Committed, Aborted, Synced, Refused}
 use Rattle.map_model.specs.declared.call.Refusal.TheVariants.{InTransaction, NoTransaction, TooLong, LogFull, ClockSpent, RowSpent, Conflict, TooTall, NoPages}
 use Rattle.script_lang.proofs.NumberLemmas.{Digits, digits, word_number, word_name, word_last, after_last, word_before, after_before, number_is}
 
@@ -40,6 +40,12 @@ said_back s (Value (Some n)) small h = let d = word_number n h in rw (word_last 
 said_back s (Value None) small h = refl
 said_back s (Was (Some n)) small h = let d = word_number n h in rw (word_last (decimal n) d, number_is n h, after_last (decimal n) d) refl
 said_back s (Was None) small h = refl
+said_back s (Pair k v) small h =
+    let d = word_number k h.0 in
+    let e = word_number v h.1 in
+    rw (word_before (decimal k) (decimal v) d, after_before (decimal k) (decimal v) d, number_is k h.0, word_last (decimal v) e, number_is v h.1, after_last (decimal v) e) refl
+said_back s (More k) small h = let d = word_number k h in rw (word_last (decimal k) d, number_is k h, after_last (decimal k) d) refl
+said_back s End small h = refl
 said_back s (Committed n g) small h =
     let d = word_name s n small h.0 in
     let e = word_number g h.1 in
@@ -112,6 +118,13 @@ answer_line s (Value (Some n)) small h = let t = line_number n h in search (rule
 answer_line s (Value None) small h = search rules
 answer_line s (Was (Some n)) small h = let t = line_number n h in search (rules, t)
 answer_line s (Was None) small h = search rules
+answer_line s (Pair k v) small h =
+    let last = line_number v h.1 in
+    let value : IsLine (32 ∷ decimal v) = search (rules, last) in
+    let t = line_with_number k (32 ∷ decimal v) h.0 value in
+    search (rules, t)
+answer_line s (More k) small h = let t = line_number k h in search (rules, t)
+answer_line s End small h = search rules
 answer_line s (Committed n g) small h =
     let g_line = line_number g h.1 in
     let at_line : IsLine (codes " at " ++ decimal g) = search (rules, g_line) in

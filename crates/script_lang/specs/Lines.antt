@@ -5,7 +5,7 @@ use Rattle.std.specs.Fmt.{decimal}
 use Rattle.script_lang.specs.Words.{word, rest, number_of, ranged, ends, with_one, with_two}
 use Rattle.script_lang.specs.declared.line.Line.{Line}
 use Rattle.map_model.specs.declared.call.Call.{Call}
-use Rattle.map_model.specs.declared.call.Call.TheVariants.{Begin, Get, Put, Del, Commit, Abort, Sync}
+use Rattle.map_model.specs.declared.call.Call.TheVariants.{Begin, Get, Put, Del, Scan, Commit, Abort, Sync}
 
 -- what is asked, as it is spelled; a call with no line yet has no text
 abbrev pub call_text : Call → List ℕ
@@ -13,6 +13,7 @@ call_text Begin = codes "begin"
 call_text (Get key) = codes "get " ++ decimal key
 call_text (Put key value) = codes "put " ++ (decimal key ++ 32 ∷ decimal value)
 call_text (Del key) = codes "del " ++ decimal key
+call_text (Scan from to) = codes "scan " ++ (decimal from ++ 32 ∷ decimal to)
 call_text Commit = codes "commit"
 call_text Abort = codes "abort"
 call_text Sync = codes "sync"
@@ -37,6 +38,7 @@ CallFits Begin = Unit {0}
 CallFits (Get key) = key < 2 ^ 64 - 1
 CallFits (Put key value) = (key < 2 ^ 64 - 1) × (value < 2 ^ 63)
 CallFits (Del key) = key < 2 ^ 64 - 1
+CallFits (Scan from to) = (from < 2 ^ 64 - 1) × (to < 2 ^ 64 - 1)
 CallFits Commit = Unit {0}
 CallFits Abort = Unit {0}
 CallFits Sync = Unit {0}
@@ -55,6 +57,9 @@ key_of words = with_one (λ key. key) (ranged 0 (2 ^ 64 - 1) (number_of (word wo
 abbrev pub put_of : Option (List ℕ) → Option Call
 put_of words = with_two Put (ranged 0 (2 ^ 64 - 1) (number_of (word words))) (ranged 0 (2 ^ 63) (number_of (word (rest words)))) (rest (rest words))
 
+abbrev pub scan_of : Option (List ℕ) → Option Call
+scan_of words = with_two Scan (ranged 0 (2 ^ 64 - 1) (number_of (word words))) (ranged 0 (2 ^ 64 - 1) (number_of (word (rest words)))) (rest (rest words))
+
 abbrev pub lone_verb_of : Option (List ℕ) → Option Call
 lone_verb_of words =
     if bytes_eq (word words) (codes "begin") then ends Begin (rest words)
@@ -67,6 +72,7 @@ verb_of words =
     if bytes_eq (word words) (codes "get") then option_map Get (key_of (rest words))
     else if bytes_eq (word words) (codes "put") then put_of (rest words)
     else if bytes_eq (word words) (codes "del") then option_map Del (key_of (rest words))
+    else if bytes_eq (word words) (codes "scan") then scan_of (rest words)
     else lone_verb_of words
 
 abbrev pub line_with : Option ℕ → Option Call → Option Line

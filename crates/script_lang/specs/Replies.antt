@@ -5,7 +5,7 @@ use Rattle.std.specs.Fmt.{decimal}
 use Rattle.script_lang.specs.Words.{word, rest, number_of, ends, with_one, with_two}
 use Rattle.script_lang.specs.Pieces.{name}
 use Rattle.map_model.specs.declared.call.Answer.{Answer}
-use Rattle.map_model.specs.declared.call.Answer.TheVariants.{Begun, Value, Was, Committed, Aborted, Synced, Refused}
+use Rattle.map_model.specs.declared.call.Answer.TheVariants.{Begun, Value, Was, Pair, More, End, Committed, Aborted, Synced, Refused}
 use Rattle.map_model.specs.declared.call.Refusal.{Refusal}
 use Rattle.map_model.specs.Outputs.{Reply}
 use Rattle.map_model.specs.Outputs.Reply.{Answered, Durable}
@@ -31,6 +31,9 @@ answer_text s (Value (Some v)) = codes "value " ++ decimal v
 answer_text s (Value None) = codes "none"
 answer_text s (Was (Some v)) = codes "was " ++ decimal v
 answer_text s (Was None) = codes "was none"
+answer_text s (Pair key value) = codes "pair " ++ (decimal key ++ 32 ∷ decimal value)
+answer_text s (More from) = codes "more " ++ decimal from
+answer_text s End = codes "end"
 answer_text s (Committed n g) = codes "committed " ++ (name s n ++ (codes " at " ++ decimal g))
 answer_text s (Aborted n) = codes "aborted " ++ name s n
 answer_text s (Synced g) = codes "synced " ++ decimal g
@@ -83,6 +86,10 @@ said_of s words =
     else if bytes_eq (word words) (codes "value") then with_one (λ n. Answered s (Value (Some n))) (number_of (word (rest words))) (rest (rest words))
     else if bytes_eq (word words) (codes "none") then ends (Answered s (Value None)) (rest words)
     else if bytes_eq (word words) (codes "was") then was_of s (number_of (word (rest words))) (rest words)
+    else if bytes_eq (word words) (codes "pair") then
+    with_two (λ k v. Answered s (Pair k v)) (number_of (word (rest words))) (number_of (word (rest (rest words)))) (rest (rest (rest words)))
+    else if bytes_eq (word words) (codes "more") then with_one (λ k. Answered s (More k)) (number_of (word (rest words))) (rest (rest words))
+    else if bytes_eq (word words) (codes "end") then ends (Answered s End) (rest words)
     else if bytes_eq (word words) (codes "committed") then committed_of s (rest words)
     else if bytes_eq (word words) (codes "aborted") then with_one (λ n. Answered s (Aborted n)) (numbered s (word (rest words))) (rest (rest words))
     else if bytes_eq (word words) (codes "durable") then with_one (λ n. Durable s n) (numbered s (word (rest words))) (rest (rest words))
@@ -120,6 +127,9 @@ AnswerFits (Value (Some v)) = v < 2 ^ 64
 AnswerFits (Value None) = Unit {0}
 AnswerFits (Was (Some v)) = v < 2 ^ 64
 AnswerFits (Was None) = Unit {0}
+AnswerFits (Pair key value) = (key < 2 ^ 64) × (value < 2 ^ 64)
+AnswerFits (More from) = from < 2 ^ 64
+AnswerFits End = Unit {0}
 AnswerFits (Committed n g) = (n < 2 ^ 64) × (g < 2 ^ 64)
 AnswerFits (Aborted n) = n < 2 ^ 64
 AnswerFits (Synced g) = g < 2 ^ 64

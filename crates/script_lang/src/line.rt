@@ -2,7 +2,8 @@
 ghost use Rattle.std.specs.Prelude.{◌≡◌, ◌≤◌, ◌<◌, ◌+◌, ◌-◌, ◌*◌, ◌^◌, ◌++◌, ℕ, List, Option, Some, None, Ok, IfOk, IfErr, IfSome, IfNone, MatchOption, length, codes, if◌then◌else◌};
 ghost use Rattle.std.specs.Str.{bytes_eq};
 ghost use Rattle.script_lang.specs.Words.{first_word, after_word, digits_on, goes_on, number_of, ranged};
-ghost use Rattle.script_lang.specs.Lines.{verb_of, lone_verb_of, key_of, put_of, line_of, sync_line, Spells};
+ghost use Rattle.script_lang.specs.Inside.{behind_scan};
+ghost use Rattle.script_lang.specs.Lines.{verb_of, lone_verb_of, key_of, put_of, scan_of, line_of, sync_line, Spells};
 
 use map_model::Call;
 
@@ -87,10 +88,13 @@ fn read_call(words: &[u8]) -> Option<Call>
         let key = read_key(numbers)?;
         return Some(Call::Del { key });
     }
+    if is_verb(verb, b"scan") {
+        return read_scan(numbers);
+    }
     read_lone_verb(words)
 }
 
-// Whether four bytes are a verb and its space. They are compared one by one: an equality of slices is a call, and a long one for so few.
+// Whether four bytes are a verb of three and its space, or one of four. They are compared one by one: an equality of slices is a call, and a long one for so few.
 #[inline(always)]
 fn is_verb(bytes: &[u8], verb: &[u8; 4]) -> bool
     requires { length bytes.now ≡ 4 }
@@ -135,6 +139,33 @@ fn read_put(words: &[u8]) -> Option<Call>
     let value = in_range(value, 0, 1 << 63)?;
     if left.is_none() {
         Some(Call::Put { key, value })
+    } else {
+        None
+    }
+}
+
+// What stands behind the word `scan`.
+fn read_scan(behind: &[u8]) -> Option<Call>
+    ensures { result ≡ behind_scan behind.now }
+{
+    if behind.is_empty() {
+        return None;
+    }
+    if behind[0] != b' ' {
+        return None;
+    }
+    read_range(&behind[1..])
+}
+
+fn read_range(words: &[u8]) -> Option<Call>
+    ensures { result ≡ scan_of (Some words.now) }
+{
+    let (from, left) = first_number(words)?;
+    let from = in_range(from, 0, u64::MAX)?;
+    let (to, left) = first_number(left?)?;
+    let to = in_range(to, 0, u64::MAX)?;
+    if left.is_none() {
+        Some(Call::Scan { from, to })
     } else {
         None
     }

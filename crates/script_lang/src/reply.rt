@@ -46,12 +46,24 @@ fn put_answer(into: &mut [u8], session: u32, answer: &Answer) -> usize
         Answer::Value(None) => say(into, session, b" none"),
         Answer::Was(Some(value)) => say_number(into, session, b" was ", *value),
         Answer::Was(None) => say(into, session, b" was none"),
+        Answer::Pair { key, value } => put_pair(into, session, *key, *value),
+        Answer::More { from } => say_number(into, session, b" more ", *from),
+        Answer::End => say(into, session, b" end"),
         Answer::Committed { number, at } => put_committed(into, session, *number, *at),
         Answer::Aborted { number } => say_name(into, session, b" aborted ", *number),
         Answer::Synced { at } => put_with_number(into, 0, b"synced ", *at),
         Answer::Refused(refusal) => put_refusal(into, session, refusal),
         _ => unreachable!(),
     }
+}
+
+fn put_pair(into: &mut [u8], session: u32, key: u64, value: u64) -> usize
+    requires { REPLY ≤ length into.old }
+    ensures end { result ≤ 100 }
+    ensures written { Holds (reply_text (Answered session (Answer.Pair key value))) into.old into.new result }
+{
+    let at = say_number(into, session, b" pair ", key);
+    put_with_number(into, at, b" ", value)
 }
 
 fn put_committed(into: &mut [u8], session: u32, number: u64, commit: u64) -> usize

@@ -48,6 +48,13 @@ call_line (call.Put key value) fits =
     let second : IsLine (32 ∷ decimal value) = search (rules, last) in
     let first = line_with_number key (32 ∷ decimal value) key_64 second in
     search (rules, first)
+call_line (call.Scan from to) fits =
+    let from_64 : from < 2 ^ 64 = omega arith in
+    let to_64 : to < 2 ^ 64 = omega arith in
+    let last = line_number to to_64 in
+    let second : IsLine (32 ∷ decimal to) = search (rules, last) in
+    let first = line_with_number from (32 ∷ decimal to) from_64 second in
+    search (rules, first)
 call_line _ fits = absurd fits
 
 asked_line : (s : ℕ) (c : Call) → s < 2 ^ 32 → CallFits c → IsLine (decimal s ++ 32 ∷ call_text c)

@@ -86,7 +86,7 @@ pub data Heard (xs : List Answered) (told : List Reply) : Type 0 where
 
 -- ## What a run prints
 
--- The calls are in a script's grammar, and their answers in that of its replies. Each has one answer: none is a conflict.
+-- The calls are in a script's grammar, and their answers in that of its replies. Each has one answer: none is a conflict, or a pair of a scan.
 abbrev pub EachFits : ℕ → List Answered → Type 0
 EachFits workers [] = Unit {0}
 EachFits workers (x ∷ earlier) = EachFits workers earlier × LineFits workers x.session x.call × Fits (Reply.Answered x.session x.answer) × (is_last x.answer ≡ true)
