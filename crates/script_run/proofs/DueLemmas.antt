@@ -1,5 +1,5 @@
 -- The durable lines that are due, and the lines of an outcome.
-use Rattle.std.proofs.Common.{◌≡◌, ◌++◌, ◌∷◌, [], ℕ, List, Option, Some, refl, sym, ap, ◌∙◌, subst}
+use Rattle.std.proofs.Common.{◌≡◌, ◌++◌, ◌∷◌, [], ℕ, Bool, true, false, cond, List, Option, Some, None, refl, sym, ap, ◌∙◌, subst}
 use Rattle.std.proofs.lemmas.List.{append-nil}
 use mathlib.Core.List.{append_assoc}
 use Rattle.lean_edge.specs.Outside.{Held, Puts}
@@ -9,6 +9,7 @@ use Rattle.lean_disk.specs.Story.{IsLawful, Story}
 use Rattle.map_model.specs.declared.call.Answer.{Answer}
 use Rattle.map_model.specs.Journals.{Name}
 use Rattle.map_model.specs.Outputs.{Reply}
+use Rattle.map_model.specs.Pairings.{is_last}
 use Rattle.core_state.specs.Events.{Event}
 use Rattle.core_state.specs.Openings.{Opening}
 use Rattle.core_state.specs.Steps.{state_after}
@@ -16,8 +17,8 @@ use Rattle.core_calls.specs.Deeds.{answered}
 use Rattle.core_calls.specs.Durables.{due, durables, moments}
 use Rattle.core_calls.specs.Fronts.{front}
 use Rattle.core_calls.specs.Fronts as fronts
-use Rattle.core_calls.specs.Printed.{durable_lines, printed}
-use Rattle.core_calls.proofs.CommitLemmas.{up_to_moments}
+use Rattle.core_calls.specs.Printed.{due_lines, durable_lines, printed}
+use Rattle.core_calls.proofs.CommitLemmas.{moments_last, moments_open, up_to_next}
 use Rattle.run_crashes.specs.Lines.{lines_of}
 use Rattle.script_lang.specs.Replies.{Fits, reply_line}
 use Rattle.script_run.specs.Inside.{HasTold, Says, Taking}
@@ -27,11 +28,17 @@ use Rattle.script_run.proofs.PutLemmas.{says_none, says_more, says_failed, says_
 
 -- what is printed has the lines of an outcome more
 pub printed_more : (g : Opening) (xs : List fronts.Done) (x : fronts.Done) → printed g (x ∷ xs) ≡ lines_of g xs x ++ printed g xs
-printed_more g xs x = sym (append_assoc (durable_lines (due g (state_after g (front (x ∷ xs))) (durables g (moments xs)))) (Reply.Answered x.outcome.session (answered x.outcome.deed) ∷ []) (printed g xs))
+printed_more g xs x = sym (append_assoc (due_lines g xs x) (Reply.Answered x.outcome.session (answered x.outcome.deed) ∷ []) (printed g xs))
 
--- and what was told durable has those that are due more
-pub durables_more : (g : Opening) (xs : List fronts.Done) (x : fronts.Done) → due g (state_after g (front (x ∷ xs))) (durables g (moments xs)) ++ durables g (moments xs) ≡ durables g (moments (x ∷ xs))
-durables_more g xs x = ap (λ (es : List Event). due g (state_after g es) (durables g (moments xs)) ++ durables g (moments xs)) (sym (up_to_moments (x ∷ xs)))
+-- and what was told durable has those that are due more, behind the last answer to a line
+pub durables_more : (g : Opening) (xs : List fronts.Done) (x : fronts.Done) → is_last (answered x.outcome.deed) ≡ true
+    → due g (state_after g (front (x ∷ xs))) (durables g (moments xs)) ++ durables g (moments xs) ≡ durables g (moments (x ∷ xs))
+durables_more g xs x last =
+    ap (λ (es : List Event). due g (state_after g es) (durables g (moments xs)) ++ durables g (moments xs)) (sym (up_to_next x xs)) ∙ ap (λ (ms : List (List Event)). durables g ms) (sym (moments_last x xs last))
+
+-- behind another one it is the same
+pub durables_same : (g : Opening) (xs : List fronts.Done) (x : fronts.Done) → is_last (answered x.outcome.deed) ≡ false → durables g (moments xs) ≡ durables g (moments (x ∷ xs))
+durables_same g xs x more = ap (λ (ms : List (List Event)). durables g ms) (sym (moments_open x xs more))
 
 lines_append : (ns ms : List Name) → durable_lines (ns ++ ms) ≡ durable_lines ns ++ durable_lines ms
 lines_append [] ms = refl
@@ -77,16 +84,31 @@ module _ (g : Opening) (xs : List fronts.Done) (x : fronts.Done) (session : ℕ)
   abbrev reply : Reply
   reply = Reply.Answered session a
 
-  lines_are : durable_lines dues ++ reply ∷ [] ≡ lines_of g xs x
-  lines_are = sym (ap (λ (w : ℕ). durable_lines dues ++ Reply.Answered w (answered x.outcome.deed) ∷ []) s ∙ ap (λ (b : Answer). durable_lines dues ++ Reply.Answered session b ∷ []) is)
+  lines_are : due_lines g xs x ++ reply ∷ [] ≡ lines_of g xs x
+  lines_are = sym (ap (λ (w : ℕ). due_lines g xs x ++ Reply.Answered w (answered x.outcome.deed) ∷ []) s ∙ ap (λ (b : Answer). due_lines g xs x ++ Reply.Answered session b ∷ []) is)
+
+  last_lines : is_last a ≡ true → durable_lines dues ++ reply ∷ [] ≡ lines_of g xs x
+  last_lines last = ap (λ (b : Bool). cond b (durable_lines dues) [] ++ reply ∷ []) (sym (ap is_last is ∙ last)) ∙ lines_are
+
+  open_lines : is_last a ≡ false → reply ∷ [] ≡ lines_of g xs x
+  open_lines more = ap (λ (b : Bool). cond b (durable_lines dues) [] ++ reply ∷ []) (sym (ap is_last is ∙ more)) ∙ lines_are
 
   pub answer_failed : Puts (reply_line reply) Failed h0 h1 → s1 ≡ s0 → Stands (durables g (moments xs)) → Says (lines_of g xs x) (Some WriteFault) h0 h1 s0 s1 × HasTold (Some WriteFault) Stands (durables g (moments (x ∷ xs)))
   answer_failed p same stands =
-      (subst (λ (rs : List Reply). Says rs (Some WriteFault) h0 h1 s0 s1) lines_are (says_failed [] reply h0 h0 h1 s0 s0 s1 (says_none h0 s0 law) fits (durable_lines dues) p same), (durables g (moments xs), stands))
+      (subst (λ (rs : List Reply). Says rs (Some WriteFault) h0 h1 s0 s1) lines_are (says_failed [] reply h0 h0 h1 s0 s0 s1 (says_none h0 s0 law) fits (due_lines g xs x) p same), (durables g (moments xs), stands))
 
-  pub answer_put : (stop : Option Stop) (h2 : Held) (s2 : Story) → Puts (reply_line reply) Done h0 h1 → Noted s0 s1 → Says (durable_lines dues) stop h1 h2 s1 s2 → HasTold stop Stands (dues ++ durables g (moments xs))
+  -- a further answer follows
+  pub answer_open : is_last a ≡ false → Puts (reply_line reply) Done h0 h1 → Noted s0 s1 → Stands (durables g (moments xs)) → Says (lines_of g xs x) None h0 h1 s0 s1 × HasTold None Stands (durables g (moments (x ∷ xs)))
+  answer_open more p noted stands = (
+    subst (λ (rs : List Reply). Says rs None h0 h1 s0 s1) (open_lines more) (says_more [] reply h0 h0 h1 s0 s0 s1 (says_none h0 s0 law) fits p noted),
+    subst Stands (durables_same g xs x (ap is_last is ∙ more)) stands,
+  )
+
+  -- it is the last
+
+  pub answer_put : is_last a ≡ true → (stop : Option Stop) (h2 : Held) (s2 : Story) → Puts (reply_line reply) Done h0 h1 → Noted s0 s1 → Says (durable_lines dues) stop h1 h2 s1 s2 → HasTold stop Stands (dues ++ durables g (moments xs))
       → Says (lines_of g xs x) stop h0 h2 s0 s2 × HasTold stop Stands (durables g (moments (x ∷ xs)))
-  answer_put stop h2 s2 p noted more told = (
-    subst (λ (rs : List Reply). Says rs stop h0 h2 s0 s2) lines_are (says_then (reply ∷ []) (durable_lines dues) stop h0 h1 h2 s0 s1 s2 (says_more [] reply h0 h0 h1 s0 s0 s1 (says_none h0 s0 law) fits p noted) more),
-    subst (HasTold stop Stands) (durables_more g xs x) told,
+  answer_put last stop h2 s2 p noted more told = (
+    subst (λ (rs : List Reply). Says rs stop h0 h2 s0 s2) (last_lines last) (says_then (reply ∷ []) (durable_lines dues) stop h0 h1 h2 s0 s1 s2 (says_more [] reply h0 h0 h1 s0 s0 s1 (says_none h0 s0 law) fits p noted) more),
+    subst (HasTold stop Stands) (durables_more g xs x (ap is_last is ∙ last)) told,
   )

@@ -20,7 +20,7 @@ use Rattle.core_calls.specs.Steps.{call_behind, is_structure}
 use Rattle.run_crashes.specs.Laws.{CommitsNone, OfEachFirst}
 use Rattle.engine_calls.proofs.MarkLemmas.{either_false}
 use Rattle.engine_trait.specs.Rooms.{MakesRoom, needs_sync}
-use Rattle.call_parts.specs.Rooms.{AreReady, HasDoneFor, IsRoomFor, gives_room, is_paging, makes_sync, puts_back, takes_row}
+use Rattle.call_parts.specs.Rooms.{AreReady, HasDoneFor, IsRoomFor, gives_room, is_paging, makes_sync, puts_back, takes_row, walks}
 use Rattle.script_run.specs.Runs.{Hand, StoppedIn}
 
 neither : (p q : Bool) → (p || q) ≡ false → (p ≡ false) × (q ≡ false)
@@ -78,6 +78,9 @@ for_room own row mode e = takes_row own row mode e || (gives_room own e || is_pa
 abbrev for_back : (own : ℕ) → Event → Bool
 for_back own e = puts_back own e || is_paging e
 
+abbrev for_walk : (own : ℕ) → Event → Bool
+for_walk own e = walks own e || is_paging e
+
 room_ends_none : (own row : ℕ) (mode : Mode) (e : Event) → for_room own row mode e ≡ true → ends e ≡ false
 room_ends_none own row Mode.Alone (Event.End w commit f) room = absurd (true≢false (sym room))
 room_ends_none own row Mode.Shared (Event.End w commit f) room = absurd (true≢false (sym room))
@@ -86,6 +89,10 @@ room_ends_none own row mode _ room = refl
 back_ends_none : (own : ℕ) (e : Event) → for_back own e ≡ true → ends e ≡ false
 back_ends_none own (Event.End w commit f) back = absurd (true≢false (sym back))
 back_ends_none own _ back = refl
+
+walk_ends_none : (own : ℕ) (e : Event) → for_walk own e ≡ true → ends e ≡ false
+walk_ends_none own (Event.End w commit f) walk = absurd (true≢false (sym walk))
+walk_ends_none own _ walk = refl
 
 sync_ends_none : (e : Event) → makes_sync e ≡ true → ends e ≡ false
 sync_ends_none (Event.End w commit f) sync = absurd (true≢false (sym sync))
@@ -99,6 +106,7 @@ ends_none : (g : Opening) (xs : List Done) (own : ℕ) (c : Call) (es : List Eve
 ends_none g xs own (call.Put key value) es room = each_none (for_room own (g.row_of key) Mode.Alone) ends (room_ends_none own (g.row_of key) Mode.Alone) es room.0
 ends_none g xs own (call.Get key) es room = each_none (for_room own (g.row_of key) Mode.Shared) ends (room_ends_none own (g.row_of key) Mode.Shared) es room.0
 ends_none g xs own (call.Del key) es room = each_none (for_room own (g.row_of key) Mode.Alone) ends (room_ends_none own (g.row_of key) Mode.Alone) es room.0
+ends_none g xs own (call.Scan from to) es walk = each_none (for_walk own) ends (walk_ends_none own) es walk.0
 ends_none g xs own call.Abort es backs = each_none (for_back own) ends (back_ends_none own) es backs
 ends_none g xs own c es ready = ready_end_none (needs_sync g xs own c) es ready
 
@@ -135,6 +143,7 @@ front_done : (g : Opening) (xs : List Done) (own : ℕ) (c : Call) (first rest :
 front_done g xs own (call.Put key value) first rest room = (front_of_all (for_room own (g.row_of key) Mode.Alone) first rest room.0, front_makes own g (state_after g (front xs)) key first rest room.1)
 front_done g xs own (call.Get key) first rest room = (front_of_all (for_room own (g.row_of key) Mode.Shared) first rest room.0, front_of_none is_structure first rest room.1)
 front_done g xs own (call.Del key) first rest room = (front_of_all (for_room own (g.row_of key) Mode.Alone) first rest room.0, front_of_none is_structure first rest room.1)
+front_done g xs own (call.Scan from to) first rest walk = (front_of_all (for_walk own) first rest walk.0, front_of_none is_structure first rest walk.1)
 front_done g xs own call.Abort first rest backs = front_of_all (for_back own) first rest backs
 front_done g xs own c first rest ready = front_ready (needs_sync g xs own c) first rest ready
 

@@ -1,5 +1,5 @@
 -- Which answers and which lines fit.
-use Rattle.std.proofs.Common.{◌≡◌, ◌<◌, ◌≤◌, ◌^◌, ℕ, true, false, Option, Some, None, refl, sym, ap, ◌∙◌, subst, arith, true≢false}
+use Rattle.std.proofs.Common.{◌≡◌, ◌<◌, ◌≤◌, ◌^◌, ℕ, suc, Bool, true, false, cond, Option, Some, None, refl, sym, ap, ◌∙◌, subst, arith, true≢false}
 use Rattle.map_model.specs.declared.call.Answer.{Answer}
 use Rattle.map_model.specs.declared.call.Answer.TheVariants as answer
 use Rattle.map_model.specs.declared.call.Call.{Call}
@@ -9,12 +9,14 @@ use Rattle.map_model.specs.declared.call.Refusal.TheVariants as refusal
 use Rattle.map_model.specs.Outputs.{Reply}
 use Rattle.map_model.specs.Pairings.{is_last}
 use Rattle.core_calls.specs.Deeds.{Deed, Outcome, Begun, Got, Changed, Deleted, Absent, Met, Paused, Over, Committed, Aborted, Refused, Synced, Checkpointed, answered, asked}
-use Rattle.core_calls.specs.Steps.{IsAbortOf, IsBehind, hindered_in}
+use Rattle.core_calls.specs.Steps.{IsAbortOf, IsBehind, hindered_in, is_conflict}
 use Rattle.engine_trait.specs.Calls.{IsAsked}
-use Rattle.engine_front.specs.Turns.{is_conflict_in}
+use Rattle.engine_front.specs.Turns.{behind_answer, behind_durables, behind_last, is_conflict_in}
+use Rattle.engine_front.specs.declared.calls.Next.TheVariants.{Abort, Line, Scan}
 use Rattle.script_lang.specs.Replies.{AnswerFits, Fits, SessionFits, reply_text}
 use Rattle.script_lang.specs.Text.{IsLine}
 use Rattle.transcripts.specs.Told.{LineFits}
+use Rattle.script_run.specs.Inside.{is_pair}
 
 -- a session's answer is one line, and the line of a sync names none
 pub reply_is_line : ((r : Reply) → Fits r → IsLine (reply_text r)) → (s : ℕ) (a : Answer) → s < 2 ^ 32 → AnswerFits a → IsLine (reply_text (Reply.Answered s a))
@@ -22,6 +24,9 @@ reply_is_line each s (answer.Synced at) few fits = each (Reply.Answered 0 (answe
 reply_is_line each s (answer.Begun n) few fits = each (Reply.Answered s (answer.Begun n)) (few, fits)
 reply_is_line each s (answer.Value v) few fits = each (Reply.Answered s (answer.Value v)) (few, fits)
 reply_is_line each s (answer.Was v) few fits = each (Reply.Answered s (answer.Was v)) (few, fits)
+reply_is_line each s (answer.Pair k v) few fits = each (Reply.Answered s (answer.Pair k v)) (few, fits)
+reply_is_line each s (answer.More k) few fits = each (Reply.Answered s (answer.More k)) (few, fits)
+reply_is_line each s answer.End few fits = each (Reply.Answered s answer.End) (few, fits)
 reply_is_line each s (answer.Committed n at) few fits = each (Reply.Answered s (answer.Committed n at)) (few, fits)
 reply_is_line each s (answer.Aborted n) few fits = each (Reply.Answered s (answer.Aborted n)) (few, fits)
 reply_is_line each s (answer.Refused why) few fits = each (Reply.Answered s (answer.Refused why)) (few, fits)
@@ -33,6 +38,7 @@ asked_of sessions s call.Begin fits = (fits.session.0, fits.session.1, tt)
 asked_of sessions s (call.Get key) fits = (fits.session.0, fits.session.1, fits.fits)
 asked_of sessions s (call.Put key value) fits = (fits.session.0, fits.session.1, fits.fits)
 asked_of sessions s (call.Del key) fits = (fits.session.0, fits.session.1, fits.fits)
+asked_of sessions s (call.Scan from to) fits = (fits.session.0, fits.session.1, fits.fits)
 asked_of sessions s call.Commit fits = (fits.session.0, fits.session.1, tt)
 asked_of sessions s call.Abort fits = (fits.session.0, fits.session.1, tt)
 asked_of sessions s call.Sync fits = fits.session
@@ -75,6 +81,11 @@ session_fits s (answer.Checkpointed at) few none = few
 pub answer_fits : (sessions s : ℕ) (c : Call) (a : Answer) (d : Deed) → IsAsked sessions s c → asked d ≡ c → answered d ≡ a → s < 2 ^ 32 → AnswerFits a → Fits (Reply.Answered s a)
 answer_fits sessions s c a d may asks answers few fits =
     (session_fits s a few (λ at is. subst (IsAsked sessions s) (sym asks ∙ synced_asked d at (answers ∙ is)) may), fits)
+
+-- a step of a scan
+pub scan_fits : (s from to : ℕ) (a : Answer) (d : Deed) → asked d ≡ call.Scan from to → answered d ≡ a → s < 2 ^ 32 → AnswerFits a → Fits (Reply.Answered s a)
+scan_fits s from to a d asks answers few fits =
+    (session_fits s a few (λ at is. let clash : call.Scan from to ≡ call.Sync = sym asks ∙ synced_asked d at (answers ∙ is) in cc), fits)
 
 -- an abort is answered so, or it is refused
 pub abort_fits : (s : ℕ) (c : Call) (a : Answer) (d : Deed) → IsAbortOf c d → answered d ≡ a → s < 2 ^ 32 → AnswerFits a → Fits (Reply.Answered s a)
@@ -126,3 +137,64 @@ hindered_open (Refused e why backs) c is = go why is
     go (refusal.Conflict h) is = refl
     go _ is = let never : None ≡ Some c = is in cc
 hindered_open _ c is = let never : None ≡ Some c = is in cc
+
+-- ## What comes behind an answer
+
+-- behind a pair the next step of its scan
+pub behind_pair : (a : Answer) → is_pair a ≡ true → behind_durables (behind_answer a) ≡ Scan
+behind_pair (answer.Pair k v) is = refl
+behind_pair _ is = absurd (true≢false (sym is))
+
+pub pair_open : (a : Answer) → is_pair a ≡ true → is_last a ≡ false
+pair_open (answer.Pair k v) is = refl
+pair_open _ is = absurd (true≢false (sym is))
+
+-- behind a conflict the abort
+pub behind_conflict : (a : Answer) → is_conflict_in a ≡ true → behind_durables (behind_answer a) ≡ Abort
+behind_conflict (answer.Pair k v) is = absurd (true≢false (sym is))
+behind_conflict _ is = ap (λ (b : Bool). behind_durables (behind_last b)) is
+
+-- behind any other a new line, since it is the last to its own
+module _ (a : Answer) (no_pair : is_pair a ≡ false) (no_conflict : is_conflict_in a ≡ false) where
+  pub behind_end : behind_durables (behind_answer a) ≡ Line
+  behind_end = go a no_pair no_conflict
+    where
+      go : (a : Answer) → is_pair a ≡ false → is_conflict_in a ≡ false → behind_durables (behind_answer a) ≡ Line
+      go (answer.Pair k v) is none = absurd (true≢false is)
+      go _ is none = ap (λ (b : Bool). behind_durables (behind_last b)) none
+
+  pub end_last : is_last a ≡ true
+  end_last = go a no_pair no_conflict
+    where
+      refused : (why : Refusal) → is_conflict why ≡ false → is_last (answer.Refused why) ≡ true
+      refused (refusal.Conflict h) none = absurd (true≢false none)
+      refused _ none = refl
+
+      go : (a : Answer) → is_pair a ≡ false → is_conflict_in a ≡ false → is_last a ≡ true
+      go (answer.Pair k v) is none = absurd (true≢false is)
+      go (answer.Refused why) is none = refused why none
+      go _ is none = refl
+
+-- behind one that is not the last there is no durable line, and behind the last there are
+pub open_behind : (a : Answer) → is_last a ≡ false → behind_durables (behind_answer a) ≡ behind_answer a
+open_behind (answer.Pair k v) more = refl
+open_behind (answer.Refused why) more = go why more
+  where
+    go : (why : Refusal) → is_last (answer.Refused why) ≡ false → behind_durables (behind_answer (answer.Refused why)) ≡ behind_answer (answer.Refused why)
+    go (refusal.Conflict h) more = refl
+    go _ more = absurd (true≢false more)
+open_behind _ more = absurd (true≢false more)
+
+pub last_behind : (a : Answer) → is_last a ≡ true → behind_durables (behind_answer a) ≡ Line
+last_behind (answer.Pair k v) last = absurd (true≢false (sym last))
+last_behind (answer.Refused why) last = go why last
+  where
+    go : (why : Refusal) → is_last (answer.Refused why) ≡ true → behind_durables (behind_answer (answer.Refused why)) ≡ Line
+    go (refusal.Conflict h) last = absurd (true≢false (sym last))
+    go _ last = refl
+last_behind _ last = refl
+
+-- a step of a scan that is behind a pair comes closer to its end
+pub fewer_pairs : (b : Bool) (new old : ℕ) → (b ≡ true → new < old) → cond b (suc new) 0 < suc old
+fewer_pairs true new old fewer = let less : new < old = fewer refl in omega arith
+fewer_pairs false new old fewer = omega arith

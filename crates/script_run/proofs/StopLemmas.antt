@@ -15,7 +15,7 @@ use Rattle.transcripts.specs.Told.{ask, asked_text}
 use Rattle.transcripts.proofs.AskedLemmas.{asked_append}
 use Rattle.transcripts.proofs.TranscriptLemmas.{script_append}
 use Rattle.script_run.specs.Runs.{EngineStands, Hand, InHand, IsRefusedLine, ReadsTo, PrintsTo, IsWhole, works_behind, works_on}
-use Rattle.script_run.specs.Runs.InHand.{OfLine, OfAbort}
+use Rattle.script_run.specs.Runs.InHand.{OfLine, OfAbort, OfScan}
 use Rattle.script_run.specs.Inside.{EngineGoes, HasTold, IsOfEngine, IsOfPutting, IsOfReading, IsOfRunning, MayRun, StopsFor}
 use Rattle.engine_front.specs.Stops.{StopsBy}
 use Rattle.engine_front.specs.declared.calls.Unanswered.{Unanswered}
@@ -30,6 +30,8 @@ hand_more : (sessions : ℕ) (newer more : List Done) (hand : Hand) (start now :
 hand_more sessions newer more hand start now r seen other bytes (OfLine fits is) = OfLine fits (subst (λ (t : List ℕ). Reading start now r (t ++ (ask hand.session hand.call ++ 10 ∷ []))) bytes is)
 hand_more sessions newer more hand start now r seen other bytes (OfAbort y earlier are session hindered is) =
     OfAbort y (earlier ++ more) (ap (λ (xs : List Done). xs ++ more) are) session hindered (subst (λ (t : List ℕ). Reading start now r t) bytes is)
+hand_more sessions newer more hand start now r seen other bytes (OfScan y earlier are session asks unfinished none is) =
+    OfScan y (earlier ++ more) (ap (λ (xs : List Done). xs ++ more) are) session asks unfinished none (subst (λ (t : List ℕ). Reading start now r t) bytes is)
 
 -- the same, at an equal number, behind more calls and equal bytes
 pub reads_more : (stop : Option Stop) (sessions : ℕ) (newer more : List Done) (hand : Hand) (m n : ℕ) (start now : Feed) (r : Unread) (seen other : List ℕ) → m ≡ n → seen ≡ other
@@ -108,6 +110,9 @@ putting_runs (Some stop) of = subst IsOfRunning (sym of) tt
 pub putting_no_disk : (stop : Option Stop) → IsOfPutting stop → stop ≡ Some DiskFault → ⊥
 putting_no_disk None of e = let is : None ≡ Some DiskFault = e in cc
 putting_no_disk (Some stop) of e = let is : stop ≡ WriteFault = of in let same : Some stop ≡ Some DiskFault = e in cc
+
+pub putting_no_err : {A : Type 0} → (stop : Stop) → stop ≡ WriteFault → ◌≡◌ {A = Result A Stop} (Err stop) (Err DiskFault) → ⊥
+putting_no_err stop of e = let is : stop ≡ WriteFault = of in let same : stop ≡ DiskFault = cc in let clash : WriteFault ≡ DiskFault = sym is ∙ same in cc
 
 pub putting_no_read : (stop : Option Stop) → IsOfPutting stop → stop ≡ Some ReadFault → ⊥
 putting_no_read None of e = let is : None ≡ Some ReadFault = e in cc

@@ -6,7 +6,8 @@ use Rattle.lean_edge.specs.Outside.{Feed, Held}
 use Rattle.script_lang.specs.Reading.{Unread, Reading}
 use Rattle.map_model.specs.Outputs.{Reply}
 use Rattle.map_model.specs.declared.call.Answered.{Answered}
-use Rattle.map_model.specs.Pairings.{is_open_line, script_of}
+use Rattle.map_model.specs.Pairings.{is_last, is_open_line, script_of}
+use Rattle.core_calls.specs.Deeds.{answered}
 use Rattle.core_calls.specs.Fronts.{Done}
 use Rattle.script_lang.specs.Replies.{reply_line, reply_text}
 use Rattle.script_lang.specs.Text.{script_lines}
@@ -16,7 +17,7 @@ use Rattle.transcripts.specs.Laws.{NextLaws}
 use Rattle.transcripts.proofs.AskedLemmas.{reading}
 use Rattle.transcripts.proofs.NextLemmas.{next_laws, part}
 use Rattle.script_run.specs.Runs.{Hand, Holds, InHand, IsRefusedLine, ReadsTo, PrintsTo, IsCutOff, calls_of}
-use Rattle.script_run.specs.Runs.InHand.{OfLine, OfAbort}
+use Rattle.script_run.specs.Runs.InHand.{OfLine, OfAbort, OfScan}
 use Rattle.script_run.specs.Runs.IsRefusedLine.{NoLine, TooLong, TooMany}
 use Rattle.script_run.specs.Texts.{IsTailOf, IsUnanswered, IsUnanswered as unanswered, LinesRead, ScriptText, Stopped}
 use Rattle.script_run.specs.declared.stop.Stop.{Stop}
@@ -41,19 +42,24 @@ module _ (sessions : ℕ) (few : sessions < 2 ^ 32) (start feed : Feed) (reader 
   others_left : Reading start feed reader (asked_text (script_of xs)) → script_lines start.left ≡ asked_lines (script_of xs) ++ script_lines (reader.bytes ++ feed.left)
   others_left r = reading sessions start feed reader (script_of xs) few fit r tells
 
-  -- the line of a call that met a conflict waits for one more answer
+  -- the line of an answer that is not its last waits for one more
   open_line : (y : Done) (earlier : List Done) → newer ≡ y ∷ earlier → is_open_line (calls_of (y ∷ earlier)) ≡ true → is_open_line xs ≡ true
   open_line y earlier are is = ap (λ (ds : List Done). is_open_line (calls_of ds)) are ∙ is
+
+  further : (stop : Stop) → ((others : List (List ℕ)) → IsUnanswered sessions xs others → Stopped stop sessions xs (length (script_of xs)) others) → (y : Done) (earlier : List Done) → newer ≡ y ∷ earlier → is_last (answered y.outcome.deed) ≡ false
+      → Reading start feed reader (asked_text (script_of xs)) → LinesRead stop sessions xs start.left
+  further stop is y earlier are more r = record {
+    others = script_lines (reader.bytes ++ feed.left);
+    lines = others_left r;
+    stopped = is (script_lines (reader.bytes ++ feed.left)) (unanswered.OfLast (open_line y earlier are (ap (λ b. cond b false true) more)));
+  }
 
   in_hand : (stop : Stop) → ((others : List (List ℕ)) → IsUnanswered sessions xs others → Stopped stop sessions xs (length (script_of xs)) others) → (hand : Hand) → InHand sessions newer hand start feed reader (asked_text (script_of xs)) → LinesRead stop sessions xs start.left
   in_hand stop is hand (OfLine fits r) =
       let n = laws.asks hand.session hand.call fits r in
       record { others = ask hand.session hand.call ∷ n.others; lines = n.begins; stopped = is (ask hand.session hand.call ∷ n.others) (unanswered.OfLine hand.session hand.call fits n.others refl) }
-  in_hand stop is hand (OfAbort y earlier are session hindered r) = record {
-    others = script_lines (reader.bytes ++ feed.left);
-    lines = others_left r;
-    stopped = is (script_lines (reader.bytes ++ feed.left)) (unanswered.OfAbort (open_line y earlier are (ap (λ b. cond b false true) (hindered_open y.outcome.deed hand.call hindered))));
-  }
+  in_hand stop is hand (OfAbort y earlier are session hindered r) = further stop is y earlier are (hindered_open y.outcome.deed hand.call hindered) r
+  in_hand stop is hand (OfScan y earlier are session asks more none r) = further stop is y earlier are more r
 
   lines_read : (stop : Stop) (hand : Hand) → ReadsTo (Some stop) sessions newer hand (suc (0 + length (script_of xs))) start feed reader (asked_text (script_of xs)) → LinesRead stop sessions xs start.left
   lines_read End hand r = record { others = []; lines = laws.ends r.0 r.1 ∙ sym (append-nil (asked_lines (script_of xs))); stopped = refl }

@@ -1,5 +1,7 @@
 -- What private functions say: what a line asks, and what was put of a call.
-use Rattle.std.specs.Prelude.{◌≡◌, ◌⊎◌, ◌<◌, ◌≤◌, ◌+◌, ◌^◌, ◌++◌, ℕ, true, false, List, [], ◌∷◌, length, Option, Some, None, Result, Ok, Err, IsTrue}
+use Rattle.std.specs.Prelude.{◌≡◌, ◌⊎◌, ◌<◌, ◌≤◌, ◌+◌, ◌^◌, ◌++◌, ℕ, Bool, true, false, List, [], ◌∷◌, length, Option, Some, None, Result, Ok, Err, IsTrue}
+use Rattle.map_model.specs.declared.call.Answer.{Answer}
+use Rattle.map_model.specs.declared.call.Answer.TheVariants as answer
 use Rattle.map_model.specs.Journals.{Name}
 use Rattle.map_model.specs.Outputs.{Reply}
 use Rattle.map_model.specs.Pairings.{is_last, is_open_line, script_of}
@@ -12,10 +14,11 @@ use Rattle.disk_slots.specs.declared.master.Master.{Master}
 use Rattle.disk_image.specs.Laws.{EveryAgreement, EverySealed}
 use Rattle.worker_log.specs.Laws.{EveryKept, EveryPrefix}
 use Rattle.core_calls.specs.Crashes.{EveryRunCrash}
-use Rattle.core_calls.specs.Deeds.{answered}
+use Rattle.core_calls.specs.Deeds.{answered, asked}
 use Rattle.core_calls.specs.Durables.{durables, moments}
 use Rattle.core_calls.specs.Fronts.{Done, front}
 use Rattle.core_calls.specs.Printed.{durable_lines, printed}
+use Rattle.core_calls.specs.Steps.{hindered_in}
 use Rattle.core_disk.specs.Shows.{EveryShown}
 use Rattle.disk_runs.specs.Masters.{IsOfRunBy}
 use Rattle.disk_runs.specs.Stands.{Known}
@@ -171,20 +174,52 @@ abbrev pub EngineGoes : Option Stop → (List Name → Type 0) → Opening → L
 EngineGoes None Stands g calls = Stands (durables g (moments calls))
 EngineGoes (Some stop) Stands g calls = EngineStands stop Stands g calls
 
--- none, or one that is the last answer to its line
-abbrev pub IsLastOne : List Done → Type 0
-IsLastOne [] = Unit {0}
-IsLastOne (x ∷ []) = is_last (answered x.outcome.deed) ≡ true
-IsLastOne (x ∷ y ∷ earlier) = ⊥
+-- ## The further answers to a line
 
--- The abort that was due was answered, or the engine works no longer.
-pub record AbortRuns (Stands : List Done → List Name → Type 0) (stop : Option Stop) (hand : Hand) (group : ℕ) (g : Opening) (xs : List Done) (m0 m1 : Memory) (held0 held1 : Held) (old new : Story) : Type 0 where
+-- a pair of a scan
+abbrev pub is_pair : Answer → Bool
+is_pair (answer.Pair key value) = true
+is_pair _ = false
+
+-- the newest of these is of this session, and has this answer
+abbrev pub IsNewest : (session : ℕ) → Answer → List Done → Type 0
+IsNewest session a [] = ⊥
+IsNewest session a (y ∷ earlier) = (y.outcome.session ≡ session) × (answered y.outcome.deed ≡ a)
+
+-- This is due to an outcome: the abort of its transaction, if it met a conflict, or the next step of its scan, if it is a pair.
+pub data IsDueTo (y : Done) (hand : Hand) : Type 0 where
+  Abort : y.outcome.session ≡ hand.session → hindered_in y.outcome.deed ≡ Some hand.call → IsDueTo y hand
+  Step : y.outcome.session ≡ hand.session → asked y.outcome.deed ≡ hand.call → is_last (answered y.outcome.deed) ≡ false → hindered_in y.outcome.deed ≡ None → IsDueTo y hand
+
+-- and to the newest of these
+abbrev pub IsDueBehind : List Done → Hand → Type 0
+IsDueBehind [] hand = ⊥
+IsDueBehind (y ∷ earlier) hand = IsDueTo y hand
+
+-- each of the newer outcomes goes on with the line of the one before
+abbrev pub GoOn : (newer xs : List Done) → Type 0
+GoOn [] xs = Unit {0}
+GoOn (x ∷ newer) xs = GoOn newer xs × (is_open_line (calls_of (newer ++ xs)) ≡ true)
+
+-- Further answers to the line of the newest of these outcomes, which were put; or it stopped there.
+pub record AnswersRun (Stands : List Done → List Name → Type 0) (stop : Option Stop) (group : ℕ) (g : Opening) (xs : List Done) (m0 m1 : Memory) (held0 held1 : Held) (old new : Story) : Type 0 where
   pub newer : List Done
-  pub last : IsLastOne newer
-  pub some : works_behind stop ≡ true → newer ≡ [] → ⊥
-  pub none : works_behind stop ≡ false → newer ≡ []
+  pub go_on : GoOn newer xs
+  -- the call that was not answered, if one was not
+  pub hand : Hand
+  pub due : works_behind stop ≡ false → IsDueBehind (newer ++ xs) hand
   pub calls : CallsRun newer stop hand group g xs m0 m1 held0 held1 old new
   pub stands : EngineGoes stop (Stands (newer ++ xs)) g (newer ++ xs)
+
+-- they were put up to this one
+pub record AnsweredTo (Stands : List Done → List Name → Type 0) (session : ℕ) (a : Answer) (group : ℕ) (g : Opening) (xs : List Done) (m0 m1 : Memory) (held0 held1 : Held) (old new : Story) : Type 0 where
+  pub run : AnswersRun Stands None group g xs m0 m1 held0 held1 old new
+  pub newest : IsNewest session a (run.newer ++ xs)
+
+-- all of them were put; or it stopped there
+pub record LineRuns (Stands : List Done → List Name → Type 0) (stop : Option Stop) (group : ℕ) (g : Opening) (xs : List Done) (m0 m1 : Memory) (held0 held1 : Held) (old new : Story) : Type 0 where
+  pub run : AnswersRun Stands stop group g xs m0 m1 held0 held1 old new
+  pub closed : stop ≡ None → is_open_line (calls_of (run.newer ++ xs)) ≡ false
 
 -- A run of lines, which are so many where it goes on.
 pub record Stepped (Stands : List Done → List Name → Type 0) (count : ℕ) (stop : Option Stop) (sessions group : ℕ) (g : Opening) (xs : List Done) (before : ℕ) (start : Feed) (seen : List ℕ) (m0 m1 : Memory) (reader : Unread) (feed : Feed) (held0 held1 : Held) (old new : Story) : Type 0 where

@@ -4,7 +4,7 @@ use Rattle.map_model.specs.declared.call.Call.{Call}
 use Rattle.map_model.specs.declared.call.Answered.{Answered}
 use Rattle.map_model.specs.Journals.{Name}
 use Rattle.map_model.specs.Outputs.{Reply}
-use Rattle.map_model.specs.Pairings.{script_of}
+use Rattle.map_model.specs.Pairings.{is_last, script_of}
 use Rattle.core_state.specs.Events.{Event}
 use Rattle.core_state.specs.Openings.{Opening}
 use Rattle.lean_edge.specs.Outside.{Feed, Held}
@@ -12,7 +12,7 @@ use Rattle.lean_disk.specs.Area.{Leaves}
 use Rattle.lean_disk.specs.Moments.{LeavesOnly}
 use Rattle.lean_disk.specs.Story.{Crash, Story, Tells}
 use Rattle.disk_slots.specs.declared.master.Master.{Master}
-use Rattle.core_calls.specs.Deeds.{asked, in_words}
+use Rattle.core_calls.specs.Deeds.{answered, asked, in_words}
 use Rattle.core_calls.specs.Durables.{durables, moments}
 use Rattle.core_calls.specs.Fronts.{Done, front, outcomes}
 use Rattle.core_calls.specs.Printed.{printed}
@@ -26,7 +26,7 @@ use Rattle.core_calls.specs.Steps.{call_behind, hindered_in}
 use Rattle.engine_trait.specs.Limits.{limits}
 use Rattle.call_parts.specs.Deeds.{Happens}
 use Rattle.call_parts.specs.Memory.{IsOf, Memory}
-use Rattle.call_parts.specs.Rooms.{IsRoomFor}
+use Rattle.call_parts.specs.Rooms.{IsRoomFor, most_of}
 use Rattle.script_lang.specs.Lines.{Spells, line_of}
 use Rattle.script_lang.specs.Reading.{Unread, Reading, LineIs, LineIsLong, AtEnd}
 use Rattle.script_lang.specs.Replies.{Fits, reply_line}
@@ -42,7 +42,7 @@ abbrev pub calls_of : List Done → List Answered
 calls_of xs = map in_words (outcomes xs)
 
 -- Behind the outcomes xs calls were answered one by one, the newest first: each outcome is told by its events, a refusal has its cause and comes where it
--- has, the logs have the records of its events, and behind a conflict comes the abort of its transaction.
+-- has, the logs have the records of its events, behind a conflict comes the abort of its transaction, and behind a pair of a scan what follows it.
 abbrev pub Executes : Opening → (group : ℕ) → List Done → Memory → List Done → Memory → Type 0
 Executes g group xs m0 [] m = m ≡ m0
 Executes g group xs m0 (x ∷ earlier) m = (before : Memory) × Executes g group xs m0 earlier before × Happens g group (earlier ++ xs) x before m
@@ -65,11 +65,13 @@ pub record Hand : Type 0 where
   pub session : ℕ
   pub call : Call
 
--- The call that was not answered is what the line asks that was read last, behind those of these outcomes; or the abort that is due behind the newest of them,
--- which met a conflict.
+-- The call that was not answered is what the line asks that was read last, behind those of these outcomes; or it is due behind the newest of them: the abort of one
+-- that met a conflict, or the next step of a scan whose pair was told.
 pub data InHand (sessions : ℕ) (newer : List Done) (hand : Hand) (start now : Feed) (reader : Unread) (seen : List ℕ) : Type 0 where
   OfLine : LineFits sessions hand.session hand.call → Reading start now reader (seen ++ (ask hand.session hand.call ++ 10 ∷ [])) → InHand sessions newer hand start now reader seen
   OfAbort : (y : Done) → (earlier : List Done) → newer ≡ y ∷ earlier → y.outcome.session ≡ hand.session → hindered_in y.outcome.deed ≡ Some hand.call → Reading start now reader seen → InHand sessions newer hand start now reader seen
+  OfScan : (y : Done) → (earlier : List Done) → newer ≡ y ∷ earlier → y.outcome.session ≡ hand.session → asked y.outcome.deed ≡ hand.call → is_last (answered y.outcome.deed) ≡ false → hindered_in y.outcome.deed ≡ None
+      → Reading start now reader seen → InHand sessions newer hand start now reader seen
 
 -- Where the reader stands when it stops, or goes on, before the line of this number: behind what asks the calls that were answered.
 abbrev pub ReadsTo : Option Stop → (sessions : ℕ) → (newer : List Done) → Hand → (number : ℕ) → Feed → Feed → Unread → List ℕ → Type 0
@@ -161,11 +163,11 @@ abbrev pub StoppedIn : Opening → List Done → Hand → List Done → List Eve
 StoppedIn g calls hand heard es = (heard ≡ calls) × IsRoomFor g heard hand.session (call_behind (outcomes heard) hand.call) es
 
 -- One more was asked and not answered: a crash leaves what the lines say, behind the calls that were answered, or in this one. There it fell behind
--- some of the events by which it moved pages, made room for its key, put changes back or flushed logs for a sync, or behind the first events of one that
--- would be answered so.
+-- some of the events by which it moved pages, made room for its key, went on with a walk, put changes back or flushed logs for a sync, or behind the first events of
+-- one that would be answered so.
 pub data CallMissing (g : Opening) (group : ℕ) (calls : List Done) (hand : Hand) (s0 : Crash) (m : Master) (from now : Story) : Type 0 where
   Nothing : LeavesOnly from now (RunLeft g (StoppedIn g calls hand) calls s0 m) → CallMissing g group calls hand s0 m from now
-  Part : (x : Done) → asked x.outcome.deed ≡ hand.call → x.outcome.session ≡ hand.session → told.Tells limits g group calls x → length x.events ≤ 2 ^ 18 → LeavesOnly from now (RunLeft g NoneStopped (x ∷ calls) s0 m) → CallMissing g group calls hand s0 m from now
+  Part : (x : Done) → asked x.outcome.deed ≡ hand.call → x.outcome.session ≡ hand.session → told.Tells limits g group calls x → length x.events ≤ most_of hand.call → LeavesOnly from now (RunLeft g NoneStopped (x ∷ calls) s0 m) → CallMissing g group calls hand s0 m from now
 
 -- By why the script stopped there, or goes on. On a disk that stood for the run no page is damaged.
 abbrev pub DiskTo : (stop : Option Stop) → Hand → Opening → (group : ℕ) → List Done → (last : List Event) → Crash → Master → Known → (from now : Story) → Memory → Type 0

@@ -21,10 +21,10 @@ pub record IsRefusedNext (sessions number : ℕ) (others : List (List ℕ)) : Ty
   pub is : others ≡ next ∷ rest
   pub cause : (line_of sessions next ≡ None) ⊎ (number ≡ 2 ^ 40)
 
--- The call that was not answered: the next line asks it, or it is the abort of the last one, which met a conflict.
+-- The call that was not answered: the next line asks it, or it is due to the last one, which waits for a further answer.
 pub data IsUnanswered (sessions : ℕ) (answered : List Answered) (others : List (List ℕ)) : Type 0 where
   OfLine : (session : ℕ) → (call : Call) → LineFits sessions session call → (rest : List (List ℕ)) → others ≡ ask session call ∷ rest → IsUnanswered sessions answered others
-  OfAbort : is_open_line answered ≡ true → IsUnanswered sessions answered others
+  OfLast : is_open_line answered ≡ true → IsUnanswered sessions answered others
 
 -- why it stopped, by the lines behind those that ask so many calls
 abbrev pub Stopped : Stop → (sessions : ℕ) → (answered : List Answered) → ℕ → List (List ℕ) → Type 0

@@ -1,5 +1,5 @@
 // What is printed of a call.
-ghost use Rattle.std.specs.Prelude.{◌≡◌, ◌<◌, ◌^◌, ◌∷◌, ◌++◌, List, None, Some, true};
+ghost use Rattle.std.specs.Prelude.{◌≡◌, ◌<◌, ◌^◌, ◌∷◌, ◌++◌, List, None, Some, true, false};
 ghost use Rattle.core_state.specs.Openings.{Opening};
 ghost use Rattle.core_state.specs.Steps.{state_after};
 ghost use Rattle.core_calls.specs.Deeds.{answered};
@@ -11,9 +11,10 @@ ghost use Rattle.lean_disk.specs.Faults.{HasCause};
 ghost use Rattle.lean_edge.specs.Outside.{Puts};
 ghost use Rattle.run_crashes.specs.Lines.{lines_of};
 ghost use Rattle.engine_trait.specs.Calls.{HasCome};
-ghost use Rattle.engine_front.specs.Turns.{behind_durables};
+ghost use Rattle.engine_front.specs.Turns.{behind_answer, behind_durables};
 ghost use Rattle.map_model.specs.Journals.{Name};
 ghost use Rattle.map_model.specs.Outputs.{Reply};
+ghost use Rattle.map_model.specs.Pairings.{is_last};
 ghost use Rattle.script_lang.specs.Replies.{AnswerFits, Fits, reply_line};
 ghost use Rattle.script_run.specs.Inside.{HasTold, IsOfPutting, Says};
 
@@ -24,7 +25,7 @@ use lean_edge::{Put, Sink};
 use map_model::{Answer, Refusal};
 use script_lang::{REPLY, durable_bytes, replies_are_read_back, reply_bytes};
 
-/// Puts an answer, and behind it that commits are durable, as long as the engine tells of one. An answer is why the script stops there.
+/// Puts an answer, and behind the last one to a line that commits are durable, as long as the engine tells of one. The result is why the script stops there.
 pub(crate) fn put_answer<K: Sink<D>, D: Disk, E: Calls<D>>(
     engine: &mut E,
     sink: &mut K,
@@ -34,10 +35,12 @@ pub(crate) fn put_answer<K: Sink<D>, D: Disk, E: Calls<D>>(
 ) -> Option<Stop>
     requires fits { AnswerFits answer.now }
     requires works { E.works engine.old ≡ true }
+    requires next { E.next engine.old ≡ behind_answer answer.now }
     ensures says { (g : Opening) (xs : List Done) (x : Done) → E.in_run engine.old g (x ∷ xs) (durables g (moments xs)) → x.outcome.session ≡ session → answered x.outcome.deed ≡ answer.now → Fits (Reply.Answered session answer.now)
         → Says (lines_of g xs x) result (K.held sink.old) (K.held sink.new) (D.story (E.disk engine.old)) (D.story (E.disk engine.new)) × HasTold result (E.in_run engine.new g (x ∷ xs)) (durables g (moments (x ∷ xs))) }
     ensures stops { IsOfPutting result }
     ensures next { result ≡ None → E.next engine.new ≡ behind_durables (E.next engine.old) }
+    ensures pairs { is_last answer.now ≡ false → E.pairs_left engine.new ≡ E.pairs_left engine.old }
     ensures same { (E.memory engine.new ≡ E.memory engine.old) × (E.works engine.new ≡ E.works engine.old) × (D.faults (E.disk engine.new) ≡ D.faults (E.disk engine.old)) }
     ensures sizes { (E.sessions engine.new ≡ E.sessions engine.old) × (E.group engine.new ≡ E.group engine.old) }
 
@@ -47,7 +50,21 @@ pub(crate) fn put_answer<K: Sink<D>, D: Disk, E: Calls<D>>(
     let Put::Done = put_reply(engine, sink, buffer, session, answer) else {
         return Some(Stop::WriteFault);
     };
+    if !is_last(answer) {
+        return None;
+    }
     put_durables(engine, sink, buffer)
+}
+
+// Whether no further answer belongs to the same line.
+fn is_last(answer: &Answer) -> bool
+    ensures { result ≡ is_last answer.now }
+{
+    match *answer {
+        Answer::Pair { .. } => false,
+        Answer::Refused(Refusal::Conflict { .. }) => false,
+        _ => true,
+    }
 }
 
 // Puts a line for each commit that has become durable.
@@ -91,7 +108,7 @@ fn put_reply<K: Sink<D>, D: Disk, E: Calls<D>>(
     ensures noted { result ≡ Put.Done → Noted (D.story (E.disk engine.old)) (D.story (E.disk engine.new)) }
     ensures not_noted { result ≡ Put.Failed → engine.new ≡ engine.old }
     ensures same { (E.memory engine.new ≡ E.memory engine.old) × (E.works engine.new ≡ E.works engine.old) × (D.faults (E.disk engine.new) ≡ D.faults (E.disk engine.old)) × (E.next engine.new ≡ E.next engine.old) }
-    ensures sizes { (E.sessions engine.new ≡ E.sessions engine.old) × (E.group engine.new ≡ E.group engine.old) }
+    ensures sizes { (E.sessions engine.new ≡ E.sessions engine.old) × (E.group engine.new ≡ E.group engine.old) × (E.pairs_left engine.new ≡ E.pairs_left engine.old) }
     ensures in_run { (g : Opening) (xs : List Done) (names : List Name) → E.in_run engine.old g xs names → E.in_run engine.new g xs names }
 
     ensures cause { HasCause (K.faults sink.old) (K.faults sink.new) (result ≡ Put.Failed) }
@@ -133,6 +150,8 @@ pub(crate) fn has_line(answer: &Answer)
         Answer::Begun { number } => fit(number, 0),
         Answer::Value(Some(value)) => fit(value, 0),
         Answer::Was(Some(value)) => fit(value, 0),
+        Answer::Pair { key, value } => fit(key, value),
+        Answer::More { from } => fit(from, 0),
         Answer::Committed { number, at } => fit(number, at),
         Answer::Aborted { number } => fit(number, 0),
         Answer::Synced { at } => fit(at, 0),

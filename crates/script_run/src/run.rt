@@ -1,6 +1,7 @@
 // Line by line: read, asked, printed.
 ghost use Rattle.std.specs.Prelude.{◌≡◌, ◌↔◌, ◌≤◌, ◌+◌, ◌^◌, ◌++◌, ◌∷◌, ◌<◌, ◌-◌, ℕ, true, false, List, Some, None, Err, IfOk, IfErr, IsErr};
 ghost use Rattle.core_state.specs.Openings.{Opening};
+ghost use Rattle.core_calls.specs.Deeds.{asked};
 ghost use Rattle.core_calls.specs.Durables.{durables, moments};
 ghost use Rattle.core_calls.specs.Fronts.{Done};
 ghost use Rattle.core_calls.specs.Steps.{hindered_in};
@@ -9,7 +10,7 @@ ghost use Rattle.lean_edge.specs.Outside.{Feed};
 ghost use Rattle.engine_trait.specs.Calls.{IsAsked};
 ghost use Rattle.call_parts.specs.Deeds.{Does, Fails};
 ghost use Rattle.engine_front.specs.Stops.{StandsNot};
-ghost use Rattle.engine_front.specs.Turns.{behind_answer, is_conflict_in};
+ghost use Rattle.engine_front.specs.Turns.{behind_answer, behind_durables, is_conflict_in};
 ghost use Rattle.engine_front.specs.declared.calls.Next.{Next};
 ghost use Rattle.map_model.specs.Journals.{Name};
 ghost use Rattle.map_model.specs.Pairings.{is_last};
@@ -17,7 +18,7 @@ ghost use Rattle.map_model.specs.declared.call.Call.{Call as Asked};
 ghost use Rattle.script_lang.specs.Reading.{Reading};
 ghost use Rattle.script_lang.specs.Replies.{AnswerFits};
 ghost use Rattle.script_run.specs.Runs.{EngineStands, ScriptRuns, works_behind, works_on};
-ghost use Rattle.script_run.specs.Inside.{AbortRuns, IsOfEngine, Laws, MayRun, Stepped, StopsFor};
+ghost use Rattle.script_run.specs.Inside.{AnsweredTo, AnswersRun, IsNewest, IsOfEngine, IsOfRunning, Laws, LineRuns, MayRun, Stepped, StopsFor, is_pair};
 
 use crate::lines::{LINES, next_call};
 use crate::replies::{has_line, put_answer};
@@ -121,14 +122,118 @@ fn take_step<S: Source, K: Sink<D>, D: Disk, E: Calls<D>>(
         Ok(answer) => answer,
         Err(stop) => return Some(stop),
     };
-    engine.told();
     if let Some(stop) = put_answer(engine, sink, buffer, line.session, &answer) {
         return Some(stop);
     }
-    if !met_conflict(&answer) {
+    finish_line(engine, sink, buffer, line.session, answer)
+}
+
+// What a line is answered further, behind an answer that was put: what follows the pairs of a scan, and the abort of a call that met a conflict.
+fn finish_line<K: Sink<D>, D: Disk, E: Calls<D>>(
+    engine: &mut E,
+    sink: &mut K,
+    buffer: &mut [u8; REPLY],
+    session: u32,
+    answer: Answer,
+) -> Option<Stop>
+    requires works { E.works engine.old ≡ true }
+    requires next { E.next engine.old ≡ behind_durables (behind_answer answer) }
+    ensures runs { (g : Opening) (y : Done) (earlier : List Done) → E.in_run engine.old g (y ∷ earlier) (durables g (moments (y ∷ earlier))) → IsNewest session answer (y ∷ earlier)
+        → LineRuns (E.in_run engine.new g) result (E.group engine.old) g (y ∷ earlier) (E.memory engine.old) (E.memory engine.new) (K.held sink.old) (K.held sink.new) (D.story (E.disk engine.old)) (D.story (E.disk engine.new)) }
+    ensures stops { MayRun result }
+    ensures works { E.works engine.new ≡ works_behind result }
+    ensures next { result ≡ None → E.next engine.new ≡ Next.Line }
+    ensures sizes { (E.sessions engine.new ≡ E.sessions engine.old) × (E.group engine.new ≡ E.group engine.old) }
+
+    ensures cause_write_fault { HasCause (K.faults sink.old) (K.faults sink.new) (result ≡ Some Stop.WriteFault) }
+    ensures cause_disk_fault { HasCause (D.faults (E.disk engine.old)) (D.faults (E.disk engine.new)) (result ≡ Some Stop.DiskFault) }
+{
+    laws();
+    engine.told();
+    let mut newest = answer;
+    'pairs: loop {
+        if !is_pair(&newest) {
+            return end_line(engine, sink, buffer, session, &newest);
+        }
+        newest = match scan_on(engine, sink, buffer, session) {
+            Ok(next) => next,
+            Err(stop) => return Some(stop),
+        };
+    }
+}
+
+// Whether it is a pair of a scan.
+fn is_pair(answer: &Answer) -> bool
+    ensures { result ≡ is_pair answer.now }
+{
+    match *answer {
+        Answer::Pair { .. } => true,
+        _ => false,
+    }
+}
+
+// One more step of a scan: what it is answered is put.
+fn scan_on<K: Sink<D>, D: Disk, E: Calls<D>>(
+    engine: &mut E,
+    sink: &mut K,
+    buffer: &mut [u8; REPLY],
+    session: u32,
+) -> Result<Answer, Stop>
+    requires works { E.works engine.old ≡ true }
+    requires next { E.next engine.old ≡ Next.Scan }
+    ensures runs { IfOk result (λ a. (g : Opening) (y : Done) (earlier : List Done) → E.in_run engine.old g (y ∷ earlier) (durables g (moments (y ∷ earlier))) → y.outcome.session ≡ session
+        → AnsweredTo (E.in_run engine.new g) session a (E.group engine.old) g (y ∷ earlier) (E.memory engine.old) (E.memory engine.new) (K.held sink.old) (K.held sink.new) (D.story (E.disk engine.old)) (D.story (E.disk engine.new))) }
+    ensures ends { IfErr result (λ stop. (g : Opening) (y : Done) (earlier : List Done) → E.in_run engine.old g (y ∷ earlier) (durables g (moments (y ∷ earlier))) → y.outcome.session ≡ session
+        → AnswersRun (E.in_run engine.new g) (Some stop) (E.group engine.old) g (y ∷ earlier) (E.memory engine.old) (E.memory engine.new) (K.held sink.old) (K.held sink.new) (D.story (E.disk engine.old)) (D.story (E.disk engine.new))) }
+    ensures stops { IfErr result IsOfRunning }
+    ensures works { IfOk result (λ a. E.works engine.new ≡ true) }
+    ensures works_no_more { IfErr result (λ stop. E.works engine.new ≡ works_on stop) }
+    ensures next { IfOk result (λ a. E.next engine.new ≡ behind_durables (behind_answer a)) }
+    ensures fewer { IfOk result (λ a. is_pair a ≡ true → E.pairs_left engine.new < E.pairs_left engine.old) }
+    ensures sizes { (E.sessions engine.new ≡ E.sessions engine.old) × (E.group engine.new ≡ E.group engine.old) }
+
+    ensures cause_write_fault { HasCause (K.faults sink.old) (K.faults sink.new) (result ≡ Err Stop.WriteFault) }
+    ensures cause_disk_fault { HasCause (D.faults (E.disk engine.old)) (D.faults (E.disk engine.new)) (result ≡ Err Stop.DiskFault) }
+{
+    laws();
+    engine.told();
+    let answer = match scan_engine(engine) {
+        Ok(answer) => answer,
+        Err(stop) => return Err(stop),
+    };
+    if let Some(stop) = put_answer(engine, sink, buffer, session, &answer) {
+        return Err(stop);
+    }
+    Ok(answer)
+}
+
+// What a line is answered behind an answer that is no pair: only behind a conflict there is more.
+fn end_line<K: Sink<D>, D: Disk, E: Calls<D>>(
+    engine: &mut E,
+    sink: &mut K,
+    buffer: &mut [u8; REPLY],
+    session: u32,
+    newest: &Answer,
+) -> Option<Stop>
+    requires works { E.works engine.old ≡ true }
+    requires next { E.next engine.old ≡ behind_durables (behind_answer newest.now) }
+    requires no_pair { is_pair newest.now ≡ false }
+    ensures runs { (g : Opening) (y : Done) (earlier : List Done) → E.in_run engine.old g (y ∷ earlier) (durables g (moments (y ∷ earlier))) → IsNewest session newest.now (y ∷ earlier)
+        → LineRuns (E.in_run engine.new g) result (E.group engine.old) g (y ∷ earlier) (E.memory engine.old) (E.memory engine.new) (K.held sink.old) (K.held sink.new) (D.story (E.disk engine.old)) (D.story (E.disk engine.new)) }
+    ensures stops { MayRun result }
+    ensures works { E.works engine.new ≡ works_behind result }
+    ensures next { result ≡ None → E.next engine.new ≡ Next.Line }
+    ensures sizes { (E.sessions engine.new ≡ E.sessions engine.old) × (E.group engine.new ≡ E.group engine.old) }
+
+    ensures cause_write_fault { HasCause (K.faults sink.old) (K.faults sink.new) (result ≡ Some Stop.WriteFault) }
+    ensures cause_disk_fault { HasCause (D.faults (E.disk engine.old)) (D.faults (E.disk engine.new)) (result ≡ Some Stop.DiskFault) }
+{
+    laws();
+    engine.told();
+    if !met_conflict(newest) {
         return None;
     }
-    abort_hindered(engine, sink, buffer, line.session)
+    abort_hindered(engine, sink, buffer, session)
 }
 
 // Whether it is that a row is held by another session.
@@ -151,7 +256,7 @@ fn abort_hindered<K: Sink<D>, D: Disk, E: Calls<D>>(
     requires works { E.works engine.old ≡ true }
     requires next { E.next engine.old ≡ Next.Abort }
     ensures runs { (g : Opening) (y : Done) (earlier : List Done) (c : Asked) → E.in_run engine.old g (y ∷ earlier) (durables g (moments (y ∷ earlier))) → hindered_in y.outcome.deed ≡ Some c → y.outcome.session ≡ session
-        → AbortRuns (E.in_run engine.new g) result (record { session = session; call = c }) (E.group engine.old) g (y ∷ earlier) (E.memory engine.old) (E.memory engine.new) (K.held sink.old) (K.held sink.new) (D.story (E.disk engine.old)) (D.story (E.disk engine.new)) }
+        → LineRuns (E.in_run engine.new g) result (E.group engine.old) g (y ∷ earlier) (E.memory engine.old) (E.memory engine.new) (K.held sink.old) (K.held sink.new) (D.story (E.disk engine.old)) (D.story (E.disk engine.new)) }
     ensures stops { MayRun result }
     ensures works { E.works engine.new ≡ works_behind result }
     ensures next { result ≡ None → E.next engine.new ≡ Next.Line }
@@ -166,7 +271,6 @@ fn abort_hindered<K: Sink<D>, D: Disk, E: Calls<D>>(
         Ok(answer) => answer,
         Err(stop) => return Some(stop),
     };
-    engine.told();
     put_answer(engine, sink, buffer, session, &answer)
 }
 
@@ -211,7 +315,7 @@ fn abort_engine<D: Disk, E: Calls<D>>(engine: &mut E) -> Result<Answer, Stop>
     ensures fits { IfOk result AnswerFits }
     ensures last { IfOk result (λ a. is_last a ≡ true) }
     ensures works { E.works engine.new ≡ true ↔ (IsErr result → ⊥) }
-    ensures next { IfOk result (λ a. E.next engine.new ≡ Next.Durables false) }
+    ensures next { IfOk result (λ a. E.next engine.new ≡ behind_answer a) }
     ensures sizes { (E.sessions engine.new ≡ E.sessions engine.old) × (E.group engine.new ≡ E.group engine.old) }
     ensures stops { IfErr result IsOfEngine }
     ensures fails { IfErr result (λ stop. (g : Opening) (y : Done) (earlier : List Done) (names : List Name) → E.in_run engine.old g (y ∷ earlier) names → (c : Asked) → hindered_in y.outcome.deed ≡ Some c
@@ -220,6 +324,34 @@ fn abort_engine<D: Disk, E: Calls<D>>(engine: &mut E) -> Result<Answer, Stop>
     ensures cause { HasCause (D.faults (E.disk engine.old)) (D.faults (E.disk engine.new)) (result ≡ Err Stop.DiskFault) }
 {
     match engine.abort_hindered() {
+        Ok(answer) => {
+            has_line(&answer);
+            Ok(answer)
+        }
+        Err(Unanswered::DiskFault) => Err(Stop::DiskFault),
+        Err(Unanswered::Damaged { place }) => Err(Stop::Damaged { place }),
+        Err(Unanswered::Broken) => unreachable!(),
+    }
+}
+
+// And for what follows a pair of a scan.
+fn scan_engine<D: Disk, E: Calls<D>>(engine: &mut E) -> Result<Answer, Stop>
+    requires works { E.works engine.old ≡ true }
+    requires next { E.next engine.old ≡ Next.Scan }
+    ensures does { IfOk result (λ a. (g : Opening) (y : Done) (earlier : List Done) (names : List Name) → E.in_run engine.old g (y ∷ earlier) names
+        → (d : Does g (E.group engine.old) (y ∷ earlier) y.outcome.session (asked y.outcome.deed) a (E.memory engine.old) (E.memory engine.new) (D.story (E.disk engine.old)) (D.story (E.disk engine.new))) × E.in_run engine.new g (d.done ∷ y ∷ earlier) names) }
+    ensures fits { IfOk result AnswerFits }
+    ensures works { E.works engine.new ≡ true ↔ (IsErr result → ⊥) }
+    ensures next { IfOk result (λ a. E.next engine.new ≡ behind_answer a) }
+    ensures fewer { IfOk result (λ a. E.next engine.new ≡ Next.Scan → E.pairs_left engine.new < E.pairs_left engine.old) }
+    ensures sizes { (E.sessions engine.new ≡ E.sessions engine.old) × (E.group engine.new ≡ E.group engine.old) }
+    ensures stops { IfErr result IsOfEngine }
+    ensures fails { IfErr result (λ stop. (g : Opening) (y : Done) (earlier : List Done) (names : List Name) → E.in_run engine.old g (y ∷ earlier) names
+        → StopsFor stop (Fails g (E.group engine.old) (y ∷ earlier) y.outcome.session (asked y.outcome.deed) (E.memory engine.old) (D.story (E.disk engine.old)) (D.story (E.disk engine.new))) (StandsNot g (E.group engine.old) (y ∷ earlier) (E.memory engine.old) (D.story (E.disk engine.old)))) }
+
+    ensures cause { HasCause (D.faults (E.disk engine.old)) (D.faults (E.disk engine.new)) (result ≡ Err Stop.DiskFault) }
+{
+    match engine.scan_on() {
         Ok(answer) => {
             has_line(&answer);
             Ok(answer)

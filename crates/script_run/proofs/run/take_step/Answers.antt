@@ -1,13 +1,13 @@
-use Rattle.std.proofs.Common.{◌≡◌, ◌<◌, ◌-◌, ◌^◌, ◌∷◌, ◌∙◌, ℕ, Some, None, false, true, refl, sym, ap, subst, arith}
+use Rattle.std.proofs.Common.{◌≡◌, ◌<◌, ◌-◌, ◌^◌, ◌∷◌, ◌∙◌, ℕ, Some, None, refl, sym, ap, subst, arith}
 use Rattle.core_calls.specs.Durables.{durables, moments}
-use Rattle.engine_front.specs.Turns.{is_conflict_in}
-use Rattle.script_run.specs.Inside.{AbortRuns}
+use Rattle.engine_front.specs.Turns.{behind_durables}
+use Rattle.script_run.specs.Inside.{LineRuns}
 use Rattle.script_run.specs.Runs.{ReadsTo}
 use Rattle.script_run.specs.declared.stop.Stop.{Stop}
 use Rattle.script_run.specs.declared.stop.Stop.TheVariants.{DiskFault, ReadFault, WriteFault}
 use Rattle.transcripts.specs.Told.{LineFits}
-use Rattle.script_run.proofs.FitLemmas.{answer_fits, asked_of, met_conflict, session_few}
-use Rattle.script_run.proofs.StepLemmas.{answer_step, fault_step, hindered_step, last_of, next_of, no_step}
+use Rattle.script_run.proofs.FitLemmas.{answer_fits, asked_of, session_few}
+use Rattle.script_run.proofs.StepLemmas.{cut_step, fault_step, line_step, no_step}
 use Rattle.script_run.proofs.StopLemmas.{cause_behind, no_cause, of_no_disk, of_no_sink, ok_no_err, putting_no_disk, putting_no_read, running_goes, running_no_read}
 use Rattle.script_run.proofs.run.take_step.Goals as goal
 
@@ -60,9 +60,9 @@ returns-in-Some-clause-runs g c o xs start seen run was =
     let low = session_few c.session_count.result line.session line.call (c.in-Ok.ensures).fits c.session_count.ensures.few in
     let says = (c.in-Some.ensures).says o xs x does.1 does.0.session does.0.answer_is
     (answer_fits (E.sessions e0) line.session line.call a x.outcome.deed (asked_of (E.sessions e0) line.session line.call fits) does.0.asked_is does.0.answer_is low (c.in-Ok-call_engine.ensures).fits) in
-    answer_step c.laws.ensures (E.sessions e0) (E.group e0) o xs (c.args.number - 1) c.args.number (omega arith) start (g.S.Source.feed c.next_call.new.source) seen c.next_call.new.reader (E.memory e0) (g.K.Sink.held c.args.sink.now) (D.story (E.disk e0)) c.told.ensures.lawful (E.in_run e2 o)
+    cut_step c.laws.ensures (E.sessions e0) (E.group e0) o xs (c.args.number - 1) c.args.number (omega arith) start (g.S.Source.feed c.next_call.new.source) seen c.next_call.new.reader (E.memory e0) (g.K.Sink.held c.args.sink.now) (D.story (E.disk e0)) c.told.ensures.lawful (E.in_run e2 o)
     line.session line.call fits (D.story (E.disk e1)) ((c.in-Ok.ensures).read start seen was) a (E.memory e1) (E.memory e2) does.0 (omega arith) (g.K.Sink.held c.put_answer.new.sink) (D.story (E.disk e2)) c.put_answer.ensures.same.0
-    (Some c.in-Some.stop) (c.in-Some.ensures).stops says.0 says.1 (λ none. let clash : Some c.in-Some.stop ≡ None = none in cc)
+    c.in-Some.stop (c.in-Some.ensures).stops says.0 says.1
 
 pub returns-in-Some-clause-next : goal.returns-in-Some-clause-next
 returns-in-Some-clause-next g c not_sink works = absurd (not_sink (ap (λ (s : Stop). Some s) (c.in-Some.ensures).stops))
@@ -79,34 +79,8 @@ returns-in-Some-clause-cause_disk_fault g c =
     no_cause (faults (disk c.args.engine.now)) (faults (disk c.put_answer.new.engine)) _ (c.put_answer.ensures.same.2 ∙ c.call_engine.ensures.cause.calm (ok_no_err c.call_engine.result c.in-Ok-call_engine.answer DiskFault c.in-Ok-call_engine.is))
     (putting_no_disk (Some c.in-Some.stop) (c.in-Some.ensures).stops)
 
-pub returns-then-not-met_conflict-clause-runs : goal.returns-then-not-met_conflict-clause-runs
-returns-then-not-met_conflict-clause-runs g c o xs start seen run was =
-    let E = g.E.Calls in
-    let D = g.D.Disk in
-    let e0 = c.args.engine.now in
-    let e1 = c.call_engine.new.engine in
-    let e2 = c.put_answer.new.engine in
-    let line = c.in-Ok.line in
-    let a = c.in-Ok-call_engine.answer in
-    let few : c.args.number < 2 ^ 40 = (c.in-Ok.ensures).few in
-    let fits = subst (λ (n : ℕ). LineFits n line.session line.call) c.session_count.ensures.count (c.in-Ok.ensures).fits in
-    let does = (c.in-Ok-call_engine.ensures).does o xs (durables o (moments xs)) run in
-    let x = does.0.done in
-    let low = session_few c.session_count.result line.session line.call (c.in-Ok.ensures).fits c.session_count.ensures.few in
-    let says = (c.in_default.ensures).says o xs x does.1 does.0.session does.0.answer_is
-    (answer_fits (E.sessions e0) line.session line.call a x.outcome.deed (asked_of (E.sessions e0) line.session line.call fits) does.0.asked_is does.0.answer_is low (c.in-Ok-call_engine.ensures).fits) in
-    let none : is_conflict_in a ≡ false = sym c.met_conflict.ensures ∙ c.if-not-met_conflict.true in
-    answer_step c.laws.ensures (E.sessions e0) (E.group e0) o xs (c.args.number - 1) c.args.number (omega arith) start (g.S.Source.feed c.next_call.new.source) seen c.next_call.new.reader (E.memory e0) (g.K.Sink.held c.args.sink.now) (D.story (E.disk e0)) c.told.ensures.lawful (E.in_run e2 o)
-    line.session line.call fits (D.story (E.disk e1)) ((c.in-Ok.ensures).read start seen was) a (E.memory e1) (E.memory e2) does.0 (omega arith) (g.K.Sink.held c.put_answer.new.sink) (D.story (E.disk e2)) c.put_answer.ensures.same.0
-    None tt says.0 says.1 (λ all. last_of (E.next e1) a x xs (c.in-Ok-call_engine.ensures).next none (c.told-2.ensures.told o (x ∷ xs) (durables o (moments xs)) does.1).1)
-
-pub returns-then-not-met_conflict-clause-next : goal.returns-then-not-met_conflict-clause-next
-returns-then-not-met_conflict-clause-next g c not_sink works =
-    next_of c.in-Ok-call_engine.answer false (g.E.Calls.next c.call_engine.new.engine) (g.E.Calls.next c.put_answer.new.engine) (c.in-Ok-call_engine.ensures).next (c.put_answer.ensures.next (c.in_default).is) (sym c.met_conflict.ensures ∙ c.if-not-met_conflict.true)
-
-pub abort_hindered-requires-clause-next : goal.abort_hindered-requires-clause-next
-abort_hindered-requires-clause-next g c κs held =
-    next_of c.in-Ok-call_engine.answer true (g.E.Calls.next c.call_engine.new.engine) (g.E.Calls.next c.put_answer.new.engine) (c.in-Ok-call_engine.ensures).next (c.put_answer.ensures.next (c.in_default).is) (sym c.met_conflict.ensures ∙ c.if-not-met_conflict.false)
+pub finish_line-requires-clause-next : goal.finish_line-requires-clause-next
+finish_line-requires-clause-next g c κs held = c.put_answer.ensures.next (c.in_default).is ∙ ap behind_durables (c.in-Ok-call_engine.ensures).next
 
 pub returns-clause-runs : goal.returns-clause-runs
 returns-clause-runs g c o xs start seen run was =
@@ -116,7 +90,7 @@ returns-clause-runs g c o xs start seen run was =
     let e0 = c.args.engine.now in
     let e1 = c.call_engine.new.engine in
     let e2 = c.put_answer.new.engine in
-    let e3 = c.abort_hindered.new.engine in
+    let e3 = c.finish_line.new.engine in
     let line = c.in-Ok.line in
     let a = c.in-Ok-call_engine.answer in
     let few : c.args.number < 2 ^ 40 = (c.in-Ok.ensures).few in
@@ -126,31 +100,30 @@ returns-clause-runs g c o xs start seen run was =
     let low = session_few c.session_count.result line.session line.call (c.in-Ok.ensures).fits c.session_count.ensures.few in
     let says = (c.in_default.ensures).says o xs x does.1 does.0.session does.0.answer_is
     (answer_fits (E.sessions e0) line.session line.call a x.outcome.deed (asked_of (E.sessions e0) line.session line.call fits) does.0.asked_is does.0.answer_is low (c.in-Ok-call_engine.ensures).fits) in
-    let hindered = met_conflict x.outcome.deed line.call a does.0.asked_is does.0.answer_is (sym c.met_conflict.ensures ∙ c.if-not-met_conflict.false) in
-    let abort = c.abort_hindered.ensures.runs o x xs line.call says.1 hindered does.0.session in
-    hindered_step c.laws.ensures (E.sessions e0) (E.group e0) o xs (c.args.number - 1) c.args.number (omega arith) start (g.S.Source.feed c.next_call.new.source) seen c.next_call.new.reader (E.memory e0) (held c.args.sink.now) (D.story (E.disk e0)) c.told.ensures.lawful (E.in_run e3 o)
+    let line_on = c.finish_line.ensures.runs o x xs says.1 (does.0.session, does.0.answer_is) in
+    line_step c.laws.ensures (E.sessions e0) (E.group e0) o xs (c.args.number - 1) c.args.number (omega arith) start (g.S.Source.feed c.next_call.new.source) seen c.next_call.new.reader (E.memory e0) (held c.args.sink.now) (D.story (E.disk e0)) c.told.ensures.lawful (E.in_run e3 o)
     line.session line.call fits (D.story (E.disk e1)) ((c.in-Ok.ensures).read start seen was) a (E.memory e1) (E.memory e2) does.0 (omega arith) (held c.put_answer.new.sink) (D.story (E.disk e2)) c.put_answer.ensures.same.0
-    says.0 hindered c.abort_hindered.result c.abort_hindered.ensures.stops (E.memory e3) (held c.abort_hindered.new.sink) (D.story (E.disk e3))
-    (subst (λ (n : ℕ). AbortRuns (E.in_run e3 o) c.abort_hindered.result (record { session = line.session; call = line.call }) n o (x ∷ xs) (E.memory e2) (E.memory e3) (held c.put_answer.new.sink) (held c.abort_hindered.new.sink) (D.story (E.disk e2)) (D.story (E.disk e3)))
-    (c.put_answer.ensures.sizes.1 ∙ c.call_engine.ensures.sizes.1) abort)
+    says.0 c.finish_line.result c.finish_line.ensures.stops (E.memory e3) (held c.finish_line.new.sink) (D.story (E.disk e3))
+    (subst (λ (n : ℕ). LineRuns (E.in_run e3 o) c.finish_line.result n o (x ∷ xs) (E.memory e2) (E.memory e3) (held c.put_answer.new.sink) (held c.finish_line.new.sink) (D.story (E.disk e2)) (D.story (E.disk e3)))
+    (c.put_answer.ensures.sizes.1 ∙ c.call_engine.ensures.sizes.1) line_on)
 
 pub returns-clause-next : goal.returns-clause-next
-returns-clause-next g c not_sink works = c.abort_hindered.ensures.next (running_goes c.abort_hindered.result c.abort_hindered.ensures.stops not_sink works)
+returns-clause-next g c not_sink works = c.finish_line.ensures.next (running_goes c.finish_line.result c.finish_line.ensures.stops not_sink works)
 
 pub returns-clause-cause_read_fault : goal.returns-clause-cause_read_fault
 returns-clause-cause_read_fault g c =
     let faults = g.S.Source.faults in
-    no_cause (faults c.args.source.now) (faults c.next_call.new.source) _ (c.next_call.ensures.cause_read_fault.calm (ok_no_err c.next_call.result c.in-Ok.line ReadFault c.in-Ok.is)) (running_no_read c.abort_hindered.result c.abort_hindered.ensures.stops)
+    no_cause (faults c.args.source.now) (faults c.next_call.new.source) _ (c.next_call.ensures.cause_read_fault.calm (ok_no_err c.next_call.result c.in-Ok.line ReadFault c.in-Ok.is)) (running_no_read c.finish_line.result c.finish_line.ensures.stops)
 
 pub returns-clause-cause_write_fault : goal.returns-clause-cause_write_fault
 returns-clause-cause_write_fault g c =
     let faults = g.K.Sink.faults in
-    cause_behind (faults c.args.sink.now) (faults c.put_answer.new.sink) (faults c.abort_hindered.new.sink) _
-    (c.put_answer.ensures.cause_write_fault.calm (λ e. let clash : None ≡ Some WriteFault = sym (c.in_default).is ∙ e in cc)) c.abort_hindered.ensures.cause_write_fault
+    cause_behind (faults c.args.sink.now) (faults c.put_answer.new.sink) (faults c.finish_line.new.sink) _
+    (c.put_answer.ensures.cause_write_fault.calm (λ e. let clash : None ≡ Some WriteFault = sym (c.in_default).is ∙ e in cc)) c.finish_line.ensures.cause_write_fault
 
 pub returns-clause-cause_disk_fault : goal.returns-clause-cause_disk_fault
 returns-clause-cause_disk_fault g c =
     let faults = g.D.Disk.faults in
     let disk = g.E.Calls.disk in
-    cause_behind (faults (disk c.args.engine.now)) (faults (disk c.put_answer.new.engine)) (faults (disk c.abort_hindered.new.engine)) _
-    (c.put_answer.ensures.same.2 ∙ c.call_engine.ensures.cause.calm (ok_no_err c.call_engine.result c.in-Ok-call_engine.answer DiskFault c.in-Ok-call_engine.is)) c.abort_hindered.ensures.cause_disk_fault
+    cause_behind (faults (disk c.args.engine.now)) (faults (disk c.put_answer.new.engine)) (faults (disk c.finish_line.new.engine)) _
+    (c.put_answer.ensures.same.2 ∙ c.call_engine.ensures.cause.calm (ok_no_err c.call_engine.result c.in-Ok-call_engine.answer DiskFault c.in-Ok-call_engine.is)) c.finish_line.ensures.cause_disk_fault
