@@ -5,10 +5,10 @@ pub mod BelowLemmas
 pub mod CountLemmas
 pub mod FoundLemmas
 pub mod BeginLemmas
-pub mod ClockLemmas
 pub mod NearLemmas
 pub mod LeftLemmas
 pub mod ScriptLemmas
+pub mod ScanLemmas
 pub mod SpentLemmas
 pub mod QuietLemmas
 pub mod OpeningLemmas

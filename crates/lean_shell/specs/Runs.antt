@@ -1,5 +1,5 @@
 -- How a run of a script ended.
-use Rattle.std.specs.Prelude.{◌≡◌, ◌++◌, ◌+◌, ◌<◌, ◌≤◌, ◌^◌, ℕ, suc, true, false, List, [], ◌∷◌, length, take, IsTrue, Option, None, Some}
+use Rattle.std.specs.Prelude.{◌≡◌, ◌++◌, ◌+◌, ◌<◌, ◌≤◌, ◌^◌, ℕ, suc, Bool, true, false, List, [], ◌∷◌, length, take, IsTrue, Option, None, Some}
 use Rattle.image_model.specs.Images.{won_by, lost_by, map_of}
 use Rattle.lean_disk.specs.Faults.{Rose}
 use Rattle.lean_disk.specs.Story.{Story, areas_of}
@@ -18,17 +18,22 @@ use Rattle.recovery.specs.Telling.{TellsAll}
 use Rattle.recovery.specs.declared.opening.Unrecovered.{Unrecovered}
 use Rattle.recovery.specs.declared.opening.Unrecovered.TheVariants as why
 use Rattle.core_crash.specs.Crashes.{from_head, log_of}
+use Rattle.core_state.specs.Events.{Event}
+use Rattle.core_state.specs.Needs.{may, value_in}
 use Rattle.core_state.specs.Openings.{Opening, first_map}
 use Rattle.core_state.specs.States.{State}
-use Rattle.core_state.specs.Steps.{state_after}
-use Rattle.core_calls.specs.Deeds.{answered}
+use Rattle.core_state.specs.Steps.{run, state_after}
+use Rattle.core_calls.specs.Deeds.{answered, asked}
 use Rattle.core_calls.specs.Fronts.{Done, front}
+use Rattle.core_calls.specs.LineCounts.{is_scan_call}
 use Rattle.core_calls.specs.Printed.{printed}
+use Rattle.core_calls.specs.Scans.{HoldsMet, is_scan}
 use Rattle.run_crashes.specs.Lines.{next_of}
 use Rattle.worker_log.specs.Accounts.{joined, spelled_from}
 use Rattle.worker_log.specs.Laws.{entries_onto}
 use Rattle.worker_log.specs.Logs.{Log}
-use Rattle.map_model.specs.Lists.{Has}
+use Rattle.map_model.specs.Lists.{Has, keep}
+use Rattle.map_model.specs.Maps.{MapAnswer}
 use Rattle.map_model.specs.Outputs.{Reply}
 use Rattle.map_model.specs.declared.call.Answer.TheVariants as answer
 use Rattle.map_model.specs.declared.call.Answered.{Answered}
@@ -206,6 +211,32 @@ pub record IsOnDisk (g : Opening) (calls : List Done) (memory : Memory) (area : 
 
 -- ## All of it
 
+-- the answer is to a scan
+abbrev pub asks_scan : Done → Bool
+asks_scan x = is_scan_call (asked x.outcome.deed)
+
+-- From the state s on, by these events session w read this pair in a leaf. The need of that event was met: it was the next pair there, and the session had its row; and the
+-- leaf had it with this value.
+pub record ReadsPair (g : Opening) (s : State) (w : ℕ) (es : List Event) (key value : ℕ) : Type 0 where
+  pub before : List Event
+  pub after : List Event
+  pub page : ℕ
+  pub at : ℕ
+  pub word : ℕ
+  pub is : es ≡ before ++ Event.Next w page at (MapAnswer.Pair key word) ∷ after
+  pub met : may g (run g s before) (Event.Next w page at (MapAnswer.Pair key word)) ≡ true
+  pub stood : value_in g.format ((run g s before).page page).node key ≡ Some value
+
+-- What is said of an answer behind these that tells a pair of a scan, or that it is over: at each pair and each gap that it came to its session had the row of each
+-- entry that it met, tombstones too; and a pair that it tells it read there.
+pub record ScansLocked (g : Opening) (earlier : List Done) (x : Done) : Type 0 where
+  pub held : HoldsMet g (state_after g (front earlier)) x.events
+  pub told : (key value : ℕ) → answered x.outcome.deed ≡ answer.Pair key value → ReadsPair g (state_after g (front earlier)) x.outcome.session x.events key value
+
+-- how many of the answers are to scans
+abbrev pub steps_of_scans : List Done → ℕ
+steps_of_scans calls = length (keep asks_scan calls)
+
 -- No answer stands of which a further one is due, unless the sink failed or the engine works no longer.
 abbrev pub IsClosed : Stop → List Done → Type 0
 IsClosed stop calls = (stop ≡ stops.WriteFault → ⊥) → works_on stop ≡ true → is_open_line (calls_of calls) ≡ false
@@ -216,12 +247,14 @@ pub record Ran (size : Size) (status : ℕ) (s0 s1 : Story) (feed0 feed1 : Feed)
   pub status_is : status ≡ ended stop
   pub counts : Counts
   pub calls : List Done
-  -- the lines, and the calls: to a line that meets a conflict there are two
+  -- the lines, and the answers: to a line there are as many as a scan may tell pairs, and two more
   pub few : length (script_of (calls_of calls)) < 2 ^ 40
-  pub calls_few : length calls < 2 ^ 41
+  pub calls_few : length calls < 2 ^ 47
   pub executed : Executed size s0 counts calls
-  -- too few for a latch to be spent
-  pub none_spent : (x : Done) → Has x calls → answered x.outcome.deed ≡ answer.Refused RowSpent → ⊥
+  -- too few for a latch to be spent, where no more than 2^34 of them are to scans, each of which may pass each leaf of the tree
+  pub none_spent : steps_of_scans calls ≤ 2 ^ 34 → (x : Done) → Has x calls → answered x.outcome.deed ≡ answer.Refused RowSpent → ⊥
+  -- what a scan tells was locked, and stood there
+  pub scans : (later earlier : List Done) (x : Done) → later ++ x ∷ earlier ≡ calls → is_scan x.outcome.deed ≡ true → ScansLocked executed.opening earlier x
   -- behind a conflict the abort was executed, unless the sink or the engine stopped there
   pub closed : IsClosed stop calls
   -- the script begins with the lines that ask them, and why no more were executed

@@ -1,5 +1,5 @@
 -- What stands of a run's calls on the disk that it leaves.
-use Rattle.std.specs.Prelude.{◌≡◌, ◌≤◌, ◌++◌, ◌+◌, ◌<◌, ◌%◌, ℕ, List, ◌∷◌, length, Option, Some}
+use Rattle.std.specs.Prelude.{◌≡◌, ◌≤◌, ◌++◌, ◌+◌, ◌<◌, ◌%◌, ℕ, false, List, ◌∷◌, length, Option, Some, None}
 use Rattle.image_model.specs.Entries.{Contents, Entry}
 use Rattle.image_model.specs.Slots.{base_of}
 use Rattle.lean_disk.specs.Story.{Crash, Story, areas_of}
@@ -16,6 +16,7 @@ use Rattle.core_state.specs.Events.{Event}
 use Rattle.core_state.specs.States.{State}
 use Rattle.core_state.specs.Steps.{state_after}
 use Rattle.core_crash.specs.Crashes.{from_head, log_of}
+use Rattle.core_calls.specs.Deeds.{answered, asked}
 use Rattle.core_calls.specs.Fronts.{Done, front, outcomes}
 use Rattle.core_calls.specs.Printed.{durable_lines, printed}
 use Rattle.core_calls.specs.Runs.{EachTells, Tells}
@@ -28,7 +29,7 @@ use Rattle.map_model.specs.declared.call.Call.{Call}
 use Rattle.map_model.specs.Journals.{Name}
 use Rattle.map_model.specs.Lists.{Has}
 use Rattle.map_model.specs.Outputs.{Reply, names}
-use Rattle.map_model.specs.Pairings.{counted, in_turn, script_of}
+use Rattle.map_model.specs.Pairings.{counted, in_turn, is_last, script_of}
 use Rattle.script_lang.specs.Text.{script_lines}
 use Rattle.transcripts.specs.Laws.{ComesNext}
 use Rattle.transcripts.specs.Told.{ask, asked_lines, EachLineFits, LineFits}
@@ -57,7 +58,8 @@ pub record HasLinesFor (sessions : ℕ) (input : List ℕ) (calls : List Done) :
   pub others : List (List ℕ)
   pub lines : script_lines input ≡ asked_lines (script_of (calls_of calls)) ++ others
 
--- A call behind these: the script begins with their lines and its, which is the last of theirs where it is the abort behind a conflict; and it is told by its events.
+-- A call behind these: the script begins with their lines and its, which is the last of theirs where it is the abort behind a conflict, or a further step of a scan;
+-- and it is told by its events.
 pub record IsNextCall (g : Opening) (group : ℕ) (input : List ℕ) (heard : List Done) (x : Done) : Type 0 where
   pub lines : HasLinesFor g.workers input (x ∷ heard)
   pub tells : Tells limits g group heard x
@@ -66,13 +68,16 @@ pub record IsNextCall (g : Opening) (group : ℕ) (input : List ℕ) (heard : Li
 abbrev pub AllAnswered : Opening → List Done → List Event → Type 0
 AllAnswered g = NoneStopped
 
--- what may be asked behind these: the script's next line; or the abort that is due behind the newest, which met a conflict
+-- what may be asked behind these: the script's next line; or what is due behind the newest, the abort of one that met a conflict, or the next step of a scan whose pair
+-- was told
 pub data IsAskedNext (sessions : ℕ) (input : List ℕ) (heard : List Done) (session : ℕ) (c : Call) : Type 0 where
   OfLine : LineFits sessions session c → ComesNext (script_of (calls_of heard)) (ask session c) input → IsAskedNext sessions input heard session c
   OfAbort : (y : Done) → (earlier : List Done) → heard ≡ y ∷ earlier → y.outcome.session ≡ session → hindered_in y.outcome.deed ≡ Some c → IsAskedNext sessions input heard session c
+  OfScan : (y : Done) → (earlier : List Done) → heard ≡ y ∷ earlier → y.outcome.session ≡ session → asked y.outcome.deed ≡ c → is_last (answered y.outcome.deed) ≡ false → hindered_in y.outcome.deed ≡ None → IsAskedNext sessions input heard session c
 
 -- Events of a call behind these that was not answered: they are what such a call may have done by then. A put made room for its key, a get and a del took
--- their key's row, an abort put changes back, each with the pages that were moved for it; a sync flushed logs, and any other call did nothing.
+-- their key's row, a scan took rows and passed gaps, an abort put changes back, each with the pages that were moved for it; a sync flushed logs, and any other call did
+-- nothing.
 pub record IsRoomOfNext (input : List ℕ) (g : Opening) (heard : List Done) (es : List Event) : Type 0 where
   pub session : ℕ
   pub call : Call

@@ -122,15 +122,18 @@ pub fn run_disk<S: Source, K: Sink<D>, D: Hosts>(
     }
 }
 
-// What other crates prove of calls and their crashes, of transcripts, of images that agree, and of logs.
+// What other crates prove of calls, their numbers and their crashes, of transcripts, of images that agree, and of logs.
 fn laws()
     ensures { Laws }
 {
     core_commit::every_rise();
-    core_calls::every_durable();
+    core_calls::every_line_count();
     core_calls::every_printed();
     core_calls::every_told();
+    core_calls::every_met();
     core_calls::every_run_crash();
+    event_counts::every_draw();
+    event_counts::every_scan_count();
     core_disk::every_shown();
     core_disk::every_version();
     script_lang::replies_are_read_back();

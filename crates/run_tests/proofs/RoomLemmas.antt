@@ -1,23 +1,27 @@
 -- What a crash may find of a call that was not answered, by the lines of the script.
-use Rattle.std.proofs.Common.{◌≡◌, ◌⊎◌, ◌++◌, inl, inr, ◌||◌, ◌&&◌, ℕ, Bool, true, false, List, [], ◌∷◌, Option, Some, None, refl, sym, ap, subst, true≢false}
-use Rattle.std.proofs.lemmas.Bool.{and_parts, or_parts}
+use Rattle.std.proofs.Common.{◌≡◌, ◌⊎◌, ◌++◌, inl, inr, ◌||◌, ◌&&◌, ℕ, Bool, true, false, cond, List, [], ◌∷◌, Option, Some, None, refl, sym, ◌∙◌, ap, subst, true≢false}
+use Rattle.std.proofs.lemmas.Bool.{and_parts, or_parts, or_right}
 use Rattle.map_model.specs.declared.call.Call.{Call}
 use Rattle.map_model.specs.declared.call.Call.TheVariants as call
+use Rattle.map_model.specs.declared.call.Refusal.{Refusal}
+use Rattle.map_model.specs.declared.call.Refusal.TheVariants as refusal
 use Rattle.map_model.specs.Lists.{Has, all, any}
-use Rattle.map_model.specs.Pairings.{script_of}
+use Rattle.map_model.specs.Maps.{MapAnswer}
+use Rattle.map_model.specs.Pairings.{is_last, is_last_refusal, script_of}
 use Rattle.core_state.specs.Events.{Event, Mode}
 use Rattle.core_state.specs.Openings.{Opening}
+use Rattle.core_calls.specs.Deeds.{Deed, Met, Refused, answered, asked}
 use Rattle.core_calls.specs.Fronts.{Done, outcomes}
-use Rattle.core_calls.specs.Steps.{call_behind, due_call, hindered_in, is_structure}
+use Rattle.core_calls.specs.Steps.{call_behind, due_call, hindered_in, is_conflict, is_structure}
 use Rattle.engine_trait.specs.Rooms.{needs_sync}
-use Rattle.call_parts.specs.Rooms.{AreReady, HasDoneFor, IsRoomFor, gives_room, is_paging, makes_sync, puts_back, takes_row}
-use Rattle.engine_front.specs.Turns.{IsHindered}
+use Rattle.call_parts.specs.Rooms.{AreReady, HasDoneFor, IsRoomFor, gives_room, is_paging, makes_sync, puts_back, takes_row, walks}
+use Rattle.engine_front.specs.Turns.{IsHindered, IsScanning}
 use Rattle.script_run.specs.Runs.{calls_of}
 use Rattle.transcripts.specs.Laws.{ComesNext}
 use Rattle.transcripts.specs.Told.{ask, asked_lines, LineFits}
 use Rattle.lean_shell.specs.Starts.{IsAskedNext}
-use Rattle.lean_shell.specs.Starts.IsAskedNext.{OfAbort, OfLine}
-use Rattle.run_tests.specs.RuledOut.{Asks, EveryStoppedCall, IsAbort, IsDel, IsGet, IsPut, StoppedLaws, is_back, is_look}
+use Rattle.lean_shell.specs.Starts.IsAskedNext.{OfAbort, OfLine, OfScan}
+use Rattle.run_tests.specs.RuledOut.{Asks, EveryStoppedCall, IsAbort, IsDel, IsGet, IsPut, IsScan, StoppedLaws, is_back, is_look, is_walk, passes_gap}
 
 has_behind : (xs : List (List ℕ)) (y : List ℕ) (ys : List (List ℕ)) → Has y (xs ++ y ∷ ys)
 has_behind [] y ys = inl refl
@@ -89,7 +93,37 @@ ready_for_sync : (b : Bool) (es : List Event) → AreReady b es → all makes_sy
 ready_for_sync true es ready = ready
 ready_for_sync false es ready = ap (all makes_sync) ready
 
+-- a walk puts nothing back, and is what may be where keys are looked for
+abbrev in_walk : (own : ℕ) → Event → Bool
+in_walk own e = walks own e || is_paging e
+
+walk_backs_none : (own : ℕ) (e : Event) → in_walk own e ≡ true → is_back e ≡ false
+walk_backs_none own (Event.Put_back w p) walk = absurd (true≢false (sym walk))
+walk_backs_none own _ walk = refl
+
+walk_of : (own : ℕ) (e : Event) → in_walk own e ≡ true → is_walk e ≡ true
+walk_of own (Event.Lock w i Mode.Shared) walk = refl
+walk_of own (Event.Lock w i Mode.Alone) walk = absurd (true≢false (sym walk))
+walk_of own (Event.Next w p k (MapAnswer.Gap high)) walk = refl
+walk_of own (Event.Next w p k (MapAnswer.Pair j v)) walk = absurd (true≢false (sym walk))
+walk_of own (Event.Next w p k (MapAnswer.Value v)) walk = absurd (true≢false (sym walk))
+walk_of own (Event.Next w p k (MapAnswer.Was v)) walk = absurd (true≢false (sym walk))
+walk_of own _ walk = walk
+
+look_walks : (e : Event) → is_look e ≡ true → is_walk e ≡ true
+look_walks e look = or_right (passes_gap e) (is_look e) look
+
 -- ## What may be asked next
+
+-- what waits for a further answer, and met no conflict, is a scan
+goes_scan : (d : Deed) → is_last (answered d) ≡ false → hindered_in d ≡ None → (from : ℕ) × (to : ℕ) × (asked d ≡ call.Scan from to)
+goes_scan (Met from to k v alone) more none = (from, to, refl)
+goes_scan (Refused c why backs) more none = absurd (at why more none)
+  where
+    at : (why : Refusal) → is_last_refusal why ≡ false → cond {A = Option Call} (is_conflict why) (Some c) None ≡ None → ⊥
+    at (refusal.Conflict h) more none = cc
+    at _ more none = true≢false more
+goes_scan _ more none = absurd (true≢false more)
 
 -- the newest call met a conflict and the abort is due, or what is asked is done
 due_or_own : (heard : List Done) (c : Call) → (IsHindered heard × (call_behind (outcomes heard) c ≡ call.Abort)) ⊎ (call_behind (outcomes heard) c ≡ c)
@@ -105,15 +139,23 @@ module _ (sessions : ℕ) (input : List ℕ) (g : Opening) (heard : List Done) (
   abbrev IsLine : Call → Type 0
   IsLine c = LineFits sessions session c × ComesNext (script_of (calls_of heard)) (ask session c) input
 
-  -- the abort that is due, or the script's next line
-  turn : (c : Call) → IsAskedNext sessions input heard session c → (IsHindered heard × (call_behind (outcomes heard) c ≡ call.Abort)) ⊎ ((call_behind (outcomes heard) c ≡ c) × IsLine c)
-  turn c (OfAbort y earlier are is hindered) = inl (
-    record { newest = y; earlier = earlier; are = are; hindered = c; is = hindered },
-    subst (λ (xs : List Done). call_behind (outcomes xs) c ≡ call.Abort) (sym are) (ap (λ (o : Option Call). due_call o c) hindered),
-  )
+  -- the abort that is due, the next step of a scan, or the script's next line
+  data Turn (c : Call) : Type 0 where
+    Due : IsHindered heard → call_behind (outcomes heard) c ≡ call.Abort → Turn c
+    Goes : IsScanning heard → (from to : ℕ) → call_behind (outcomes heard) c ≡ call.Scan from to → Turn c
+    Own : call_behind (outcomes heard) c ≡ c → IsLine c → Turn c
+
+  turn : (c : Call) → IsAskedNext sessions input heard session c → Turn c
+  turn c (OfAbort y earlier are is hindered) = Due
+      (record { newest = y; earlier = earlier; are = are; hindered = c; is = hindered })
+      (subst (λ (xs : List Done). call_behind (outcomes xs) c ≡ call.Abort) (sym are) (ap (λ (o : Option Call). due_call o c) hindered))
+  turn c (OfScan y earlier are is same more none) =
+      let scan = goes_scan y.outcome.deed more none in
+      Goes (record { newest = y; earlier = earlier; are = are; from = scan.0; to = scan.1; asked_is = scan.2; more = more; hindered = none }) scan.0 scan.1
+      (subst (λ (xs : List Done). call_behind (outcomes xs) c ≡ call.Scan scan.0 scan.1) (sym are) (ap (λ (o : Option Call). due_call o c) none ∙ (sym same ∙ scan.2)))
   turn c (OfLine fits line) = elim (due_or_own heard c) [
-    | inl due ↦ inl due
-    | inr own ↦ inr (own, (fits, line))
+    | inl due ↦ Due due.0 due.1
+    | inr own ↦ Own own (fits, line)
   ]
 
   asks : (c : Call) → IsLine c → (Such : Call → Type 0) → Such c → Asks sessions Such input
@@ -130,6 +172,7 @@ module _ (sessions : ℕ) (input : List ℕ) (g : Opening) (heard : List Done) (
   structure (call.Put key value) line room none = absurd (none (asks (call.Put key value) line IsPut tt))
   structure (call.Get key) line room none = room.1
   structure (call.Del key) line room none = room.1
+  structure (call.Scan from to) line room none = room.1
   structure call.Abort line backs none = each_none (λ e. puts_back session e || is_paging e) is_structure (back_grows_none session) es backs
   structure c line ready none = each_none makes_sync is_structure sync_grows_none es (ready_for_sync (needs_sync g heard session c) es ready)
 
@@ -137,40 +180,62 @@ module _ (sessions : ℕ) (input : List ℕ) (g : Opening) (heard : List Done) (
   backs (call.Put key value) line room none = each_none (in_room session (g.row_of key) Mode.Alone) is_back (room_backs_none session (g.row_of key) Mode.Alone) es room.0
   backs (call.Get key) line room none = each_none (in_room session (g.row_of key) Mode.Shared) is_back (room_backs_none session (g.row_of key) Mode.Shared) es room.0
   backs (call.Del key) line room none = each_none (in_room session (g.row_of key) Mode.Alone) is_back (room_backs_none session (g.row_of key) Mode.Alone) es room.0
+  backs (call.Scan from to) line room none = each_none (in_walk session) is_back (walk_backs_none session) es room.0
   backs call.Abort line room none = absurd (none (asks call.Abort line IsAbort tt))
   backs c line ready none = each_none makes_sync is_back sync_backs_none es (ready_for_sync (needs_sync g heard session c) es ready)
 
-  looks : (c : Call) → IsLine c → HasDoneFor g heard session c es → (Asks sessions IsPut input → ⊥) → (Asks sessions IsDel input → ⊥) → (Asks sessions IsAbort input → ⊥) → all is_look es ≡ true
-  looks (call.Put key value) line room put del abort = absurd (put (asks (call.Put key value) line IsPut tt))
-  looks (call.Get key) line room put del abort = each_looks session (g.row_of key) es room.0 room.1
-  looks (call.Del key) line room put del abort = absurd (del (asks (call.Del key) line IsDel tt))
-  looks call.Abort line room put del abort = absurd (abort (asks call.Abort line IsAbort tt))
-  looks c line ready put del abort = each_so makes_sync is_look sync_looks es (ready_for_sync (needs_sync g heard session c) es ready)
+  looks : (c : Call) → IsLine c → HasDoneFor g heard session c es → (Asks sessions IsPut input → ⊥) → (Asks sessions IsDel input → ⊥) → (Asks sessions IsScan input → ⊥) → (Asks sessions IsAbort input → ⊥) → all is_look es ≡ true
+  looks (call.Put key value) line room put del scan abort = absurd (put (asks (call.Put key value) line IsPut tt))
+  looks (call.Get key) line room put del scan abort = each_looks session (g.row_of key) es room.0 room.1
+  looks (call.Del key) line room put del scan abort = absurd (del (asks (call.Del key) line IsDel tt))
+  looks (call.Scan from to) line room put del scan abort = absurd (scan (asks (call.Scan from to) line IsScan tt))
+  looks call.Abort line room put del scan abort = absurd (abort (asks call.Abort line IsAbort tt))
+  looks c line ready put del scan abort = each_so makes_sync is_look sync_looks es (ready_for_sync (needs_sync g heard session c) es ready)
 
-  for_sync : (c : Call) → IsLine c → HasDoneFor g heard session c es → (Asks sessions IsPut input → ⊥) → (Asks sessions IsGet input → ⊥) → (Asks sessions IsDel input → ⊥) → (Asks sessions IsAbort input → ⊥) → all makes_sync es ≡ true
-  for_sync (call.Put key value) line room put get del abort = absurd (put (asks (call.Put key value) line IsPut tt))
-  for_sync (call.Get key) line room put get del abort = absurd (get (asks (call.Get key) line IsGet tt))
-  for_sync (call.Del key) line room put get del abort = absurd (del (asks (call.Del key) line IsDel tt))
-  for_sync call.Abort line room put get del abort = absurd (abort (asks call.Abort line IsAbort tt))
-  for_sync c line ready put get del abort = ready_for_sync (needs_sync g heard session c) es ready
+  walks_by : (c : Call) → IsLine c → HasDoneFor g heard session c es → (Asks sessions IsPut input → ⊥) → (Asks sessions IsDel input → ⊥) → (Asks sessions IsAbort input → ⊥) → all is_walk es ≡ true
+  walks_by (call.Put key value) line room put del abort = absurd (put (asks (call.Put key value) line IsPut tt))
+  walks_by (call.Get key) line room put del abort = each_so is_look is_walk look_walks es (each_looks session (g.row_of key) es room.0 room.1)
+  walks_by (call.Del key) line room put del abort = absurd (del (asks (call.Del key) line IsDel tt))
+  walks_by (call.Scan from to) line room put del abort = each_so (in_walk session) is_walk (walk_of session) es room.0
+  walks_by call.Abort line room put del abort = absurd (abort (asks call.Abort line IsAbort tt))
+  walks_by c line ready put del abort = each_so is_look is_walk look_walks es (each_so makes_sync is_look sync_looks es (ready_for_sync (needs_sync g heard session c) es ready))
+
+  for_sync : (c : Call) → IsLine c → HasDoneFor g heard session c es → (Asks sessions IsPut input → ⊥) → (Asks sessions IsGet input → ⊥) → (Asks sessions IsDel input → ⊥) → (Asks sessions IsScan input → ⊥) → (Asks sessions IsAbort input → ⊥) → all makes_sync es ≡ true
+  for_sync (call.Put key value) line room put get del scan abort = absurd (put (asks (call.Put key value) line IsPut tt))
+  for_sync (call.Get key) line room put get del scan abort = absurd (get (asks (call.Get key) line IsGet tt))
+  for_sync (call.Del key) line room put get del scan abort = absurd (del (asks (call.Del key) line IsDel tt))
+  for_sync (call.Scan from to) line room put get del scan abort = absurd (scan (asks (call.Scan from to) line IsScan tt))
+  for_sync call.Abort line room put get del scan abort = absurd (abort (asks call.Abort line IsAbort tt))
+  for_sync c line ready put get del scan abort = ready_for_sync (needs_sync g heard session c) es ready
 
   pub stopped : (c : Call) → IsAskedNext sessions input heard session c → IsRoomFor g heard session (call_behind (outcomes heard) c) es → StoppedLaws sessions input heard es
-  stopped c asked room = elim (turn c asked) [
-    | inl due ↦
-        let back : HasDoneFor g heard session call.Abort es = subst (λ (d : Call). HasDoneFor g heard session d es) due.1 room.0 in record {
-          structure = λ none. each_none (λ e. puts_back session e || is_paging e) is_structure (back_grows_none session) es back;
-          backs = λ none calm. absurd (calm due.0);
-          looks = λ put del abort calm. absurd (calm due.0);
-          for_sync = λ put get del abort calm. absurd (calm due.0);
-        }
-    | inr own ↦
-        let there : HasDoneFor g heard session c es = subst (λ (d : Call). HasDoneFor g heard session d es) own.0 room.0 in record {
-          structure = structure c own.1 there;
-          backs = λ none calm. backs c own.1 there none;
-          looks = λ put del abort calm. looks c own.1 there put del abort;
-          for_sync = λ put get del abort calm. for_sync c own.1 there put get del abort;
-        }
-  ]
+  stopped c asked room = go (turn c asked)
+    where
+      there : (d : Call) → call_behind (outcomes heard) c ≡ d → HasDoneFor g heard session d es
+      there d is = subst (λ (d : Call). HasDoneFor g heard session d es) is room.0
+
+      go : Turn c → StoppedLaws sessions input heard es
+      go (Due due is) = record {
+        structure = λ none. each_none (λ e. puts_back session e || is_paging e) is_structure (back_grows_none session) es (there call.Abort is);
+        backs = λ none calm. absurd (calm due);
+        walks = λ put del abort calm. absurd (calm due);
+        looks = λ put del scan abort calm still. absurd (calm due);
+        for_sync = λ put get del scan abort calm still. absurd (calm due);
+      }
+      go (Goes on from to is) = let done = there (call.Scan from to) is in record {
+        structure = λ none. done.1;
+        backs = λ none calm. each_none (in_walk session) is_back (walk_backs_none session) es done.0;
+        walks = λ put del abort calm. each_so (in_walk session) is_walk (walk_of session) es done.0;
+        looks = λ put del scan abort calm still. absurd (still on);
+        for_sync = λ put get del scan abort calm still. absurd (still on);
+      }
+      go (Own is line) = let done = there c is in record {
+        structure = structure c line done;
+        backs = λ none calm. backs c line done none;
+        walks = λ put del abort calm. walks_by c line done put del abort;
+        looks = λ put del scan abort calm still. looks c line done put del scan abort;
+        for_sync = λ put get del scan abort calm still. for_sync c line done put get del scan abort;
+      }
 
 pub every_stopped_call : EveryStoppedCall
 every_stopped_call input g heard es r = stopped g.workers input g heard r.session es r.call r.asks r.room

@@ -35,9 +35,10 @@ use Rattle.core_calls.specs.Runs.{IsRefused, Tells}
 use Rattle.core_calls.specs.Steps.{IsBehind, call_behind, due_call, hindered_in, is_structure}
 use Rattle.call_parts.specs.Deeds.{Answers}
 use Rattle.call_parts.specs.Memory.{Memory}
+use Rattle.call_parts.specs.Rooms.{most_of}
 use Rattle.engine_trait.specs.Calls.{is_half_done}
 use Rattle.engine_trait.specs.Limits.{limits}
-use Rattle.engine_trait.specs.Refusals.{in_transaction, log_refusal, refusal_in}
+use Rattle.engine_trait.specs.Refusals.{IsMetOnWay, in_transaction, log_refusal, refusal_in}
 use Rattle.worker_log.specs.Logs.{Log}
 use Rattle.transcripts.specs.Transcripts.{first_lines}
 use Rattle.script_run.specs.Runs.{Executes}
@@ -176,12 +177,25 @@ not_spent g own xs c why backs us es few before refused spent =
     let late = r.3 in
     absurd (omega (arith, e, f, h, few, before, late))
 
+-- a begin and a commit have few events, and come to no row
+abbrev IsPlain : Call → Type 0
+IsPlain c = (c ≡ call.Begin) ⊎ (c ≡ call.Commit)
+
+plain_few : (c : Call) → IsPlain c → most_of c ≡ 2 ^ 18
+plain_few c (inl e) = ap most_of e
+plain_few c (inr e) = ap most_of e
+
+plain_alone : (c : Call) (why : Refusal) → IsPlain c → IsMetOnWay c why → ⊥
+plain_alone c why (inl e) met = subst (λ (d : Call). IsMetOnWay d why) e met
+plain_alone c why (inr e) met = subst (λ (d : Call). IsMetOnWay d why) e met
+
 -- Where the tests refuse nothing behind its events, and it asks what its line does, no refusal is answered.
 not_refused : (g : Opening) (group own : ℕ) (xs : List Done) (was : Log) (c : Call) (why : Refusal) (backs : List Step) (us : List Unsaid) (es : List Event) → let x : Done = by own (Refused c why backs) us es in
-    Answers g xs x was → Tells limits g group xs x → call_behind (outcomes xs) c ≡ c → length (front xs) ≤ 2 ^ 18 → refusal_in g (state_after g (front xs ++ es)) own (is_half_done own xs) was c ≡ None → ⊥
-not_refused g group own xs was c why backs us es a t asks few none = elim (a.refused why refl) [
+    IsPlain c → Answers g xs x was → Tells limits g group xs x → call_behind (outcomes xs) c ≡ c → length (front xs) ≤ 2 ^ 18 → refusal_in g (state_after g (front xs ++ es)) own (is_half_done own xs) was c ≡ None → ⊥
+not_refused g group own xs was c why backs us es plain a t asks few none = elim (a.refused why refl) [
   | inl there ↦ let clash : None ≡ Some why = sym none ∙ (ap (refusal_in g (state_after g (front xs ++ es)) own (is_half_done own xs) was) (sym asks) ∙ there) in absurd (cc)
-  | inr spent ↦ not_spent g own xs c why backs us es a.few few t.refused spent
+  | inr (inl spent) ↦ not_spent g own xs c why backs us es (let f = a.few in let m = plain_few c plain in omega (arith, f, m)) few t.refused spent
+  | inr (inr met) ↦ plain_alone c why plain (subst (λ (d : Call). IsMetOnWay d why) asks met)
 ]
 
 -- the deed of which a mark tells
@@ -262,7 +276,7 @@ module _ (master : EveryMasterIn) (s : Story) (size : Size) (base : ℕ) (at : B
         record { deed = ap as_begun (sym said ∙ tells); floor = t.steps.1; session = begun_at g own (start g) es t.steps.1 t.met calm t.steps.2 }
     begins (Aborted d n at backs) us es before c t a log = let abort : d ≡ call.Abort = t.hindered in absurd (cc)
     begins (Refused d why backs) us es before c t a log =
-        absurd (not_refused g size.group own [] before d why backs us es a t refl (omega arith) (begin_refused d why backs us es before c t a log))
+        absurd (not_refused g size.group own [] before d why backs us es (inl c) a t refl (omega arith) (begin_refused d why backs us es before c t a log))
     begins _ us es before c t a log = absurd (cc)
 
     module _ (x : Done) (few : length x.events ≤ 2 ^ 18) (b : HasBegun g own x.outcome.deed x.events) where
@@ -289,7 +303,7 @@ module _ (master : EveryMasterIn) (s : Story) (size : Size) (base : ℕ) (at : B
           let abort : d ≡ call.Abort = subst (λ (e : Deed). IsBehind (hindered_in e) x.outcome.session (by own (Aborted d n at backs) us es).outcome) b.deed t.hindered in
           absurd (cc)
       commits (Refused d why backs) us es was c t a =
-          absurd (not_refused g size.group own (x ∷ []) was d why backs us es a t (ap (λ (e : Deed). due_call (hindered_in e) d) b.deed) few (commit_open d why backs us es was c t))
+          absurd (not_refused g size.group own (x ∷ []) was d why backs us es (inr c) a t (ap (λ (e : Deed). due_call (hindered_in e) d) b.deed) few (commit_open d why backs us es was c t))
       commits _ us es was c t a = absurd (cc)
 
   -- the oldest call is a begin
@@ -311,5 +325,5 @@ every_first_commit master s size base counts later z x at y one same begin commi
     let is = is_by own z same in
     let was : Log = h.1.0.log z.outcome.session in
     let began = begins_first master s size base at counts calls y x h.1.0 one begin first in
-    ap answered (commits master s size base at counts calls y own one x first.2.how.few began z.outcome.deed z.outcome.unsaid z.events was commit
+    ap answered (commits master s size base at counts calls y own one x (subst (λ (c : Call). length x.events ≤ most_of c) begin first.2.how.few) began z.outcome.deed z.outcome.unsaid z.events was commit
     (subst (Tells limits y.opening size.group (x ∷ [])) is h.1.2.tells) (subst (λ (d : Done). Answers y.opening (x ∷ []) d was) is h.1.2.how))

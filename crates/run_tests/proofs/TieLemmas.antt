@@ -1,6 +1,9 @@
 -- What ties a run's records to each other.
-use Rattle.std.proofs.Common.{◌≡◌, ◌≤◌, ◌++◌, ◌==◌, ℕ, Bool, true, false, cond, not, leb, List, [], ◌∷◌, length, Some, None, refl, sym, ◌∙◌, ap, subst, arith, inl, inr, true≢false}
+use Rattle.std.proofs.Common.{◌≡◌, ◌≤◌, ◌++◌, ◌&&◌, ◌==◌, ℕ, Bool, true, false, cond, not, leb, List, [], ◌∷◌, length, Some, None, refl, sym, ◌∙◌, ap, subst, arith, inl, inr, true≢false}
+use Rattle.std.proofs.lemmas.Bool.{and_parts}
 use Rattle.map_model.specs.Lists.{Has, keep}
+use Rattle.map_model.specs.Maps.{MapAnswer}
+use Rattle.map_model.specs.declared.call.Answer.TheVariants as answer
 use Rattle.map_model.specs.declared.call.Answered.{Answered}
 use Rattle.map_model.specs.declared.call.Call.{Call}
 use Rattle.map_model.specs.declared.call.Call.TheVariants.{Commit}
@@ -8,12 +11,18 @@ use Rattle.map_model.specs.declared.call.Refusal.{Refusal}
 use Rattle.map_model.specs.declared.call.Refusal.TheVariants.{Conflict}
 use Rattle.map_model.specs.Pairings.{in_turn, is_last, is_last_refusal, is_open_line, script_of}
 use Rattle.image_model.specs.Entries.{Entry}
-use Rattle.core_calls.specs.Deeds.{Deed, Refused, answered}
+use Rattle.core_state.specs.Events.{Event}
+use Rattle.core_state.specs.Needs.{are_hot, following, holds_answer, is_following, is_leaf_of, needs}
+use Rattle.core_state.specs.Openings.{Opening}
+use Rattle.core_state.specs.States.{State}
+use Rattle.core_state.specs.Steps.{run, state_after}
+use Rattle.core_calls.specs.Deeds.{Deed, Met, Refused, answered}
+use Rattle.core_calls.specs.Scans.{is_scan}
 use Rattle.core_calls.specs.Steps.{hindered_in, is_conflict}
 use Rattle.lean_disk.specs.Story.{Story}
-use Rattle.core_calls.specs.Fronts.{Done}
+use Rattle.core_calls.specs.Fronts.{Done, front}
 use Rattle.script_run.specs.Runs.{calls_of}
-use Rattle.run_tests.specs.Ties.{EveryConflictIsAborted, EveryFlushedIsLeft, EveryHandIsNext, EveryUsedIsWritten}
+use Rattle.run_tests.specs.Ties.{EveryConflictIsAborted, EveryFlushedIsLeft, EveryHandIsNext, EveryPairIsHeld, EveryUsedIsWritten}
 
 hindered_open : (d : Deed) (c : Call) → hindered_in d ≡ Some c → is_last (answered d) ≡ false
 hindered_open (Refused asks why backs) c e = at why e
@@ -31,6 +40,30 @@ not_hindered newest earlier c closed e =
 pub every_conflict_is_aborted : (s0 s1 : Story) → EveryConflictIsAborted s0 s1
 every_conflict_is_aborted s0 s1 size status feed0 feed1 put sink0 sink1 x newest earlier c are w d e =
     not_hindered newest earlier c (subst (λ (xs : List Done). is_open_line (calls_of xs) ≡ false) are (x.closed w d)) e
+
+-- who tells a pair tells it of a scan
+tells_scan : (d : Deed) (key value : ℕ) → answered d ≡ answer.Pair key value → is_scan d ≡ true
+tells_scan (Met from to k v alone) key value e = refl
+tells_scan _ key value e = absurd (cc)
+
+pub every_pair_is_held : (s0 s1 : Story) → EveryPairIsHeld s0 s1
+every_pair_is_held s0 s1 size status feed0 feed1 put sink0 sink1 x later earlier y key value are told =
+    let g : Opening = x.executed.opening in
+    let r = (x.scans later earlier y are (tells_scan y.outcome.deed key value told)).told key value told in
+    let s : State = run g (state_after g (front earlier)) r.before in
+    let w : ℕ = y.outcome.session in
+    let a : MapAnswer = MapAnswer.Pair key r.word in
+    let n = (and_parts (are_hot s (r.page ∷ [])) (needs g s (Event.Next w r.page r.at a)) r.met).1 in
+    let b = (and_parts (s.worker w).is_open (is_leaf_of g (s.page r.page).node r.page r.at && (is_following a (following g.format r.at (s.page r.page).node.pairs (s.page r.page).node.high) && holds_answer g s w a)) n).1 in
+    let c = (and_parts (is_leaf_of g (s.page r.page).node r.page r.at) (is_following a (following g.format r.at (s.page r.page).node.pairs (s.page r.page).node.high) && holds_answer g s w a) b).1 in
+    record {
+      before = r.before;
+      after = Event.Next w r.page r.at a ∷ r.after;
+      is = r.is;
+      held = (and_parts (is_following a (following g.format r.at (s.page r.page).node.pairs (s.page r.page).node.high)) (holds_answer g s w a) c).1;
+      page = r.page;
+      stood = r.stood;
+    }
 
 -- lists that end alike
 last_of : (xs ys : List Answered) (x y : Answered) → xs ++ x ∷ [] ≡ ys ++ y ∷ [] → (xs ≡ ys) × (x ≡ y)

@@ -4,6 +4,7 @@ use Rattle.map_model.specs.declared.call.Call.{Call}
 use Rattle.map_model.specs.declared.call.Call.TheVariants as call
 use Rattle.map_model.specs.declared.call.Answer.TheVariants as answer
 use Rattle.map_model.specs.Lists.{Has, all, any}
+use Rattle.map_model.specs.Maps.{MapAnswer}
 use Rattle.map_model.specs.Journals.{Journal, Name, Txn, Wrote}
 use Rattle.core_calls.specs.Deeds.{answered, asked}
 use Rattle.core_calls.specs.Fronts.{Done}
@@ -19,7 +20,7 @@ use Rattle.disk_image.specs.Shown.{Areas, image_by}
 use Rattle.core_state.specs.Openings.{Opening}
 use Rattle.core_state.specs.Events.{Event, Mode}
 use Rattle.call_parts.specs.Rooms.{is_paging, makes_sync}
-use Rattle.engine_front.specs.Turns.{IsHindered}
+use Rattle.engine_front.specs.Turns.{IsHindered, IsScanning}
 use Rattle.recovery.specs.Opened.{IsGreatest}
 use Rattle.recovery.specs.Telling.{TellsAll}
 use Rattle.script_lang.specs.Lines.{Spells, line_of}
@@ -131,6 +132,10 @@ abbrev pub IsDel : Call → Type 0
 IsDel (call.Del key) = Unit {0}
 IsDel _ = ⊥
 
+abbrev pub IsScan : Call → Type 0
+IsScan (call.Scan from to) = Unit {0}
+IsScan _ = ⊥
+
 abbrev pub IsAbort : Call → Type 0
 IsAbort call.Abort = Unit {0}
 IsAbort _ = ⊥
@@ -149,13 +154,24 @@ takes_shared _ = false
 abbrev pub is_look : Event → Bool
 is_look e = takes_shared e || is_paging e
 
+-- a scan passes a gap
+abbrev pub passes_gap : Event → Bool
+passes_gap (Event.Next w p k (MapAnswer.Gap high)) = true
+passes_gap _ = false
+
+-- so it may be where keys are looked for, one behind another
+abbrev pub is_walk : Event → Bool
+is_walk e = passes_gap e || is_look e
+
 -- Where no line is a put, it leaves no change of the tree; where none is an abort and the newest call met no conflict, nothing that is put back; where none is
--- a put, a del or an abort and it met none, what may be where a key is looked for; and where none is a get either, logs were flushed alone.
+-- a put, a del or an abort and it met none, what may be where keys are looked for, one behind another; where none is a scan either, and none goes on, what may be where one
+-- is looked for; and where none is a get either, logs were flushed alone.
 pub record StoppedLaws (sessions : ℕ) (input : List ℕ) (heard : List Done) (es : List Event) : Type 0 where
   pub structure : (Asks sessions IsPut input → ⊥) → any is_structure es ≡ false
   pub backs : (Asks sessions IsAbort input → ⊥) → (IsHindered heard → ⊥) → any is_back es ≡ false
-  pub looks : (Asks sessions IsPut input → ⊥) → (Asks sessions IsDel input → ⊥) → (Asks sessions IsAbort input → ⊥) → (IsHindered heard → ⊥) → all is_look es ≡ true
-  pub for_sync : (Asks sessions IsPut input → ⊥) → (Asks sessions IsGet input → ⊥) → (Asks sessions IsDel input → ⊥) → (Asks sessions IsAbort input → ⊥) → (IsHindered heard → ⊥) → all makes_sync es ≡ true
+  pub walks : (Asks sessions IsPut input → ⊥) → (Asks sessions IsDel input → ⊥) → (Asks sessions IsAbort input → ⊥) → (IsHindered heard → ⊥) → all is_walk es ≡ true
+  pub looks : (Asks sessions IsPut input → ⊥) → (Asks sessions IsDel input → ⊥) → (Asks sessions IsScan input → ⊥) → (Asks sessions IsAbort input → ⊥) → (IsHindered heard → ⊥) → (IsScanning heard → ⊥) → all is_look es ≡ true
+  pub for_sync : (Asks sessions IsPut input → ⊥) → (Asks sessions IsGet input → ⊥) → (Asks sessions IsDel input → ⊥) → (Asks sessions IsScan input → ⊥) → (Asks sessions IsAbort input → ⊥) → (IsHindered heard → ⊥) → (IsScanning heard → ⊥) → all makes_sync es ≡ true
 
 abbrev pub EveryStoppedCall : Type 0
 EveryStoppedCall = (input : List ℕ) (g : Opening) (heard : List Done) (es : List Event) → IsRoomOfNext input g heard es → StoppedLaws g.workers input heard es

@@ -1,15 +1,21 @@
 -- What ties a run's records to each other: its calls, its script, its disk and the engine's memory.
 use Rattle.std.specs.Prelude.{◌≡◌, ◌<◌, ◌≤◌, ◌+◌, ◌++◌, ℕ, suc, true, false, leb, List, ◌∷◌, length, IsTrue, Some}
+use Rattle.map_model.specs.declared.call.Answer.TheVariants as answer
 use Rattle.map_model.specs.declared.call.Answered.{Answered}
 use Rattle.map_model.specs.declared.call.Call.{Call}
 use Rattle.map_model.specs.declared.call.Call.TheVariants.{Commit}
 use Rattle.map_model.specs.Journals.{Journal}
 use Rattle.map_model.specs.Lists.{Has}
 use Rattle.map_model.specs.Pairings.{in_turn, script_of}
-use Rattle.core_calls.specs.Fronts.{Done}
+use Rattle.core_calls.specs.Deeds.{answered}
+use Rattle.core_calls.specs.Fronts.{Done, front}
 use Rattle.core_calls.specs.Steps.{hindered_in}
 use Rattle.core_crash.specs.Crashes.{log_of}
+use Rattle.core_state.specs.Events.{Event}
+use Rattle.core_state.specs.Needs.{holds_row, value_in}
+use Rattle.core_state.specs.Openings.{Opening}
 use Rattle.core_state.specs.States.{State}
+use Rattle.core_state.specs.Steps.{run, state_after}
 use Rattle.disk_image.specs.Runs.{Block, block_at}
 use Rattle.disk_image.specs.Shown.{IsCleanDisk}
 use Rattle.disk_slots.specs.declared.master.Master.{Master}
@@ -35,6 +41,22 @@ use Rattle.lean_shell.specs.Starts.{IsOldestOf}
 abbrev pub EveryConflictIsAborted : (s0 s1 : Story) → Type 0
 EveryConflictIsAborted s0 s1 = (size : Size) (status : ℕ) (feed0 feed1 : Feed) (put : List ℕ) (sink0 sink1 : ℕ) (x : Ran size status s0 s1 feed0 feed1 put sink0 sink1) (newest : Done) (earlier : List Done) (c : Call) →
     x.calls ≡ newest ∷ earlier → (x.stop ≡ stops.WriteFault → ⊥) → works_on x.stop ≡ true → hindered_in newest.outcome.deed ≡ Some c → ⊥
+
+-- ## What a scan tells
+
+-- At some moment among these events of session w, from the state s on, it had the row of this key, and a leaf had the key with this value.
+pub record IsHeldThere (g : Opening) (s : State) (w : ℕ) (es : List Event) (key value : ℕ) : Type 0 where
+  pub before : List Event
+  pub after : List Event
+  pub is : es ≡ before ++ after
+  pub held : holds_row ((run g s before).row (g.row_of key)) w ≡ true
+  pub page : ℕ
+  pub stood : value_in g.format ((run g s before).page page).node key ≡ Some value
+
+-- So it is of each pair that a scan of a run told: none was told whose row its session had not, or which did not stand there.
+abbrev pub EveryPairIsHeld : (s0 s1 : Story) → Type 0
+EveryPairIsHeld s0 s1 = (size : Size) (status : ℕ) (feed0 feed1 : Feed) (put : List ℕ) (sink0 sink1 : ℕ) (x : Ran size status s0 s1 feed0 feed1 put sink0 sink1) (later earlier : List Done) (y : Done) (key value : ℕ) →
+    later ++ y ∷ earlier ≡ x.calls → answered y.outcome.deed ≡ answer.Pair key value → IsHeldThere x.executed.opening (state_after x.executed.opening (front earlier)) y.outcome.session y.events key value
 
 -- ## The commit in hand
 

@@ -6,7 +6,7 @@ ghost use Rattle.disk_slots.specs.Slots as slots;
 ghost use Rattle.log_block.specs.Block as blocks;
 ghost use Rattle.run_tests.specs.Laws.{EveryNextRun};
 ghost use Rattle.run_tests.specs.RuledOut.{EveryDurableIsFound, EveryFirstBegin, EveryFirstCommit, EveryKeyStands, EveryOtherKeyStands, EveryReadIsFair, EveryStoppedCall};
-ghost use Rattle.run_tests.specs.Ties.{EveryConflictIsAborted, EveryFlushedIsLeft, EveryHandIsNext, EveryUsedIsWritten};
+ghost use Rattle.run_tests.specs.Ties.{EveryConflictIsAborted, EveryFlushedIsLeft, EveryHandIsNext, EveryPairIsHeld, EveryUsedIsWritten};
 
 use lean_disk::Disk;
 
@@ -62,6 +62,11 @@ pub fn every_read_is_fair()
 /// Behind a conflict the abort was executed, where the engine works on.
 pub fn every_conflict_is_aborted<D: Disk>(old: &D, new: &D)
     ensures { EveryConflictIsAborted (D.story old.now) (D.story new.now) }
+{}
+
+/// Each pair that a scan told was locked by its session, and stood there.
+pub fn every_pair_is_held<D: Disk>(old: &D, new: &D)
+    ensures { EveryPairIsHeld (D.story old.now) (D.story new.now) }
 {}
 
 /// The commit in hand is what the script's next line asks.

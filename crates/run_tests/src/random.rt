@@ -33,6 +33,9 @@ const KEYS: u32 = 12;
 // How many changes a transaction makes.
 const CHANGES: usize = 64;
 
+// How many keys a scan asks for at most.
+const RANGE: u32 = 16;
+
 // A change: its key, and the value before.
 #[derive(Clone, Copy)]
 struct Change {
@@ -112,6 +115,7 @@ fn text_of<R: Abort>(rt: &R, alloc: Global, call: Call) -> String {
         Call::Get { key } => format!(in alloc; "1 get {key}\n").expect(rt, MEMORY),
         Call::Put { key, value } => format!(in alloc; "1 put {key} {value}\n").expect(rt, MEMORY),
         Call::Del { key } => format!(in alloc; "1 del {key}\n").expect(rt, MEMORY),
+        Call::Scan { from, to } => format!(in alloc; "1 scan {from} {to}\n").expect(rt, MEMORY),
         Call::Commit => line(rt, alloc, "1 commit\n"),
         Call::Abort => line(rt, alloc, "1 abort\n"),
         _ => line(rt, alloc, "1 begin\n"),
@@ -174,7 +178,24 @@ impl Plain {
         format!(in alloc; "1 aborted 1.{number}").expect(rt, MEMORY)
     }
 
-    // What it answers to a line.
+    // What it answers to a scan: each pair from the first key to the last one. There are too few keys for a scan to stop.
+    fn scan<R: Abort>(&self, rt: &R, alloc: Global, from: u64, to: u64, printed: &mut Vec<String>) {
+        if !self.is_open {
+            printed
+                .push(line(rt, alloc, "1 no-transaction"))
+                .expect(rt, MEMORY);
+            return;
+        }
+        for (key, value) in &self.map {
+            if from <= *key && *key <= to {
+                let pair = format!(in alloc; "1 pair {key} {value}").expect(rt, MEMORY);
+                printed.push(pair).expect(rt, MEMORY);
+            }
+        }
+        printed.push(line(rt, alloc, "1 end")).expect(rt, MEMORY);
+    }
+
+    // What it answers to a line that has one answer.
     fn answer<R: Abort>(&mut self, rt: &R, alloc: Global, call: Call) -> String {
         match call {
             Call::Get { key } => self.get(rt, alloc, key),
@@ -198,6 +219,14 @@ impl Plain {
     }
 }
 
+// A scan from a key on, or from the one behind its last one.
+fn any_scan(random: &mut Pcg32, from: u64) -> Call {
+    let to = from
+        .saturating_add(u64::from(random.next_word() % RANGE))
+        .saturating_sub(1);
+    Call::Scan { from, to }
+}
+
 // A line, of which so many in a hundred end a transaction.
 fn any_call(random: &mut Pcg32, is_open: bool, ends: u32) -> Call {
     let key = u64::from(random.next_word() % KEYS);
@@ -215,7 +244,8 @@ fn any_call(random: &mut Pcg32, is_open: bool, ends: u32) -> Call {
     }
     match random.next_word() % 16 {
         0 => Call::Begin,
-        1..=5 => Call::Get { key },
+        1..=3 => Call::Get { key },
+        4..=5 => any_scan(random, key),
         6..=10 => Call::Del { key },
         _ => Call::Put { key, value },
     }
@@ -255,8 +285,12 @@ fn script_of<R: Abort>(
         let text = text_of(rt, alloc, call);
         script.text.push_str(&text).expect(rt, MEMORY);
         let before = plain.committed;
-        let answer = plain.answer(rt, alloc, call);
-        script.printed.push(answer).expect(rt, MEMORY);
+        if let Call::Scan { from, to } = call {
+            plain.scan(rt, alloc, from, to, &mut script.printed);
+        } else {
+            let answer = plain.answer(rt, alloc, call);
+            script.printed.push(answer).expect(rt, MEMORY);
+        }
         if plain.committed > before {
             let number = plain.begun;
             let durable = format!(in alloc; "1 durable 1.{number}").expect(rt, MEMORY);

@@ -1,8 +1,10 @@
 // What a crash leaves of the files by the plain rules.
-use crate::rule_files::{Commit, Kind, Left, NEVER, Record, copy_of, is_before, set};
+use crate::rule_files::{
+    Commit, Kind, Left, NEVER, Record, add_key, copy_of, is_before, keys_of, set,
+};
 use crate::rules::Rules;
 use lean_disk::Choice;
-use std::collections::BTreeMap;
+use std::collections::{BTreeMap, BTreeSet};
 use std::process::Abort;
 
 /// A crash at a moment. What is not synced of an area is left by one choice, and by the other where the area's bit is set.
@@ -150,6 +152,20 @@ impl Rules {
         }
     }
 
+    // Adds the keys of the changes that are made again: each change stands upon the one before it in the leaf, so up to the first that is not found.
+    fn add_entries<R: Abort>(&self, rt: &R, crash: &Crash, entries: &mut BTreeSet<u64>) {
+        for record in &self.records {
+            if matches!(record.kind, Kind::Change { .. } | Kind::PutBack) {
+                if !self.is_found(crash, record) {
+                    return;
+                }
+                if let Kind::Change { key, .. } = record.kind {
+                    add_key(rt, entries, key);
+                }
+            }
+        }
+    }
+
     /// What a crash leaves of a disk that was left so before the opening. None, if something that was told durable is not there.
     pub(crate) fn left<R: Abort>(&self, rt: &R, before: &Left, crash: &Crash) -> Option<Left> {
         let Some(found) = self.found(crash) else {
@@ -168,6 +184,8 @@ impl Rules {
             }
             last = Some(commit);
         }
+        let mut entries = keys_of(rt, self.alloc, &before.entries);
+        self.add_entries(rt, crash, &mut entries);
         let mut blocks = 0u64;
         for block in &self.blocks {
             if crash.keeps(block.session.saturating_add(1), block.written, block.synced) {
@@ -181,6 +199,7 @@ impl Rules {
             blocks,
             base: self.greatest(crash, None).max(found.floor),
             map,
+            entries,
         })
     }
 }

@@ -65,6 +65,13 @@ fn any_choice(random: &mut Pcg32) -> Choice {
     }
 }
 
+// A scan, also one whose first key is above its last one, or above all keys.
+fn any_scan(random: &mut Pcg32) -> Call {
+    let from = any_below(random, 40);
+    let to = from.saturating_add(any_below(random, 20)).saturating_sub(2);
+    Call::Scan { from, to }
+}
+
 fn any_call(random: &mut Pcg32, is_open: bool) -> Call {
     let place = any_below(random, KEYS.len() as u64);
     let key = KEYS.get(place as usize).copied().unwrap_or(0);
@@ -74,7 +81,8 @@ fn any_call(random: &mut Pcg32, is_open: bool) -> Call {
         return Call::Begin;
     }
     match random.next_word() % 32 {
-        0..=6 => Call::Get { key },
+        0..=4 => Call::Get { key },
+        5..=6 => any_scan(random),
         7..=17 => Call::Put { key, value },
         18..=20 => Call::Del { key },
         21..=28 => Call::Commit,

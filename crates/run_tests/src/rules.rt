@@ -1,12 +1,12 @@
 // The rules of the numbers that a script's output tells, and of what is durable, as a plain program beside the engine: it was written
 // from the rules in words. All keys are in one leaf, the first page, and no call needs room.
 use crate::rule_files::{
-    Block, Commit, Kind, Left, Master, NEVER, Record, copy_of, is_before, set,
+    Block, Commit, Kind, Left, Master, NEVER, Record, add_key, copy_of, is_before, keys_of, set,
 };
 use crate::runs::MEMORY;
 use map_model::{Answer, Answered, Call, Refusal};
 use std::alloc::{AllocError, Global};
-use std::collections::BTreeMap;
+use std::collections::{BTreeMap, BTreeSet};
 use std::process::Abort;
 
 // The moment at which an opening is done; calls and lines are counted from there. Its master was written one moment before.
@@ -18,6 +18,9 @@ const ROOM: u64 = 2000;
 const CHANGE: u64 = 53;
 
 const END: u64 = 25;
+
+// How many pairs a scan tells.
+const PAIRS: u64 = 64;
 
 // A number and the log that has its record. Log 0 is none.
 #[derive(Clone, Copy)]
@@ -87,6 +90,8 @@ pub(crate) struct Rules {
     pub masters: Vec<Master>,
     pub commits: Vec<Commit>,
     map: BTreeMap<u64, u64>,
+    // The keys that have an entry in the leaf.
+    entries: BTreeSet<u64>,
     pub generation: u64,
     /// How many calls of the disk were made by now, and lines put.
     pub moment: u64,
@@ -138,6 +143,7 @@ impl Rules {
             masters: Vec::new(alloc),
             commits: Vec::new(alloc),
             map: copy_of(rt, alloc, &left.map),
+            entries: keys_of(rt, alloc, &left.entries),
             generation: left.generation.saturating_add(1),
             moment: OPENED,
             text: String::new(alloc),
@@ -443,6 +449,74 @@ impl Rules {
         self.tell(rt, session, call, Answer::Value(found));
     }
 
+    // The keys of the entries from a key on, in rising order.
+    fn entries_from<R: Abort>(&self, rt: &R, from: u64) -> Vec<u64> {
+        let mut keys = Vec::new(self.alloc);
+        for key in &self.entries {
+            if *key >= from {
+                keys.push(*key).expect(rt, MEMORY);
+            }
+        }
+        keys
+    }
+
+    fn tell_pair<R: Abort>(&mut self, rt: &R, session: u32, call: Call, key: u64, value: u64) {
+        self.say(rt, format!(in self.alloc; "{session} pair {key} {value}"));
+        self.tell(rt, session, call, Answer::Pair { key, value });
+    }
+
+    // Goes from entry to entry, and tells the pairs. Of each entry that it meets it takes the row, of one that was deleted too; the leaf's stamp is met with a
+    // pair, or behind the last entry. What it is answered behind the pairs; none if a lock was refused.
+    fn walk<R: Abort>(
+        &mut self,
+        rt: &R,
+        session: u32,
+        call: Call,
+        from: u64,
+        to: u64,
+    ) -> Option<Answer> {
+        let mut pairs = 0u64;
+        for key in &self.entries_from(rt, from) {
+            if self.is_refused(rt, session, call, *key, false) {
+                return None;
+            }
+            if let Some(value) = self.map.get(key).copied() {
+                self.touch(session, self.leaf);
+                if *key > to {
+                    return Some(Answer::End);
+                }
+                self.tell_pair(rt, session, call, *key, value);
+                pairs = pairs.saturating_add(1);
+                if *key == to {
+                    return Some(Answer::End);
+                }
+                if pairs == PAIRS {
+                    let from = key.saturating_add(1);
+                    return Some(Answer::More { from });
+                }
+            }
+        }
+        self.touch(session, self.leaf);
+        Some(Answer::End)
+    }
+
+    // From a key above its last one it meets nothing.
+    fn scan<R: Abort>(&mut self, rt: &R, session: u32, call: Call, from: u64, to: u64) {
+        let answer = if from > to {
+            Some(Answer::End)
+        } else {
+            self.walk(rt, session, call, from, to)
+        };
+        let Some(answer) = answer else {
+            return;
+        };
+        match answer {
+            Answer::More { from } => self.say(rt, format!(in self.alloc; "{session} more {from}")),
+            _ => self.say(rt, format!(in self.alloc; "{session} end")),
+        }
+        self.tell(rt, session, call, answer);
+    }
+
     // A del of an absent key reads the leaf, and makes no record.
     fn write<R: Abort>(&mut self, rt: &R, session: u32, call: Call, key: u64, value: Option<u64>) {
         if self.is_refused(rt, session, call, key, true) {
@@ -452,6 +526,7 @@ impl Rules {
         if was.is_some() || value.is_some() {
             let change = Change { session, key, was };
             self.changes.push(change).expect(rt, MEMORY);
+            add_key(rt, &mut self.entries, key);
             set(rt, &mut self.map, key, value);
             self.stage_change(rt, session, Kind::Change { key, value });
         } else {
@@ -592,6 +667,7 @@ impl Rules {
             Call::Get { key } => format!(in alloc; "{session} get {key}\n"),
             Call::Put { key, value } => format!(in alloc; "{session} put {key} {value}\n"),
             Call::Del { key } => format!(in alloc; "{session} del {key}\n"),
+            Call::Scan { from, to } => format!(in alloc; "{session} scan {from} {to}\n"),
             Call::Commit => format!(in alloc; "{session} commit\n"),
             Call::Abort => format!(in alloc; "{session} abort\n"),
             _ => format!(in alloc; "{session} begin\n"),
@@ -612,6 +688,7 @@ impl Rules {
                 Call::Get { key } => self.get(rt, session, call, key),
                 Call::Put { key, value } => self.write(rt, session, call, key, Some(value)),
                 Call::Del { key } => self.write(rt, session, call, key, None),
+                Call::Scan { from, to } => self.scan(rt, session, call, from, to),
                 Call::Commit => self.commit(rt, session),
                 _ => self.abort(rt, session, call),
             }

@@ -495,6 +495,50 @@ pub(crate) static SPLITS: Script = Script {
     ],
 };
 
+/// Two transactions with scans, and one that is open at the end. A pair is a line. The second one's first scan passes a deleted key; the last one is from a
+/// key above its last one.
+pub(crate) static SCAN: Script = Script {
+    command: &["lean", "run"],
+    text: "1 begin\n1 put 5 7\n1 put 6 8\n1 commit\n1 begin\n1 del 5\n1 scan 0 9\n1 put 7 9\n1 scan 0 9\n1 commit\n1 begin\n1 scan 6 6\n1 scan 9 0\n",
+    lines: "open 1 winners 0 undone 0\n1 begun 1.1\n1 was none\n1 was none\n1 committed 1.1 at 3\n1 durable 1.1\n1 begun 1.2\n1 was 7\n1 pair 6 8\n1 end\n1 was none\n1 pair 6 8\n1 pair 7 9\n1 end\n1 committed 1.2 at 6\n1 durable 1.2\n1 begun 1.3\n1 pair 6 8\n1 end\n1 end\n",
+    next: "1 begin\n1 scan 0 9\n",
+    finds: &[
+        find!("open 1 winners 0 undone 0\n1 begun 1.1\n1 end\n", 0, 0, 1),
+        find!("open 2 winners 0 undone 0\n1 begun 1.1\n1 end\n", 0, 0, 6),
+        find!(
+            "open 2 winners 1 undone 0\n1 begun 1.1\n1 pair 5 7\n1 pair 6 8\n1 end\n",
+            1,
+            4,
+            16
+        ),
+        find!(
+            "open 2 winners 2 undone 0\n1 begun 1.1\n1 pair 6 8\n1 pair 7 9\n1 end\n",
+            2,
+            14,
+            MANY
+        ),
+    ],
+    sweeps: &[
+        sweep!("SCAN, no bytes", NoBytes, 1, [41, 6, 12, 7]),
+        sweep!("SCAN, all bytes", AllBytes, 1, [40, 6, 12, 8]),
+        sweep!("SCAN, halves", FirstHalf, 1, [41, 6, 12, 7]),
+        sweep!("SCAN, zeros", Zeros, 1, [41, 6, 12, 7]),
+    ],
+    aparts: &[],
+    failures: &[
+        faults!("SCAN, masters", 0, 5, 0, [18, 2, 0, 0]),
+        faults!("SCAN, pages", 1, 34, 0, [136, 0, 0, 0]),
+        faults!("SCAN, log", 2, 6, 14, [8, 6, 8, 2]),
+    ],
+};
+
+/// Its dumps, behind their first lines.
+pub(crate) static SCAN_MAPS: [&str; 3] = [
+    "end\n",
+    "pair 5 7\npair 6 8\nend\n",
+    "pair 6 8\npair 7 9\nend\n",
+];
+
 /// Two sessions, whose commits are flushed in groups of two, and a sync. The opening makes 43 calls: a sync and a read more than on a disk of one
 /// log. Both commits wait for the sync, which writes and syncs each log and then a master. The first one is kept from the sync of the first
 /// log on, the second one from that of its own.
@@ -597,3 +641,50 @@ pub(crate) static CONFLICT: Script = Script {
 
 /// Its dumps, behind their first lines.
 pub(crate) static CONFLICT_MAPS: [&str; 2] = ["end\n", "pair 5 7\npair 6 8\nend\n"];
+
+/// The same where a scan meets the conflict, behind a pair: one line more.
+pub(crate) static SCAN_CONFLICT: Script = Script {
+    command: &["lean", "run"],
+    text: "1 begin\n1 put 5 7\n2 begin\n2 put 3 1\n2 scan 0 9\n2 begin\n2 put 6 8\n2 commit\n1 commit\n",
+    lines: "open 1 winners 0 undone 0\n1 begun 1.1\n1 was none\n2 begun 2.1\n2 was none\n2 pair 3 1\n2 conflict 1\n2 aborted 2.1\n2 begun 2.2\n2 was none\n2 committed 2.2 at 6\n1 committed 1.1 at 2\n1 durable 1.1\n2 durable 2.2\n",
+    next: GETS,
+    finds: &[
+        find!(
+            "open 1 winners 0 undone 0\n1 begun 1.1\n1 none\n1 none\n",
+            0,
+            0,
+            1
+        ),
+        find!(
+            "open 2 winners 0 undone 0\n1 begun 1.1\n1 none\n1 none\n",
+            0,
+            0,
+            13
+        ),
+        find!(
+            "open 2 winners 0 undone 2\n1 begun 1.1\n1 none\n1 none\n",
+            0,
+            10,
+            13
+        ),
+        find!(
+            "open 2 winners 2 undone 0\n1 begun 1.1\n1 value 7\n1 value 8\n",
+            1,
+            11,
+            MANY
+        ),
+    ],
+    sweeps: &[
+        sweep!("SCAN_CONFLICT, no bytes", NoBytes, 1, [43, 12, 3, 4]),
+        sweep!("SCAN_CONFLICT, all bytes", AllBytes, 1, [42, 12, 3, 5]),
+        sweep!("SCAN_CONFLICT, halves", FirstHalf, 1, [43, 12, 3, 4]),
+        sweep!("SCAN_CONFLICT, zeros", Zeros, 1, [43, 12, 3, 4]),
+    ],
+    aparts: &[],
+    failures: &[
+        faults!("SCAN_CONFLICT, masters", 0, 5, 0, [18, 2, 0, 0]),
+        faults!("SCAN_CONFLICT, pages", 1, 34, 0, [136, 0, 0, 0]),
+        faults!("SCAN_CONFLICT, the first log", 2, 4, 11, [8, 0, 6, 2]),
+        faults!("SCAN_CONFLICT, the second log", 3, 4, 10, [8, 6, 2, 0]),
+    ],
+};

@@ -6,7 +6,7 @@ use map_model::Call;
 use rand_core::utils::NextWord;
 use rand_pcg::Pcg32;
 use std::alloc::{AllocError, Global};
-use std::collections::BTreeMap;
+use std::collections::{BTreeMap, BTreeSet};
 use std::process::Abort;
 
 static THREE: [&str; 8] = [
@@ -72,11 +72,12 @@ struct Wanted {
     durable: Option<String>,
 }
 
-// The map as the sessions see it, what they have changed, the newest last, and what they hold.
+// The map as the sessions see it, the keys that ever had a value, what the sessions have changed, the newest last, and what they hold.
 #[derive(Drop)]
 struct Plain {
     alloc: Global,
     map: BTreeMap<u64, u64>,
+    entries: BTreeSet<u64>,
     changes: Vec<Change>,
     held: Vec<Held>,
     sessions: [Session; 3],
@@ -100,6 +101,7 @@ impl Plain {
         Plain {
             alloc,
             map: BTreeMap::new(alloc),
+            entries: BTreeSet::new(alloc),
             changes: Vec::new(alloc),
             held: Vec::new(alloc),
             sessions: [NEW; 3],
@@ -126,7 +128,9 @@ impl Plain {
         self.map.get(&key).copied()
     }
 
+    // A key that loses its value keeps its entry.
     fn set(&mut self, key: u64, value: Option<u64>) -> Result<(), AllocError> {
+        self.entries.insert(key)?;
         match value {
             Some(value) => self.map.insert(key, value)?,
             None => self.map.remove(&key),
@@ -261,6 +265,41 @@ impl Plain {
         self.want_value(rt, session, word, value);
     }
 
+    // The keys of the entries from a key on, in rising order.
+    fn entries_from<R: Abort>(&self, rt: &R, from: u64) -> Vec<u64> {
+        let mut keys = Vec::new(self.alloc);
+        for key in &self.entries {
+            if *key >= from {
+                keys.push(*key).expect(rt, MEMORY);
+            }
+        }
+        keys
+    }
+
+    // A scan holds the key of each entry that it meets, one without a value too, up to the first pair that is not below its last key. There are too
+    // few keys for it to stop before.
+    fn scan<R: Abort>(&mut self, rt: &R, session: u32, from: u64, to: u64) {
+        if from <= to {
+            for key in &self.entries_from(rt, from) {
+                if self.is_hindered(rt, session, *key, false) {
+                    return;
+                }
+                if let Some(value) = self.value(*key) {
+                    if *key <= to {
+                        let line = format!(in self.alloc; "{session} pair {key} {value}").expect(
+                            rt, MEMORY,
+                        );
+                        self.want(rt, line);
+                    }
+                    if *key >= to {
+                        break;
+                    }
+                }
+            }
+        }
+        self.want_words(rt, session, "end");
+    }
+
     // A del of an absent key changes nothing.
     fn write<R: Abort>(&mut self, rt: &R, session: u32, key: u64, value: Option<u64>) {
         if self.is_hindered(rt, session, key, true) {
@@ -297,6 +336,7 @@ impl Plain {
             Call::Get { key } => self.get(rt, session, key),
             Call::Put { key, value } => self.write(rt, session, key, Some(value)),
             Call::Del { key } => self.write(rt, session, key, None),
+            Call::Scan { from, to } => self.scan(rt, session, from, to),
             Call::Commit => self.commit(rt, session),
             _ => {
                 self.end(rt, session, true);
@@ -312,6 +352,7 @@ impl Plain {
             Call::Get { key } => format!(in alloc; "{session} get {key}\n"),
             Call::Put { key, value } => format!(in alloc; "{session} put {key} {value}\n"),
             Call::Del { key } => format!(in alloc; "{session} del {key}\n"),
+            Call::Scan { from, to } => format!(in alloc; "{session} scan {from} {to}\n"),
             Call::Commit => format!(in alloc; "{session} commit\n"),
             Call::Abort => format!(in alloc; "{session} abort\n"),
             _ => format!(in alloc; "{session} begin\n"),
@@ -368,6 +409,14 @@ impl Plain {
     }
 }
 
+// A scan of a few keys, or from a key above its last one.
+fn any_scan(random: &mut Pcg32, from: u64) -> Call {
+    let to = from
+        .saturating_add(u64::from(random.next_word() % KEYS))
+        .saturating_sub(1);
+    Call::Scan { from, to }
+}
+
 // A line of a session.
 fn any_call(random: &mut Pcg32, is_open: bool) -> Call {
     let key = u64::from(random.next_word() % KEYS);
@@ -377,7 +426,8 @@ fn any_call(random: &mut Pcg32, is_open: bool) -> Call {
         return Call::Begin;
     }
     match pick {
-        0..=3 => Call::Get { key },
+        0..=2 => Call::Get { key },
+        3 => any_scan(random, key),
         4..=9 => Call::Put { key, value },
         10..=11 => Call::Del { key },
         12..=13 => Call::Commit,
@@ -419,15 +469,21 @@ fn is_due<R: Abort>(rt: &R, alloc: Global, due: &mut Vec<String>, line: &str) ->
     is_found && is_first
 }
 
+// Whether further lines answer the same call.
+fn goes_on(line: &str) -> bool {
+    line.contains(" pair ") || line.contains(" conflict ")
+}
+
 // Whether a run printed the lines that are wanted, and among them each commit durable once, behind its answer, and before the line behind
-// the next sync.
+// the next sync; and none stands between the answers to one line.
 fn is_printed<R: Abort>(rt: &R, alloc: Global, printed: &str, wanted: &[Wanted]) -> bool {
     let mut wants = wanted.iter();
     let mut due = Vec::new(alloc);
     let mut is_synced = false;
+    let mut is_within = false;
     for line in printed.lines() {
         if line.contains(" durable ") {
-            if !is_due(rt, alloc, &mut due, line) {
+            if is_within || !is_due(rt, alloc, &mut due, line) {
                 return false;
             }
         } else {
@@ -444,6 +500,7 @@ fn is_printed<R: Abort>(rt: &R, alloc: Global, printed: &str, wanted: &[Wanted])
                 return false;
             }
             is_synced = line.starts_with("synced ");
+            is_within = goes_on(line);
             if let Some(durable) = &want.durable {
                 let copy = String::from_str(alloc, durable.as_str()).expect(rt, MEMORY);
                 due.push(copy).expect(rt, MEMORY);

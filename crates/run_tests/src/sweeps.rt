@@ -7,8 +7,8 @@ use crate::runs::{
 };
 use crate::scripts::{
     ABORT, ABORT_MAPS, Apart, CONFLICT, CONFLICT_MAPS, Crashes, DUMP, Failures, Find, LONG_ABORT,
-    LONG_ABORT_MAPS, OPENING, PUT, PUT_MAPS, SIX, SIX_MAPS, SPLITS, SYNC, SYNC_MAPS, Script, Sweep,
-    TWO_MAPS, TWO_TEXT,
+    LONG_ABORT_MAPS, OPENING, PUT, PUT_MAPS, SCAN, SCAN_CONFLICT, SCAN_MAPS, SIX, SIX_MAPS, SPLITS,
+    SYNC, SYNC_MAPS, Script, Sweep, TWO_MAPS, TWO_TEXT,
 };
 use crate::trees::{grown, maps_of_splits};
 use lean_disk::{Choice, MemDisk};
@@ -328,12 +328,20 @@ fn what_dels_and_aborts_told_is_kept(rt: HostRuntime) {
 }
 
 #[test]
+fn what_scans_told_is_kept(rt: HostRuntime) {
+    let new = formatted(&rt, rt.alloc(), &FORMAT);
+    let maps = copies_of(&rt, rt.alloc(), &SCAN_MAPS);
+    go(&rt, rt.alloc(), &SCAN, &new, &maps);
+}
+
+#[test]
 fn what_two_sessions_told_is_kept(rt: HostRuntime) {
     let new = formatted(&rt, rt.alloc(), &FORMAT_TWO);
     let maps = copies_of(&rt, rt.alloc(), &SYNC_MAPS);
     go(&rt, rt.alloc(), &SYNC, &new, &maps);
     let maps = copies_of(&rt, rt.alloc(), &CONFLICT_MAPS);
     go(&rt, rt.alloc(), &CONFLICT, &new, &maps);
+    go(&rt, rt.alloc(), &SCAN_CONFLICT, &new, &maps);
 }
 
 #[test]

@@ -1,5 +1,5 @@
 -- The disk of a run, by why its script stopped: what a crash leaves of it, and what it stands for.
-use Rattle.std.proofs.Common.{◌≡◌, ◌⊎◌, inl, inr, ⊎_elim, ◌≤◌, ◌^◌, ◌++◌, ℕ, Bool, true, false, cond, List, [], ◌∷◌, length, Option, Some, None, refl, sym, ◌∙◌, ap, subst, arith, true≢false}
+use Rattle.std.proofs.Common.{◌≡◌, ◌⊎◌, inl, inr, ⊎_elim, ◌≤◌, ◌++◌, ℕ, Bool, true, false, cond, List, [], ◌∷◌, length, Option, Some, None, refl, sym, ◌∙◌, ap, subst, arith, true≢false}
 use Rattle.std.proofs.lemmas.List.{append-nil, length-append}
 use Rattle.map_model.specs.declared.call.Call.{Call}
 use Rattle.map_model.specs.declared.call.Refusal.{Refusal}
@@ -16,32 +16,32 @@ use Rattle.disk_slots.specs.declared.master.Master.{Master}
 use Rattle.disk_image.specs.Laws.{EveryAgreement}
 use Rattle.core_state.specs.Events.{Event}
 use Rattle.core_state.specs.Openings.{Opening}
-use Rattle.core_state.specs.Steps.{state_after}
 use Rattle.core_calls.specs.Crashes.{EveryRunCrash}
 use Rattle.core_calls.specs.Deeds.{Deed, Refused, answered, asked}
-use Rattle.core_calls.specs.Durables.{due, durables, moments}
 use Rattle.core_calls.specs.Fronts.{Done, front}
-use Rattle.core_calls.specs.Printed.{durable_lines, printed}
+use Rattle.core_calls.specs.Printed.{due_lines, durable_lines, printed}
 use Rattle.core_calls.specs.Runs.{EachTells, Tells}
 use Rattle.core_calls.specs.Steps.{hindered_in, is_conflict}
+use Rattle.core_calls.proofs.PrintedLemmas.{due_are}
 use Rattle.core_disk.specs.Held.{HoldsRun}
 use Rattle.core_disk.specs.Shows.{EveryShown}
 use Rattle.disk_runs.specs.Masters.{IsNoEarlier, IsOfRunBy}
 use Rattle.disk_runs.specs.Stands.{Known, Stands}
 use Rattle.call_parts.specs.Memory.{IsOf, Memory}
+use Rattle.call_parts.specs.Rooms.{most_of}
 use Rattle.engine_trait.specs.Limits.{limits}
 use Rattle.run_crashes.specs.Lines.{NoneStopped, Recovers, RunLeft, next_of}
 use Rattle.run_crashes.proofs.ReopenLemmas.{every_reopened_for}
 use Rattle.script_run.specs.Runs.{CallMissing, DiskTo, Hand, InHand, ReadsTo, StoppedIn, calls_of}
 use Rattle.script_run.specs.Runs.CallMissing.{Nothing, Part}
-use Rattle.script_run.specs.Runs.InHand.{OfAbort, OfLine}
+use Rattle.script_run.specs.Runs.InHand.{OfAbort, OfLine, OfScan}
 use Rattle.script_run.specs.declared.stop.Stop.{Stop}
 use Rattle.script_run.specs.declared.stop.Stop.TheVariants as stops
 use Rattle.transcripts.specs.Laws.{NextLaws}
 use Rattle.transcripts.specs.Told.{asked_text}
 use Rattle.lean_shell.specs.Starts.{HasLinesFor, IsAskedNext}
 use Rattle.lean_shell.proofs.Runs.LeftLemmas.{CountsFrom}
-use Rattle.lean_shell.proofs.Runs.PrintedLemmas.{lacks, prefix_few, same_prefix}
+use Rattle.lean_shell.proofs.Runs.PrintedLemmas.{Lacks, lacks, prefix_few, same_prefix}
 use Rattle.lean_shell.proofs.Runs.ScriptLemmas.{begins_line, same_line}
 
 -- ## Crashes
@@ -50,7 +50,7 @@ use Rattle.lean_shell.proofs.Runs.ScriptLemmas.{begins_line, same_line}
 pub data Moved (stop : Stop) (hand : Hand) (g : Opening) (group : ℕ) (xs : List Done) (c0 : Crash) (m : Master) (from now : Story) : Type 0 where
   InRun : LeavesOnly from now (RunLeft g NoneStopped xs c0 m) → Moved stop hand g group xs c0 m from now
   InRoom : stop ≡ stops.DiskFault → LeavesOnly from now (RunLeft g (StoppedIn g xs hand) xs c0 m) → Moved stop hand g group xs c0 m from now
-  InPart : (x : Done) → stop ≡ stops.DiskFault → asked x.outcome.deed ≡ hand.call → x.outcome.session ≡ hand.session → Tells limits g group xs x → length x.events ≤ 2 ^ 18 → LeavesOnly from now (RunLeft g NoneStopped (x ∷ xs) c0 m) → Moved stop hand g group xs c0 m from now
+  InPart : (x : Done) → stop ≡ stops.DiskFault → asked x.outcome.deed ≡ hand.call → x.outcome.session ≡ hand.session → Tells limits g group xs x → length x.events ≤ most_of hand.call → LeavesOnly from now (RunLeft g NoneStopped (x ∷ xs) c0 m) → Moved stop hand g group xs c0 m from now
 
 pub moved : (stop : Stop) (hand : Hand) (g : Opening) (group : ℕ) (xs : List Done) (last : List Event) (c0 : Crash) (m : Master) (k : Known) (from now : Story) (memory : Memory) → DiskTo (Some stop) hand g group xs last c0 m k from now memory → Moved stop hand g group xs c0 m from now
 moved stops.End hand g group xs last c0 m k from now memory d = InRun d.runs.any_moment
@@ -82,11 +82,12 @@ both from now P Q p q = record {
 
 -- ## The call that was not answered
 
--- the script's next line asks it, or it is the abort that is due
+-- the script's next line asks it, or it is the abort or the step of a scan that is due
 pub asks_next : (sessions : ℕ) (calls : List Done) (hand : Hand) (start feed : Feed) (reader : Unread) → NextLaws sessions start feed reader (script_of (calls_of calls)) → InHand sessions calls hand start feed reader (asked_text (script_of (calls_of calls)))
     → IsAskedNext sessions start.left calls hand.session hand.call
 asks_next sessions calls hand start feed reader laws (OfLine fits reading) = IsAskedNext.OfLine fits (laws.asks hand.session hand.call fits reading)
 asks_next sessions calls hand start feed reader laws (OfAbort y earlier e session due reading) = IsAskedNext.OfAbort y earlier e session due
+asks_next sessions calls hand start feed reader laws (OfScan y earlier e session same more none reading) = IsAskedNext.OfScan y earlier e session same more none
 
 in_hand : (stop : Stop) (sessions : ℕ) (calls : List Done) (hand : Hand) (number : ℕ) (start feed : Feed) (reader : Unread) (seen : List ℕ) → stop ≡ stops.DiskFault → ReadsTo (Some stop) sessions calls hand number start feed reader seen → InHand sessions calls hand start feed reader seen
 in_hand stop sessions calls hand number start feed reader seen is reads = subst (λ (s : Stop). ReadsTo (Some s) sessions calls hand number start feed reader seen) is reads
@@ -115,12 +116,17 @@ conflict_open _ c e = absurd (none c e)
 pub lines_with : (sessions : ℕ) (input : List ℕ) (calls : List Done) (x : Done) → HasLinesFor sessions input calls → IsAskedNext sessions input calls x.outcome.session (asked x.outcome.deed) → HasLinesFor sessions input (x ∷ calls)
 lines_with sessions input calls x l a = go (is_open_line (calls_of calls)) refl a
   where
+    not_open : (y : Done) (earlier : List Done) → calls ≡ y ∷ earlier → is_last (answered y.outcome.deed) ≡ false → is_open_line (calls_of calls) ≡ false → ⊥
+    not_open y earlier is more e =
+        let open_yet : is_open_line (calls_of (y ∷ earlier)) ≡ true = ap (λ (b : Bool). cond b false true) more in
+        true≢false (sym open_yet ∙ (ap (λ (xs : List Done). is_open_line (calls_of xs)) (sym is) ∙ e))
+
     go : (b : Bool) → is_open_line (calls_of calls) ≡ b → IsAskedNext sessions input calls x.outcome.session (asked x.outcome.deed) → HasLinesFor sessions input (x ∷ calls)
     go true e a = same_line sessions input calls x e l
     go false e (IsAskedNext.OfLine fits comes) = begins_line sessions input calls x e l.fits fits comes
     go false e (IsAskedNext.OfAbort y earlier is session due) =
-        let open_yet : is_open_line (calls_of (y ∷ earlier)) ≡ true = ap (λ (b : Bool). cond b false true) (conflict_open y.outcome.deed (asked x.outcome.deed) due) in
-        absurd (true≢false (sym open_yet ∙ (ap (λ (xs : List Done). is_open_line (calls_of xs)) (sym is) ∙ e)))
+        absurd (not_open y earlier is (conflict_open y.outcome.deed (asked x.outcome.deed) due) e)
+    go false e (IsAskedNext.OfScan y earlier is session same more none) = absurd (not_open y earlier is more e)
 
 -- ## The disk at the end
 
@@ -194,11 +200,19 @@ heard_now g group (x ∷ earlier) newer told each e cut = ⊎_elim (λ l. record
   missing = [];
   lines = same l.0 l.1;
   recovers = λ shows crashes agrees m n area of_run h. (every_reopened_for shows crashes agrees NoneStopped limits g group earlier m n area).between x x.events [] [] told each (append-nil x.events) (same l.0 l.1) of_run h;
-}) (lacks (due g (state_after g (front (x ∷ earlier))) (durables g (moments earlier))) x.outcome.session (answered x.outcome.deed) (printed g earlier) newer told e)
+}) lacking
   where
+    -- its lines are the durable ones that are due, and its answer
+    lacking : Lacks told (printed g earlier) (printed g (x ∷ earlier)) ⊎ ((n : List Reply) × (n ++ told ≡ printed g earlier))
+    lacking =
+        let d = due_are g x earlier in
+        let is : printed g (x ∷ earlier) ≡ durable_lines d.0 ++ Reply.Answered x.outcome.session (answered x.outcome.deed) ∷ printed g earlier = ap (λ (rs : List Reply). rs ++ Reply.Answered x.outcome.session (answered x.outcome.deed) ∷ printed g earlier) d.1 in
+        subst (λ (all : List Reply). Lacks told (printed g earlier) all ⊎ ((n : List Reply) × (n ++ told ≡ printed g earlier))) (sym is)
+        (lacks d.0 x.outcome.session (answered x.outcome.deed) (printed g earlier) newer told (e ∙ is))
+
     shorter : (n : List Reply) → n ++ told ≡ printed g earlier → length (printed g (x ∷ earlier)) ≤ length told → ⊥
     shorter n q all =
-        let a = length-append (durable_lines (due g (state_after g (front (x ∷ earlier))) (durables g (moments earlier)))) (Reply.Answered x.outcome.session (answered x.outcome.deed) ∷ printed g earlier) in
+        let a = length-append (due_lines g earlier x) (Reply.Answered x.outcome.session (answered x.outcome.deed) ∷ printed g earlier) in
         let b = prefix_few n told (printed g earlier) q in
         omega (arith, a, b, all)
 

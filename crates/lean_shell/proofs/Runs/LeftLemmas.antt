@@ -2,7 +2,6 @@
 use Rattle.std.proofs.Common.{◌≡◌, ◌⊎◌, inl, inr, ⊎_elim, ◌<◌, ◌≤◌, ◌+◌, ◌^◌, ◌++◌, ◌==◌, ◌&&◌, not, ℕ, suc, leb, false, true, List, [], ◌∷◌, length, map, Option, Some, refl, sym, ◌∙◌, ap, ap₂, subst, arith, codes}
 use mathlib.Core.Path.{fun_ext}
 use Rattle.std.proofs.lemmas.Bool.{and_parts, eqb-true, leb-true, or_cases}
-use Rattle.std.proofs.lemmas.List.{length-append}
 use Rattle.map_model.proofs.CountLemmas.{every_count}
 use Rattle.map_model.proofs.ListLemmas.{any_has, has_order, has_right, keep_has}
 use Rattle.map_model.specs.declared.call.Answered.{Answered}
@@ -54,6 +53,7 @@ use Rattle.transcripts.proofs.AbortLemmas.{lines_more}
 use Rattle.transcripts.proofs.MoreLemmas.{next_told}
 use Rattle.transcripts.proofs.OrderLemmas.{all_count}
 use Rattle.transcripts.proofs.TranscriptLemmas.{calls_told, names_told}
+use Rattle.event_counts.specs.Draws.{GoesTo, draws}
 use Rattle.lean_shell.specs.Crashes.{IsNear}
 use Rattle.lean_shell.specs.Headline.{IsInHand, Survives}
 use Rattle.lean_shell.specs.Inside.Begins.{Begins}
@@ -62,12 +62,11 @@ use Rattle.lean_shell.specs.Inside.Lefts.{IsSameBut, Lives}
 use Rattle.lean_shell.specs.Starts.{HasLinesFor, IsBaseOf, IsLeft, IsOfSize, IsRoomOfNext}
 use Rattle.lean_shell.proofs.Runs.BeginLemmas.{one_greatest}
 use Rattle.lean_shell.proofs.Runs.BelowLemmas.{commit_above}
-use Rattle.lean_shell.proofs.Runs.ClockLemmas.{goes_to}
-use Rattle.lean_shell.proofs.Runs.CountLemmas.{commit_closed}
+use Rattle.lean_shell.proofs.Runs.CountLemmas.{TakesFew}
 use Rattle.lean_shell.proofs.Runs.FoundLemmas.{IsBounded, bounded}
-use Rattle.lean_shell.proofs.Runs.NearLemmas.{front_few, greatest_most}
+use Rattle.lean_shell.proofs.Runs.NearLemmas.{fell_few, greatest_most}
 use Rattle.lean_shell.proofs.Runs.PrintedLemmas.{HasOutcome, IsNext, answers_heard, goes_on, next_behind, next_is, tells_first, with_outcome}
-use Rattle.lean_shell.proofs.Runs.ScriptLemmas.{answered_by, answered_first, comes_behind, first_lines_for}
+use Rattle.lean_shell.proofs.Runs.ScriptLemmas.{answered_by, answered_first, comes_behind, commit_closed, first_lines_for}
 use Rattle.script_run.specs.Runs.{calls_of}
 
 -- ## The transaction in hand
@@ -106,9 +105,9 @@ pub record WasOut (Such Then : List Done → List Event → Type 0) (AreIts : Op
   pub so : (es : List Event) → Such left.heard es → Then left.heard es
   pub alone : (es : List Event) → Such left.heard es → left.unheard ≡ []
   pub its : AreIts g left.heard (next_of left.unheard)
-  -- there are few events, and few of a call that was not answered
-  pub few : length (front xs) ≤ 2 ^ 59
-  pub so_few : (es : List Event) → Such left.heard es → length es ≤ 2 ^ 18
+  -- they take few numbers, and few events are of a call that was not answered
+  pub few : TakesFew (front xs)
+  pub so_few : (es : List Event) → Such left.heard es → length es ≤ 2 ^ 26
   pub counts : CountsFrom g c0 n1 crash
   pub same : IsSameBut crash d
   pub lines : ℕ
@@ -308,7 +307,7 @@ module _ (size : Size) (laws : Laws) (m : Master) (s0 sa : Story) (g : Opening) 
 
       -- the line before is done with
       closed : is_open_line said ≡ false
-      closed = commit_closed g size.group (length m.heads) nx.done o.left.heard k.number k.at each_next (first_lines_for (length m.heads) input o.left.unheard o.left.heard xs o.left.calls script).fits deed_is
+      closed = commit_closed g size.group nx.done o.left.heard k.number k.at each_next deed_is
 
       all_count_now : counted (in_turn said) ≡ in_turn said
       all_count_now = all_count said goes.0 closed
@@ -395,51 +394,39 @@ module _ (size : Size) (laws : Laws) (m : Master) (s0 sa : Story) (g : Opening) 
 
     -- ## Numbers
 
-    events_few : length by ≤ 2 ^ 59 + 2 ^ 18
-    events_few = go r.fell
-      where
-        all : length (front xs) ≤ 2 ^ 59
-        all = o.few
+    drawn_few : draws by ≤ 2 ^ 59 + 2 ^ 54 + 2 ^ 26
+    drawn_few = fell_few draws (λ xs ys. (laws.draws g xs ys).more) (λ xs. (laws.draws g xs []).few) (Such o.left.heard) (2 ^ 59 + 2 ^ 54) (2 ^ 26) o.left.unheard o.left.heard xs o.left.calls o.few.draw o.so_few r.behind r.fell
 
-        parts : length by ≡ length (front o.left.heard) + length r.behind
-        parts = length-append (front o.left.heard) r.behind
+    written_few : masters by ≤ 2 ^ 59 + 2 ^ 54 + 2 ^ 26
+    written_few = fell_few masters (λ xs ys. (every_master_count xs ys).more) (λ xs. (every_master_count xs []).few) (Such o.left.heard) (2 ^ 59 + 2 ^ 54) (2 ^ 26) o.left.unheard o.left.heard xs o.left.calls o.few.write o.so_few r.behind r.fell
 
-        go : FellIn (Such o.left.heard) (next_of o.left.unheard) r.behind → length by ≤ 2 ^ 59 + 2 ^ 18
-        go (Between e) = let a = front_few o.left.unheard o.left.heard xs o.left.calls in let b = ap (λ (es : List Event). length es) e in let c = all in let d = parts in omega arith
-        go (InCall y e after is) =
-            let n = next_is o.left.unheard y e in
-            let a = front_few n.0 (y ∷ o.left.heard) xs (next_behind o.left.unheard o.left.heard xs y o.left.calls n) in
-            let b = length-append (front o.left.heard) y.events in
-            let c = ap (λ (es : List Event). length es) is in
-            let d = length-append r.behind after in
-            let e = all in let h = parts in
-            omega arith
-        go (Stopped such) = let a = front_few o.left.unheard o.left.heard xs o.left.calls in let b = o.so_few r.behind such in let c = all in let d = parts in omega arith
+    reaches : GoesTo (g.base + draws by) (state_after g by)
+    reaches = (laws.draws g by []).goes_to
 
     -- a record that is found is one of the run's
-    found_low : (e : Entry) → Has e (found image) → e.number ≤ g.base + length by
+    found_low : (e : Entry) → Has e (found image) → e.number ≤ g.base + draws by
     found_low e i =
         let w = gathered_has image.log image.logs e i in
         let high : w.0 ≤ g.workers = let a = r.holds.is.logs in let c = w.1.1 in omega arith in
         let h : HoldsLog g (state_after g by) r.n w.0 (o.crash.image (suc w.0)) = r.holds.logs w.0 w.1.0 high in
         let own = (keep_has (λ z. not (leb z.number ((state_after g by).head w.0))) h.left e (subst (Has e) h.holds.entries w.2)).0 in
         let there = subst (Has e) h.holds.prefix.1 (has_right e h.holds.prefix.0 h.left own) in
-        (goes_to g by).entered e (keep_has (λ z. is_record z.kind && (z.log == w.0)) (state_after g by).entries e there).0
+        reaches.entered e (keep_has (λ z. is_record z.kind && (z.log == w.0)) (state_after g by).entries e there).0
 
     near : IsNear m s0 r.n o.crash.image
     near = record {
-      sequence = let q = most in let u = (every_master_count by []).few in let v = events_few in let w : first.master.sequence ≡ suc m.sequence = ap (λ (x : Master). x.sequence) b.next.is in omega arith;
+      sequence = let q = most in let v = written_few in let w : first.master.sequence ≡ suc m.sequence = ap (λ (x : Master). x.sequence) b.next.is in omega arith;
       greatest = λ low high l h.
           let base : g.base ≡ low = one_greatest (image_by m (areas_of s0)) g.base low b.starts.base l in
-          let v = events_few in
+          let v = drawn_few in
           let floor = r.holds.is.floor.low in
-          let own = (goes_to g by).floor in
-          let top : high ≤ g.base + length by = greatest_most image high (g.base + length by) h (omega (arith, floor, own)) found_low
+          let own = reaches.floor in
+          let top : high ≤ g.base + draws by = greatest_most image high (g.base + draws by) h (omega (arith, floor, own)) found_low
           (λ p within.
           let h = r.holds.pages p within in
           let e = ap (λ o. (page_or o).gsn) h.base in
           let v = (laws.versions g by p).known h.page h.version.been in
-          let d = (goes_to g by).pages p in
+          let d = reaches.pages p in
           omega arith) in
           omega (arith, top, base, v);
     }

@@ -1,6 +1,5 @@
 -- No number of a disk that a run leaves is far above those on entry.
-use Rattle.std.proofs.Common.{◌≡◌, ◌⊎◌, inl, inr, ⊎_elim, ◌≤◌, ◌<◌, ◌++◌, ℕ, suc, List, [], ◌∷◌, length, refl, sym, ◌∙◌, ap, subst, arith}
-use Rattle.std.proofs.lemmas.List.{length-append}
+use Rattle.std.proofs.Common.{◌≡◌, ◌⊎◌, inl, inr, ⊎_elim, ◌≤◌, ◌<◌, ◌+◌, ◌++◌, ℕ, suc, List, [], ◌∷◌, length, refl, sym, ◌∙◌, ap, subst, arith}
 use Rattle.map_model.proofs.ListLemmas.{order_has}
 use Rattle.map_model.specs.Lists.{Has}
 use Rattle.image_model.specs.Entries.{Entry, earlier}
@@ -12,10 +11,13 @@ use Rattle.disk_image.specs.Shown.{image_by}
 use Rattle.recovery.specs.Crashes.{ShowsRecovered, ShowsStill}
 use Rattle.recovery.specs.Masters.{IsSameOrNext}
 use Rattle.recovery.specs.Opened.{IsGreatest}
+use Rattle.core_state.specs.Events.{Event}
 use Rattle.core_calls.specs.Fronts.{Done, front}
 use Rattle.core_disk.proofs.HeldLemmas.{gathered_same}
+use Rattle.run_crashes.specs.Lines.{Between, FellIn, InCall, Stopped, next_of}
 use Rattle.lean_shell.specs.Crashes.{IsNear}
 use Rattle.lean_shell.proofs.Runs.BeginLemmas.{one_greatest}
+use Rattle.lean_shell.proofs.Runs.PrintedLemmas.{next_behind, next_is}
 
 -- the greatest number of an image is no greater than one that its floor, records and pages are not above
 pub greatest_most : (i : Image) (high top : ℕ) → IsGreatest i high → i.floor ≤ top → ((r : Entry) → Has r (found i) → r.number ≤ top) → ((p : ℕ) → p < i.format.pages → (bases i p).gsn ≤ top) → high ≤ top
@@ -60,11 +62,37 @@ module _ (m : Master) (s : Story) (d : Crash) (n : Master) (same : IsSameOrNext 
 
 -- ## Events
 
--- the first calls have no more events than all
-pub front_few : (later first xs : List Done) → later ++ first ≡ xs → length (front first) ≤ length (front xs)
-front_few [] first xs e = let q = ap (λ (ys : List Done). length (front ys)) e in omega arith
-front_few (x ∷ later) first xs e =
-    let q = ap (λ (ys : List Done). length (front ys)) e in
-    let a = length-append (front (later ++ first)) x.events in
-    let b = front_few later first (later ++ first) refl in
-    omega arith
+-- of what is counted event by event
+module _ (count : List Event → ℕ) (more : (xs ys : List Event) → count (xs ++ ys) ≡ count xs + count ys) (few : (xs : List Event) → count xs ≤ length xs) where
+  -- the first calls have no more than all
+  front_few : (later first xs : List Done) → later ++ first ≡ xs → count (front first) ≤ count (front xs)
+  front_few [] first xs e = let q = ap (λ (ys : List Done). count (front ys)) e in omega arith
+  front_few (x ∷ later) first xs e =
+      let q = ap (λ (ys : List Done). count (front ys)) e in
+      let a = more (front (later ++ first)) x.events in
+      let b = front_few later first (later ++ first) refl in
+      omega arith
+
+  -- and where a crash fell there are few more
+  pub fell_few : (Such : List Event → Type 0) (most own : ℕ) (unheard heard xs : List Done) → unheard ++ heard ≡ xs → count (front xs) ≤ most → ((es : List Event) → Such es → length es ≤ own)
+      → (behind : List Event) → FellIn Such (next_of unheard) behind → count (front heard ++ behind) ≤ most + own
+  fell_few Such most own unheard heard xs are all short behind fell = go fell
+    where
+      parts : count (front heard ++ behind) ≡ count (front heard) + count behind
+      parts = more (front heard) behind
+
+      go : FellIn Such (next_of unheard) behind → count (front heard ++ behind) ≤ most + own
+      go (Between e) =
+          let a = front_few unheard heard xs are in let b = ap (λ (es : List Event). length es) e in let c = few behind in let d = parts in
+          omega (arith, a, b, c, d, all)
+      go (InCall y e after is) =
+          let n = next_is unheard y e in
+          let a = front_few n.0 (y ∷ heard) xs (next_behind unheard heard xs y are n) in
+          let b = more (front heard) y.events in
+          let c = ap count is in
+          let d = more behind after in
+          let h = parts in
+          omega (arith, a, b, c, d, h, all)
+      go (Stopped such) =
+          let a = front_few unheard heard xs are in let b = short behind such in let c = few behind in let d = parts in
+          omega (arith, a, b, c, d, all)

@@ -8,11 +8,9 @@ use Rattle.map_model.specs.Journals.{Name}
 use Rattle.map_model.specs.Outputs.{Reply, answers_told}
 use Rattle.map_model.specs.Pairings.{EachGoesOn, answers_in, in_turn}
 use Rattle.core_state.specs.Openings.{Opening}
-use Rattle.core_state.specs.Steps.{state_after}
 use Rattle.core_calls.specs.Deeds.{Outcome, answered, in_words}
-use Rattle.core_calls.specs.Durables.{due, durables, moments}
-use Rattle.core_calls.specs.Fronts.{Done, front}
-use Rattle.core_calls.specs.Printed.{EveryPrinted, durable_lines, printed}
+use Rattle.core_calls.specs.Fronts.{Done}
+use Rattle.core_calls.specs.Printed.{EveryPrinted, due_lines, durable_lines, printed}
 use Rattle.core_calls.specs.Runs.{EachTells}
 use Rattle.engine_trait.specs.Limits.{limits}
 use Rattle.run_crashes.specs.Lines.{next_of, outcome_of}
@@ -44,12 +42,12 @@ pub first_printed : (g : Opening) (later first : List Done) → FirstPrinted g l
 first_printed g [] first = record { more = []; is = refl }
 first_printed g (x ∷ later) first =
     let f = first_printed g later first in
-    let lines : List Reply = durable_lines (due g (state_after g (front (x ∷ later ++ first))) (durables g (moments (later ++ first)))) ++ Reply.Answered x.outcome.session (answered x.outcome.deed) ∷ [] in
+    let lines : List Reply = due_lines g (later ++ first) x ++ Reply.Answered x.outcome.session (answered x.outcome.deed) ∷ [] in
     record {
       more = lines ++ f.more;
       is = append_assoc lines f.more (printed g first)
           ∙ (ap (λ (rs : List Reply). lines ++ rs) f.is
-          ∙ append_assoc (durable_lines (due g (state_after g (front (x ∷ later ++ first))) (durables g (moments (later ++ first))))) (Reply.Answered x.outcome.session (answered x.outcome.deed) ∷ []) (printed g (later ++ first)));
+          ∙ append_assoc (due_lines g (later ++ first) x) (Reply.Answered x.outcome.session (answered x.outcome.deed) ∷ []) (printed g (later ++ first)));
     }
 
 -- of two that are the oldest of a list, the shorter is the oldest of the other

@@ -1,5 +1,5 @@
 -- A script that was executed on a disk that was opened.
-use Rattle.std.proofs.Common.{◌≡◌, inr, ⊎_elim, ◌≤◌, ◌<◌, ◌+◌, ◌-◌, ◌^◌, ◌++◌, ℕ, suc, List, [], ◌∷◌, length, drop, min, true, Option, Some, IsTrue, refl, sym, ◌∙◌, ap, subst, arith}
+use Rattle.std.proofs.Common.{◌≡◌, inr, ⊎_elim, ◌≤◌, ◌<◌, ◌+◌, ◌-◌, ◌*◌, ◌^◌, ◌++◌, ℕ, suc, List, [], ◌∷◌, length, drop, min, true, Option, Some, IsTrue, refl, sym, ◌∙◌, ap, subst, arith}
 use Rattle.std.proofs.lemmas.List.{append-nil, length-append}
 use mathlib.Core.List.{append_assoc}
 use mathlib.Core.Path.{fun_ext}
@@ -33,20 +33,24 @@ use Rattle.core_state.specs.Events.{Event}
 use Rattle.core_state.specs.Openings.{Opening, first_map}
 use Rattle.core_state.specs.Steps.{state_after}
 use Rattle.core_calls.specs.Deeds.{answered, asked}
-use Rattle.core_calls.specs.Durables.{due, durables, moments as moments_in}
 use Rattle.core_calls.specs.Fronts.{Done, front, outcomes}
-use Rattle.core_calls.specs.Printed.{durable_lines, printed}
+use Rattle.core_calls.specs.Printed.{due_lines, durable_lines, printed}
 use Rattle.core_calls.specs.Runs.{EachTells}
+use Rattle.core_calls.specs.Steps.{call_behind}
+use Rattle.core_calls.proofs.PrintedLemmas.{due_are}
 use Rattle.core_calls.proofs.RunLemmas.{answers_all}
 use Rattle.core_disk.specs.Held.{HoldsRun}
 use Rattle.disk_runs.specs.Fair.{IsAsRead}
-use Rattle.disk_runs.specs.Masters.{IsOfRunBy, LineLaws}
+use Rattle.disk_runs.specs.Masters.{IsOfRunBy, LineLaws, masters}
+use Rattle.event_counts.specs.Draws.{draws}
 use Rattle.disk_runs.specs.Stands.{Stands}
 use Rattle.disk_runs.proofs.LineLemmas.{every_fair, every_master_line}
 use Rattle.disk_runs.proofs.ReadLemmas.{every_read}
 use Rattle.disk_runs.proofs.StandLemmas.{every_same}
 use Rattle.engine_calls.specs.Clauses.{Between}
 use Rattle.call_parts.specs.Memory.{Memory}
+use Rattle.call_parts.specs.Rooms.{most_of}
+use Rattle.page_model.specs.Nodes.{Format}
 use Rattle.worker_log.specs.Logs.{Log}
 use Rattle.engine_trait.specs.Limits.{limits}
 use Rattle.paged_engine.specs.declared.opening.Size.{Size}
@@ -74,7 +78,7 @@ use Rattle.lean_shell.specs.Runs.AreAll.{All, ButNewest}
 use Rattle.lean_shell.specs.Runs.AreFirst.{Among, Behind}
 use Rattle.lean_shell.specs.Runs.HowRun.{OfScript}
 use Rattle.lean_shell.specs.Starts.{AllAnswered, HasLinesFor, IsAskedNext, IsLeft, IsRoomOfNext}
-use Rattle.lean_shell.proofs.Runs.CountLemmas.{few_printed, two_a_line}
+use Rattle.lean_shell.proofs.Runs.CountLemmas.{TakesFew, all_few, few_taken, most_any, with_own}
 use Rattle.lean_shell.proofs.Runs.DiskLemmas.{HeardNow, InPart, InRoom, InRun, IsCutLast, Moved, StandsNow, asked_of, both, counts_moved, damaged_not, heard_now, lines_with, moved, stands_now}
 use Rattle.lean_shell.proofs.Runs.LastLemmas.{Last, last_of}
 use Rattle.lean_shell.proofs.Runs.LeftLemmas.{CountsFrom, WasOut, left_there, lives_as, survives_there}
@@ -82,10 +86,11 @@ use Rattle.lean_shell.proofs.Runs.MomentLemmas.{line_moments, put_moments, same_
 use Rattle.lean_shell.proofs.Runs.OutputLemmas.{all_put, both_tails, no_tail, older_fit, told_first}
 use Rattle.lean_shell.proofs.Runs.PrintedLemmas.{answered_out, calls_append, first_of, first_printed, prefix_few, same_prefix, tells_first}
 use Rattle.lean_shell.proofs.Runs.QuietLemmas.{master_leaves, run_leaves}
+use Rattle.lean_shell.proofs.Runs.ScanLemmas.{scans_locked}
 use Rattle.lean_shell.proofs.Runs.ScriptLemmas.{answered_by, answered_first, executes_tell}
-use Rattle.lean_shell.proofs.Runs.SpentLemmas.{few_events, none_spent}
+use Rattle.lean_shell.proofs.Runs.SpentLemmas.{none_spent}
 
-module _ (size : Size) (few : size.sessions ≤ 16) (laws : Laws) (s0 sa sb sc s1 : Story) (law_a : IsLawful sa) (law_c : IsLawful sc) (law_1 : IsLawful s1) (g : Opening) (first : Memory) (counts : Counts) (o : HasStarted size s0 sa g first counts) (keeps : Keeps s0 sa)
+module _ (size : Size) (few : size.sessions ≤ 16) (frames : 32 ≤ size.frames) (laws : Laws) (s0 sa sb sc s1 : Story) (law_a : IsLawful sa) (law_c : IsLawful sc) (law_1 : IsLawful s1) (g : Opening) (first : Memory) (counts : Counts) (o : HasStarted size s0 sa g first counts) (keeps : Keeps s0 sa)
     (any : (m : Master) → TellsAll size.sessions s0 → IsCleanDisk m (areas_of s0) → LeavesOnly s0 sa (RecoveryLeaves m s0))
     (held0 held_b held_c held1 : Held) (opened_fits : NoticeFits (Notice.Opened counts.generation counts.winners counts.undone)) (p : IsPut (first_line counts) PutDone held0 held_b sa sb)
     (feed0 feed1 : Feed) (reader : Unread) (stop : Stop) (last_memory : Memory) (r : ScriptRuns (Some stop) g.workers size.group g [] 0 feed0 [] first last_memory reader feed1 held_b held_c sb sc)
@@ -224,19 +229,19 @@ module _ (size : Size) (few : size.sessions ≤ 16) (laws : Laws) (s0 sa sb sc s
         is = w.lines ∙ ap (λ (t : List ℕ). opened_line counts.generation counts.winners counts.undone ++ t) (sym (append-nil (text_of told)));
       }
 
-  calls_few : length r.newer < 2 ^ 41
-  calls_few = let a = two_a_line g size.group g.workers r.newer each r.fits in let f = r.few in omega (arith, a, f)
+  few_lines : length (script_of said) < 2 ^ 40
+  few_lines = let f = r.few in omega (arith, f)
 
-  all_few : length (front r.newer) + 2 ^ 18 ≤ 2 ^ 59
-  all_few = let a = few_events g size.group first r.newer r.memory r.executes in let b = calls_few in omega arith
+  calls_few : length r.newer < 2 ^ 47
+  calls_few = let a : length r.newer ≤ 66 * length (script_of said) = (laws.lines limits g size.group r.newer each).answers in let f = few_lines in omega (arith, a, f)
 
   told_few : length r.told < 2 ^ 61
   told_few =
       let a = prefix_few text.later text.out r.replies text.first in
       let b = prefix_few text.more r.told text.out text.out_is in
       let c = ap (λ (rs : List Reply). length rs) replies_are in
-      let d = few_printed laws.durable g r.newer in
-      let e = few_events g size.group first r.newer r.memory r.executes in
+      let d = (laws.lines limits g size.group r.newer each).printed_are in
+      let e = (laws.lines limits g size.group r.newer each).reported in
       let f = calls_few in
       omega (arith, a, b, c, d, e, f)
 
@@ -254,6 +259,13 @@ module _ (size : Size) (few : size.sessions ≤ 16) (laws : Laws) (s0 sa sb sc s
 
     abbrev b : Begins m s0 sa g first
     b = o.begins m all.all clean
+
+    -- they take few numbers, whatever their scans
+    taken : (draws (front r.newer) + 2 ^ 26 ≤ 2 ^ 59 + 2 ^ 54) × (masters (front r.newer) + 2 ^ 26 ≤ 2 ^ 59 + 2 ^ 54)
+    taken =
+        let levels : g.format.levels ≡ 7 = ap (λ (f : Format). f.levels) b.starts.format in
+        let e = o.of_size.frames in
+        few_taken laws.draws laws.scans g size.group (omega (arith, levels, e, frames)) o.of_size.changes laws.lines first r.newer r.memory r.executes each few_lines
 
     counts_b : IsTrue sb.counts
     counts_b = subst (λ (t : Rattle.std.proofs.Common.Bool). IsTrue t) (sym (noted.counts ∙ keeps.counts)) all.counts
@@ -337,18 +349,18 @@ module _ (size : Size) (few : size.sessions ≤ 16) (laws : Laws) (s0 sa sb sc s
       so : (es : List Event) → Such q.heard es → IsRoomOfNext input g q.heard es
       alone : (es : List Event) → Such q.heard es → q.unheard ≡ []
       its : AreFirst stop r.newer q.heard (next_of q.unheard)
-      short : length (front xs) ≤ 2 ^ 59
-      so_few : (es : List Event) → Such q.heard es → length es ≤ 2 ^ 18
+      short : TakesFew (front xs)
+      so_few : (es : List Event) → Such q.heard es → length es ≤ 2 ^ 26
 
     -- its notes are those of these replies
     few_out : (Such : List Done → List Event → Type 0) (xs : List Done) (c : Crash) (q : Left Such xs c) → c.notes ≤ sb.notes + length r.told → length q.out ≤ length r.told
     few_out Such xs c q few = let e = q.notes in let f = notes_b in omega arith
 
     knows_all : (Such : List Done → List Event → Type 0) (c : Crash) (q : Left Such r.newer c) → ((es : List Event) → Such q.heard es → IsRoomOfNext input g q.heard es) → ((es : List Event) → Such q.heard es → q.unheard ≡ [])
-        → ((es : List Event) → Such q.heard es → length es ≤ 2 ^ 18) → c.notes ≤ sb.notes + length r.told → Knows Such r.newer c q
+        → ((es : List Event) → Such q.heard es → length es ≤ 2 ^ 26) → c.notes ≤ sb.notes + length r.told → Knows Such r.newer c q
     knows_all Such c q so alone so_few few =
         let f = firsts q.out (older_of q.unheard q.heard q.missing q.out q.calls q.lines) (few_out Such r.newer c q few) in
-        record { later = f.0; first_told = f.1; so = so; alone = alone; its = Among q.unheard q.calls refl; short = omega (arith, all_few); so_few = so_few }
+        record { later = f.0; first_told = f.1; so = so; alone = alone; its = Among q.unheard q.calls refl; short = all_few (front r.newer) taken; so_few = so_few }
 
     -- what was asked and not answered
     abbrev Asked : Type 0
@@ -375,17 +387,19 @@ module _ (size : Size) (few : size.sessions ≤ 16) (laws : Laws) (s0 sa sb sc s
     none_unheard (x ∷ unheard) heard e is =
         absurd (let a = ap (λ (xs : List Done). length xs) e in let b = ap (λ (xs : List Done). length xs) is in let c = length-append unheard heard in omega (arith, a, b, c))
 
-    module _ (x : Done) (is : stop ≡ stops.DiskFault) (few_own : length x.events ≤ 2 ^ 18) where
+    module _ (x : Done) (is : stop ≡ stops.DiskFault) (few_own : length x.events ≤ most_of r.hand.call) where
       told_all : r.told ≡ r.replies
       told_all = (subst (λ (z : Stop). PrintsTo (Some z) r.replies r.told r.tail) is r.prints).told_is
 
       knows_part : (c : Crash) (q : Left NoneStopped (x ∷ r.newer) c) → c.notes ≤ sb.notes + length r.told → Knows NoneStopped (x ∷ r.newer) c q
-      knows_part c q few = record { later = f.0; first_told = f.1; so = λ es none. absurd none; alone = λ es none. absurd none; its = its_of q.unheard q.calls; short = (let a = all_few in let b = length-append (front r.newer) x.events in omega (arith, a, b, few_own)); so_few = λ es none. absurd none }
+      knows_part c q few = record { later = f.0; first_told = f.1; so = λ es none. absurd none; alone = λ es none. absurd none; its = its_of q.unheard q.calls; short = with_own laws.draws g r.newer x taken (let a = most_any r.hand.call in omega (arith, a, few_own)); so_few = λ es none. absurd none }
         where
           -- the one that was not answered was not heard
           not_all : q.heard ≡ x ∷ r.newer → ⊥
           not_all e =
-              let more = answered_out q.missing (due g (state_after g (front (x ∷ r.newer))) (durables g (moments_in r.newer))) x.outcome.session (answered x.outcome.deed) (printed g r.newer) q.out (q.lines ∙ ap (printed g) e) in
+              let d = due_are g x r.newer in
+              let is : printed g (x ∷ r.newer) ≡ durable_lines d.0 ++ Reply.Answered x.outcome.session (answered x.outcome.deed) ∷ printed g r.newer = ap (λ (rs : List Reply). rs ++ Reply.Answered x.outcome.session (answered x.outcome.deed) ∷ printed g r.newer) d.1 in
+              let more = answered_out q.missing d.0 x.outcome.session (answered x.outcome.deed) (printed g r.newer) q.out (q.lines ∙ (ap (printed g) e ∙ is)) in
               let a = few_out NoneStopped (x ∷ r.newer) c q few in
               let b = ap (λ (rs : List Reply). length rs) (told_all ∙ replies_are) in
               omega (arith, more, a, b)
@@ -458,7 +472,7 @@ module _ (size : Size) (few : size.sessions ≤ 16) (laws : Laws) (s0 sa sb sc s
     leaves_by : Moved stop r.hand g size.group r.newer c0 m sb sc → LeavesOnly s0 s1 (LivesOn size Its m s0 input put)
     leaves_by (InRun run) = leaves_all NoneStopped r.newer each (script_for tells) (λ c q. knows_all NoneStopped c q (λ es none. absurd none) (λ es none. absurd none) (λ es none. absurd none)) run
     leaves_by (InRoom is run) = leaves_all (StoppedIn g r.newer r.hand) r.newer each (script_for tells)
-        (λ c q. knows_all (StoppedIn g r.newer r.hand) c q (λ es s. room_of_next (asks is) q.heard es s) (λ es s. none_unheard q.unheard q.heard q.calls s.0) (λ es s. s.1.1)) run
+        (λ c q. knows_all (StoppedIn g r.newer r.hand) c q (λ es s. room_of_next (asks is) q.heard es s) (λ es s. none_unheard q.unheard q.heard q.calls s.0) (λ es s. let a = most_any (call_behind (outcomes q.heard) r.hand.call) in let f = s.1.1 in omega (arith, a, f))) run
     leaves_by (InPart x is call session told few_own run) = leaves_all NoneStopped (x ∷ r.newer) (each, told) (lines_with g.workers input r.newer x (script_for tells) (own (asks is))) (knows_part x is few_own) run
       where
         own : Asked → IsAskedNext g.workers input r.newer x.outcome.session (asked x.outcome.deed)
@@ -490,7 +504,7 @@ module _ (size : Size) (few : size.sessions ≤ 16) (laws : Laws) (s0 sa sb sc s
           whole [] e q = tt
           whole (x ∷ xs) e q =
               let a = ap (λ (rs : List Reply). length rs) (q ∙ (replies_are ∙ ap (printed g) e)) in
-              let b = length-append (durable_lines (due g (state_after g (front (x ∷ xs))) (durables g (moments_in xs)))) (Reply.Answered x.outcome.session (answered x.outcome.deed) ∷ printed g xs) in
+              let b = length-append (due_lines g xs x) (Reply.Answered x.outcome.session (answered x.outcome.deed) ∷ printed g xs) in
               omega arith
 
           last_cut : (xs : List Done) → r.newer ≡ xs → IsLastCut g [] r.newer r.told → IsCutLast g xs r.told
@@ -558,7 +572,7 @@ module _ (size : Size) (few : size.sessions ≤ 16) (laws : Laws) (s0 sa sb sc s
         so = λ es none. absurd none;
         alone = λ es none. absurd none;
         its = (refl, its_now);
-        few = omega (arith, all_few);
+        few = all_few (front r.newer) taken;
         so_few = λ es none. absurd none;
         counts = λ fair. at_first;
         same = record { writes = λ a. refl; image = λ a. refl };
@@ -623,7 +637,8 @@ module _ (size : Size) (few : size.sessions ≤ 16) (laws : Laws) (s0 sa sb sc s
       calls = r.newer;
       few = let f = r.few in omega (arith, f);
       calls_few = calls_few;
-      none_spent = none_spent g size.group first r.newer r.memory r.executes calls_few;
+      none_spent = none_spent laws.lines g size.group first r.newer r.memory r.executes each few_lines;
+      scans = scans_locked laws.met g size.group r.newer each;
       closed = closed;
       executed = record { opening = g; of_size = o.of_size; from = o.from; first = first; log = o.log; master = o.master; last = r.memory; executes = r.executes };
       read = text.read;
@@ -665,6 +680,6 @@ module _ (size : Size) (few : size.sessions ≤ 16) (laws : Laws) (s0 sa sb sc s
 
 pub every_run : Laws → (s0 sa sb sc s1 : Story) → EveryRun s0 sa sb sc s1
 every_run laws s0 sa sb sc s1 size feed0 feed1 held0 held_b held_c held1 stop sink_c sink1 x = record {
-  ends = λ status is sink0 sinks others. run_ends size x.few laws s0 sa sb sc s1 x.law_a x.law_c x.law_1 x.g x.first x.counts x.starts x.keeps x.any held0 held_b held_c held1 x.opened_fits x.put feed0 feed1 x.reader stop x.last_memory x.runs sink_c sink1 x.last status is sink0 sinks others x.closed;
-  headline = run_headline size x.few laws s0 sa sb sc s1 x.law_a x.law_c x.law_1 x.g x.first x.counts x.starts x.keeps x.any held0 held_b held_c held1 x.opened_fits x.put feed0 feed1 x.reader stop x.last_memory x.runs sink_c sink1 x.last;
+  ends = λ status is sink0 sinks others. run_ends size x.few x.frames laws s0 sa sb sc s1 x.law_a x.law_c x.law_1 x.g x.first x.counts x.starts x.keeps x.any held0 held_b held_c held1 x.opened_fits x.put feed0 feed1 x.reader stop x.last_memory x.runs sink_c sink1 x.last status is sink0 sinks others x.closed;
+  headline = run_headline size x.few x.frames laws s0 sa sb sc s1 x.law_a x.law_c x.law_1 x.g x.first x.counts x.starts x.keeps x.any held0 held_b held_c held1 x.opened_fits x.put feed0 feed1 x.reader stop x.last_memory x.runs sink_c sink1 x.last;
 }

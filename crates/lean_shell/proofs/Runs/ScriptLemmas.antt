@@ -1,15 +1,19 @@
 -- Which lines of a script ask the calls of a run.
-use Rattle.std.proofs.Common.{◌≡◌, ◌<◌, ◌^◌, ◌++◌, ℕ, true, false, List, [], ◌∷◌, sym, ◌∙◌, ap, subst}
+use Rattle.std.proofs.Common.{◌≡◌, ◌<◌, ◌^◌, ◌++◌, ℕ, Bool, true, false, cond, List, [], ◌∷◌, Option, Some, None, refl, sym, ◌∙◌, ap, subst, true≢false}
 use Rattle.std.proofs.lemmas.Bool.{cond-false, cond-true}
 use Rattle.std.proofs.lemmas.List.{append-nil}
 use mathlib.Core.List.{append_assoc}
 use Rattle.map_model.specs.declared.call.Answered.{Answered}
 use Rattle.map_model.specs.declared.call.Call.{Call}
-use Rattle.map_model.specs.Pairings.{EachIsAnswered, in_turn, is_open_line, script_of}
+use Rattle.map_model.specs.declared.call.Call.TheVariants as call
+use Rattle.map_model.specs.declared.call.Refusal.{Refusal}
+use Rattle.map_model.specs.declared.call.Refusal.TheVariants as refusal
+use Rattle.map_model.specs.Pairings.{EachIsAnswered, in_turn, is_last, is_last_refusal, is_open_line, script_of}
 use Rattle.core_state.specs.Openings.{Opening}
-use Rattle.core_calls.specs.Deeds.{asked}
+use Rattle.core_calls.specs.Deeds.{Committed, Deed, Met, Refused, answered, asked}
 use Rattle.core_calls.specs.Fronts.{Done}
 use Rattle.core_calls.specs.Runs.{EachTells, Tells}
+use Rattle.core_calls.specs.Steps.{IsAbortOf, IsBehind, hindered_in, is_conflict}
 use Rattle.call_parts.specs.Memory.{Memory}
 use Rattle.engine_trait.specs.Limits.{limits}
 use Rattle.script_lang.specs.Text.{script_lines}
@@ -91,3 +95,30 @@ same_line sessions input calls x open_yet l =
       others = l.others;
       lines = l.lines ∙ ap (λ (xs : List (ℕ × Call)). asked_lines xs ++ l.others) (sym all);
     }
+
+-- a commit goes on with no line: behind a conflict comes an abort, and behind a pair the same scan
+pub commit_closed : (g : Opening) (group : ℕ) (x : Done) (xs : List Done) (n at : ℕ) → EachTells limits g group (x ∷ xs) → x.outcome.deed ≡ Committed n at → is_open_line (calls_of xs) ≡ false
+commit_closed g group x [] n at t e = refl
+commit_closed g group x (y ∷ xs) n at t e = go (is_last (answered y.outcome.deed)) refl
+  where
+    none : (c : Call) → IsAbortOf c (Committed n at) → ⊥
+    none c i = i
+
+    behind : (c : Call) → hindered_in y.outcome.deed ≡ Some c → ⊥
+    behind c h = none c (subst (IsAbortOf c) e (subst (λ (o : Option Call). IsBehind o y.outcome.session x.outcome) h t.1.hindered).1)
+
+    open_yet : (d : Deed) → is_last (answered d) ≡ false → call.Commit ≡ asked d → (c : Call) × (hindered_in d ≡ Some c)
+    open_yet (Met from to k v alone) more same = absurd (cc)
+    open_yet (Refused c why backs) more same = (c, conflict why more)
+      where
+        conflict : (why : Refusal) → is_last_refusal why ≡ false → cond (is_conflict why) (Some c) None ≡ Some c
+        conflict (refusal.Conflict h) q = refl
+        conflict _ q = absurd (true≢false q)
+    open_yet _ more same = absurd (true≢false more)
+
+    go : (b : Bool) → is_last (answered y.outcome.deed) ≡ b → cond b false true ≡ false
+    go true q = refl
+    go false q =
+        let same : call.Commit ≡ asked y.outcome.deed = sym (ap asked e) ∙ (t.1.goes_on q).1 in
+        let h = open_yet y.outcome.deed q same in
+        absurd (behind h.0 h.1)

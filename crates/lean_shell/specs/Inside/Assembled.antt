@@ -35,6 +35,7 @@ pub record IsRun (size : Size) (s0 sa sb sc s1 : Story) (feed0 feed1 : Feed) (he
   pub first : Memory
   pub counts : Counts
   pub few : size.sessions ≤ 16
+  pub frames : 32 ≤ size.frames
   pub starts : HasStarted size s0 sa g first counts
   pub keeps : Keeps s0 sa
   pub any : (m : Master) → TellsAll size.sessions s0 → IsCleanDisk m (areas_of s0) → LeavesOnly s0 sa (RecoveryLeaves m s0)

@@ -1,11 +1,14 @@
 -- Words of private functions: the laws of other crates that a run stands on.
 use Rattle.core_commit.specs.Rises.{EveryRise}
 use Rattle.core_calls.specs.Crashes.{EveryRunCrash}
-use Rattle.core_calls.specs.Durables.{EveryDurable}
+use Rattle.core_calls.specs.LineCounts.{EveryLineCount}
 use Rattle.core_calls.specs.Printed.{EveryPrinted}
+use Rattle.core_calls.specs.Runs.{EveryMet}
 use Rattle.core_calls.specs.Told.{EveryTold}
 use Rattle.core_disk.specs.Shows.{EveryShown}
 use Rattle.core_disk.specs.Versions.{EveryVersion}
+use Rattle.event_counts.specs.Draws.{EveryDraw}
+use Rattle.event_counts.specs.Scans.{EveryScanCount}
 use Rattle.disk_image.specs.Laws.{EveryAgreement, EveryBlockIn, EverySealed}
 use Rattle.script_run.specs.Texts.{EveryScript}
 use Rattle.std.specs.Prelude.{◌≡◌, Some, None}
@@ -16,13 +19,16 @@ use Rattle.script_lang.specs.Text.{IsLine}
 use Rattle.transcripts.specs.Laws.{EveryEnd, EveryMoment, EveryNext, EveryNotice, EveryTail}
 use Rattle.worker_log.specs.Laws.{EveryKept, EveryPrefix}
 
--- what holds of calls and their crashes, of replies and transcripts, of images that agree, and of logs
+-- what holds of calls, their numbers and their crashes, of replies and transcripts, of images that agree, and of logs
 pub record Laws : Type 0 where
   pub rises : EveryRise
-  pub durable : EveryDurable
+  pub lines : EveryLineCount
   pub printed : EveryPrinted
   pub told : EveryTold
+  pub met : EveryMet
   pub crashes : EveryRunCrash
+  pub draws : EveryDraw
+  pub scans : EveryScanCount
   pub shown : EveryShown
   pub versions : EveryVersion
   -- replies are read back, and notices are no replies

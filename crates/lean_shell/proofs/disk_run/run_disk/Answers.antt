@@ -116,6 +116,7 @@ says g c =
       first = (memory_in c.put_opened.new.engine);
       counts = counted;
       few = c.requires.sessions;
+      frames = c.requires.frames.0;
       starts = subst (λ m. HasStarted c.args.size s0 sa o.opening m counted) (sym c.put_opened.ensures.same.0) (started c.args.size s0 sa n.engine n.generation n.winners n.undone o);
       keeps = k.keeps;
       any = k.any_moment;
