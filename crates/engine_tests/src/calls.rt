@@ -19,6 +19,7 @@ enum Asked {
     Get(u32),
     Put(u32, u32),
     Del(u32),
+    Scan(u32, u32),
     Commit,
     Abort,
 }
@@ -27,6 +28,8 @@ enum Asked {
 enum Step {
     Begun(u64),
     Call(Asked, Result<Answer, Unanswered>),
+    /// What follows a pair of a scan.
+    Next(Result<Answer, Unanswered>),
     /// The same call so many times.
     Again(u32, Asked, Result<Answer, Unanswered>),
     /// A put of 7 at each of the first so many keys, which have no value.
@@ -77,7 +80,7 @@ macro_rules! committed {
     };
 }
 
-static CASES: [Case; 9] = [
+static CASES: [Case; 10] = [
     Case {
         name: "a put is read and committed",
         clock: 0,
@@ -128,6 +131,23 @@ static CASES: [Case; 9] = [
             Step::Call(Asked::Abort, NO_TRANSACTION),
             Step::Begun(3),
             Step::Call(Asked::Put(5, 9), WAS_7),
+        ],
+        bytes: 2048,
+        moment: 2,
+    },
+    Case {
+        name: "a scan is answered pair by pair",
+        clock: 0,
+        failing: &[],
+        steps: &[
+            Step::Begun(1),
+            Step::Call(Asked::Put(5, 7), WAS_NONE),
+            Step::Call(Asked::Put(6, 8), WAS_NONE),
+            Step::Call(Asked::Scan(0, 9), Ok(Answer::Pair { key: 5, value: 7 })),
+            Step::Next(Ok(Answer::Pair { key: 6, value: 8 })),
+            Step::Next(Ok(Answer::End)),
+            committed!(1, 3),
+            Step::Call(Asked::Scan(0, 9), NO_TRANSACTION),
         ],
         bytes: 2048,
         moment: 2,
@@ -241,6 +261,10 @@ fn call_of(asked: &Asked) -> Call
             value: *value as u64,
         },
         Asked::Del(key) => Call::Del { key: *key as u64 },
+        Asked::Scan(from, to) => Call::Scan {
+            from: *from as u64,
+            to: *to as u64,
+        },
         Asked::Commit => Call::Commit,
         Asked::Abort => Call::Abort,
     }
@@ -258,6 +282,18 @@ fn answers(engine: &mut Engine<MemDisk>, asked: &Asked, want: &Result<Answer, Un
     answer == *want
 }
 
+// Whether this follows a pair of a scan.
+fn goes_on(engine: &mut Engine<MemDisk>, want: &Result<Answer, Unanswered>) -> bool {
+    if engine.expects() != Next::Scan {
+        return false;
+    }
+    let answer = engine.answer_scan();
+    if answer.is_ok() {
+        take_rest(engine);
+    }
+    answer == *want
+}
+
 // Whether the calls of a step are answered as is written.
 fn is_done(engine: &mut Engine<MemDisk>, step: &Step) -> bool {
     match step {
@@ -266,6 +302,7 @@ fn is_done(engine: &mut Engine<MemDisk>, step: &Step) -> bool {
             answers(engine, &Asked::Begin, &want)
         }
         Step::Call(asked, want) => answers(engine, asked, want),
+        Step::Next(want) => goes_on(engine, want),
         Step::Again(count, asked, want) => {
             for _ in 0..*count {
                 if !answers(engine, asked, want) {

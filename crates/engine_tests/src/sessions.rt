@@ -12,11 +12,19 @@ use master_store::choose;
 use std::alloc::{AllocError, Global};
 
 // A call of a session, and what it gives.
+#[derive(Drop)]
 enum Step {
     Begin(Result<Began, Refusal>),
     Get(u32, Result<Option<u64>, Refusal>),
     Put(u32, u32, Result<Option<u64>, Refusal>),
     Del(u32, Result<Option<u64>, Refusal>),
+    /// A put of 7 at each key from one up to another, which have no value.
+    Keys(u32, u32),
+    Scan(u32, u32, Result<buffered_engine::Step, Refusal>),
+    /// What follows a pair of a scan.
+    Next(Result<buffered_engine::Step, Refusal>),
+    /// Pairs of 7 follow, of each key from one up to another.
+    Pairs(u32, u32),
     Commit(Result<Receipt, Refusal>),
     Abort(Result<Aborted, Refusal>),
     /// The abort of a call that met a conflict.
@@ -53,6 +61,17 @@ macro_rules! receipt {
     };
 }
 
+macro_rules! pair {
+    ($key:expr, $value:expr) => {
+        Ok(buffered_engine::Step::Pair {
+            key: $key,
+            value: $value,
+        })
+    };
+}
+
+const END: Result<buffered_engine::Step, Refusal> = Ok(buffered_engine::Step::End);
+
 const FIRST: Receipt = receipt!(1, 1, 2, 0);
 
 // Of a commit to come.
@@ -61,7 +80,7 @@ const LATER: Receipt = receipt!(2, 1, 3, 0);
 // Of one that needs more of another log than is flushed.
 const NEEDY: Receipt = receipt!(1, 1, 2, 3);
 
-static CASES: [Case; 8] = [
+static CASES: [Case; 11] = [
     Case {
         name: "a receipt is ripe at once",
         sessions: 1,
@@ -129,6 +148,7 @@ static CASES: [Case; 8] = [
             (1, Step::Get(5, Err(Refusal::NoTransaction))),
             (1, Step::Put(5, 7, Err(Refusal::NoTransaction))),
             (1, Step::Del(5, Err(Refusal::NoTransaction))),
+            (1, Step::Scan(5, 9, Err(Refusal::NoTransaction))),
             (1, Step::Commit(Err(Refusal::NoTransaction))),
             (1, Step::Abort(Err(Refusal::NoTransaction))),
             (1, Step::Begin(Ok(Began { number: 1 }))),
@@ -148,6 +168,7 @@ static CASES: [Case; 8] = [
             (1, Step::Get(5, Err(Refusal::Broken))),
             (1, Step::Put(5, 7, Err(Refusal::Broken))),
             (1, Step::Del(5, Err(Refusal::Broken))),
+            (1, Step::Scan(5, 9, Err(Refusal::Broken))),
             (1, Step::Commit(Err(Refusal::Broken))),
             (1, Step::Abort(Err(Refusal::Broken))),
             (1, Step::Sync(Err(Refusal::Broken))),
@@ -236,15 +257,93 @@ static CASES: [Case; 8] = [
             (3, Step::Begin(Ok(Began { number: 1 }))),
             (3, Step::Put(6, 8, Ok(None))),
             (3, Step::Get(5, Err(Refusal::Conflict { holder: 1 }))),
-            (3, Step::NoDurable),
             (3, Step::Hindered(1)),
             (1, Step::Get(6, Ok(None))),
             (2, Step::Begin(Ok(Began { number: 1 }))),
             (2, Step::Get(6, Ok(None))),
             (1, Step::Put(6, 9, Err(Refusal::Conflict { holder: 2 }))),
-            (1, Step::NoDurable),
             (1, Step::Hindered(1)),
             (2, Step::Get(5, Ok(None))),
+        ],
+    },
+    Case {
+        name: "a scan tells the pairs from one key up to another",
+        sessions: 1,
+        group: 1,
+        failing: &[],
+        steps: &[
+            (1, Step::Begin(Ok(Began { number: 1 }))),
+            (1, Step::Put(5, 7, Ok(None))),
+            (1, Step::Put(9, 1, Ok(None))),
+            (1, Step::Put(6, 8, Ok(None))),
+            (1, Step::Put(7, 8, Ok(None))),
+            (1, Step::Del(6, Ok(Some(8)))),
+            (1, Step::Scan(5, 8, pair!(5, 7))),
+            (1, Step::Next(pair!(7, 8))),
+            (1, Step::Next(END)),
+            (1, Step::Scan(6, 9, pair!(7, 8))),
+            (1, Step::Next(pair!(9, 1))),
+            (1, Step::Next(END)),
+            (1, Step::Scan(6, 6, END)),
+            (1, Step::Scan(10, 1000, END)),
+            // the first key is above the last one
+            (1, Step::Scan(9, 5, END)),
+            (1, Step::Get(9, Ok(Some(1)))),
+            (1, Step::Abort(Ok(Aborted { number: 1 }))),
+            (1, Step::Begin(Ok(Began { number: 2 }))),
+            (1, Step::Scan(0, 1000, END)),
+        ],
+    },
+    Case {
+        name: "a scan stops behind sixty-four pairs",
+        sessions: 1,
+        group: 1,
+        failing: &[],
+        steps: &[
+            (1, Step::Begin(Ok(Began { number: 1 }))),
+            (1, Step::Keys(0, 59)),
+            (1, Step::Commit(Ok(receipt!(1, 1, 61, 0)))),
+            (1, Step::Durable(1, 1)),
+            (1, Step::NoDurable),
+            (1, Step::Begin(Ok(Began { number: 2 }))),
+            (1, Step::Keys(60, 65)),
+            (1, Step::Scan(0, 1000, pair!(0, 7))),
+            (1, Step::Pairs(1, 63)),
+            (1, Step::Next(Ok(buffered_engine::Step::More { from: 64 }))),
+            (1, Step::NoDurable),
+            (1, Step::Scan(64, 1000, pair!(64, 7))),
+            (1, Step::Next(pair!(65, 7))),
+            (1, Step::Next(END)),
+            // the sixty-fourth pair has the last key
+            (1, Step::Scan(2, 65, pair!(2, 7))),
+            (1, Step::Pairs(3, 65)),
+            (1, Step::Next(END)),
+        ],
+    },
+    Case {
+        name: "a scan that meets a conflict is aborted behind its pairs",
+        sessions: 2,
+        group: 1,
+        failing: &[],
+        steps: &[
+            (1, Step::Begin(Ok(Began { number: 1 }))),
+            (1, Step::Put(5, 7, Ok(None))),
+            (1, Step::Put(6, 7, Ok(None))),
+            (1, Step::Commit(Ok(receipt!(1, 1, 3, 0)))),
+            (1, Step::Durable(1, 1)),
+            (2, Step::Begin(Ok(Began { number: 1 }))),
+            (2, Step::Del(6, Ok(Some(7)))),
+            (1, Step::Begin(Ok(Began { number: 2 }))),
+            (1, Step::Scan(5, 9, pair!(5, 7))),
+            (1, Step::Next(Err(Refusal::Conflict { holder: 2 }))),
+            (1, Step::Hindered(2)),
+            (1, Step::Begin(Ok(Began { number: 3 }))),
+            (1, Step::Scan(6, 9, Err(Refusal::Conflict { holder: 2 }))),
+            (1, Step::Hindered(3)),
+            // and its own rows are in nobody's way then
+            (2, Step::Put(5, 8, Ok(Some(7)))),
+            (2, Step::Scan(5, 6, pair!(5, 8))),
+            (2, Step::Next(END)),
         ],
     },
 ];
@@ -261,11 +360,40 @@ fn is_called(engine: &mut Engine<MemDisk>, session: u32, step: &Step) -> bool {
             engine.put(session, u64::from(*key), u64::from(*value)) == *want
         }
         Step::Del(key, want) => engine.del(session, u64::from(*key)) == *want,
+        Step::Scan(from, to, want) => {
+            engine.scan(session, u64::from(*from), u64::from(*to)) == *want
+        }
         Step::Commit(want) => engine.commit(session) == *want,
         Step::Abort(want) => engine.abort(session) == *want,
         Step::Sync(want) => engine.sync() == *want,
         _ => false,
     }
+}
+
+// Whether this follows a pair of a scan.
+fn is_next(engine: &mut Engine<MemDisk>, want: &Result<buffered_engine::Step, Refusal>) -> bool {
+    engine.expects() == Next::Scan && engine.next_pair() == *want
+}
+
+// Whether pairs of 7 follow, of each key from one up to another.
+fn are_next(engine: &mut Engine<MemDisk>, from: u32, to: u32) -> bool {
+    for key in from..=to {
+        if !is_next(engine, &pair!(u64::from(key), 7)) {
+            return false;
+        }
+    }
+    true
+}
+
+// Whether 7 is put at each key from one up to another, which have no value.
+fn are_put(engine: &mut Engine<MemDisk>, session: u32, from: u32, to: u32) -> bool {
+    for key in from..=to {
+        take_rest(engine);
+        if !is_called(engine, session, &Step::Put(key, 7, Ok(None))) {
+            return false;
+        }
+    }
+    true
 }
 
 // Whether the commit that is durable next is this one.
@@ -286,6 +414,9 @@ fn is_done(engine: &mut Engine<MemDisk>, session: u32, step: &Step) -> bool {
             engine.expects() == Next::Abort
                 && engine.answer_abort() == Ok(Answer::Aborted { number: *number })
         }
+        Step::Next(want) => is_next(engine, want),
+        Step::Pairs(from, to) => are_next(engine, *from, *to),
+        Step::Keys(from, to) => are_put(engine, session, *from, *to),
         Step::Ripe(receipt, want) => {
             receipt.log > 0 && receipt.log <= engine.sessions() && engine.ripe(receipt) == *want
         }

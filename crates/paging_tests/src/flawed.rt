@@ -104,6 +104,10 @@ impl Hosts for FlawedDisk {
         engine.answer_abort()
     }
 
+    fn scan_on(engine: &mut Engine<FlawedDisk>) -> Result<Answer, Unanswered> {
+        engine.answer_scan()
+    }
+
     fn durable_on(engine: &mut Engine<FlawedDisk>) -> Option<Durable> {
         engine.next_durable()
     }

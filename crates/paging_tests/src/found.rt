@@ -1,6 +1,6 @@
 // What is found behind a crash: which transactions it kept, and the map.
 use crate::cases::expect;
-use crate::plain::{Commit, Plain, SESSIONS, WITNESS, copied, set};
+use crate::plain::{Commit, Left, Plain, SESSIONS, WITNESS, copied, set};
 use crate::runs::{MEMORY, Outcome, at_rest, run_command};
 use lean_disk::MemDisk;
 use std::alloc::{AllocError, Global};
@@ -9,10 +9,10 @@ use std::process::Abort;
 use std::sync::Wait;
 use std::thread::Threads;
 
-// A run that is judged: the map before it, and its plain map.
+// A run that is judged: what was left before it, and its plain map.
 #[derive(Drop)]
 pub(crate) struct Scene<'a> {
-    pub before: &'a BTreeMap<u64, u64>,
+    pub before: &'a Left,
     pub plain: &'a Plain,
 }
 
@@ -69,7 +69,7 @@ fn is_kept(newest: &[u64], commit: &Commit) -> bool {
 
 // The map behind those that were kept, in the order of their commits, and how many there are.
 fn map_behind<R: Abort>(rt: &R, scene: &Scene<'_>, newest: &[u64]) -> (BTreeMap<u64, u64>, u64) {
-    let mut map = copied(scene.plain.alloc, scene.before).expect(rt, MEMORY);
+    let mut map = copied(scene.plain.alloc, &scene.before.map).expect(rt, MEMORY);
     let mut count = 0u64;
     for commit in &scene.plain.commits {
         if is_kept(newest, commit) {
@@ -80,6 +80,24 @@ fn map_behind<R: Abort>(rt: &R, scene: &Scene<'_>, newest: &[u64]) -> (BTreeMap<
         }
     }
     (map, count)
+}
+
+// What is left where these were kept.
+fn left_behind<R: Abort>(
+    rt: &R,
+    scene: &Scene<'_>,
+    newest: &[u64],
+    map: BTreeMap<u64, u64>,
+) -> Left {
+    let mut kept = Vec::new(scene.plain.alloc);
+    for commit in &scene.plain.commits {
+        kept.push(is_kept(newest, commit)).expect(rt, MEMORY);
+    }
+    let entries = scene
+        .before
+        .entries_behind(scene.plain, &kept)
+        .expect(rt, MEMORY);
+    Left { map, entries }
 }
 
 // Whether each that was kept read and overwrote only what those have written that were kept too, or what was there before.
@@ -130,7 +148,7 @@ fn are_durable_kept(newest: &[u64], run: &Outcome, moment: u64) -> bool {
 }
 
 /// Ends the test where a dump of what a crash of the run has left at a moment is not the map behind a set of its transactions, in the order of their commits, that
-/// holds every one that was told durable, and each whose write a member read or overwrote; and the first line tells how many these are. That map.
+/// holds every one that was told durable, and each whose write a member read or overwrote; and the first line tells how many these are. What is left.
 pub(crate) fn judge<R: Threads + Wait + Sync + Abort>(
     rt: &R,
     alloc: Global,
@@ -138,7 +156,7 @@ pub(crate) fn judge<R: Threads + Wait + Sync + Abort>(
     run: &Outcome,
     moment: u64,
     left: &MemDisk,
-) -> BTreeMap<u64, u64> {
+) -> Left {
     let dump = run_command(rt, alloc, &["lean", "dump"], "", at_rest(rt, left));
     expect(rt, "a dump behind a crash", dump.status == 0);
     let newest = newest_of(rt, scene.plain, dump.printed());
@@ -170,5 +188,5 @@ pub(crate) fn judge<R: Threads + Wait + Sync + Abort>(
         "the map behind a crash",
         dump.printed().ends_with(pairs.as_str()),
     );
-    map
+    left_behind(rt, scene, &newest, map)
 }

@@ -17,12 +17,32 @@ const MOST: u64 = 1000;
 /// How many lock rows there are. Keys that leave the same rest share one.
 pub(crate) const ROWS: u64 = 4096;
 
-// A key that a session holds until its transaction ends, alone or beside others that read it.
+// How many pairs a scan tells.
+const PAIRS: u64 = 64;
+
+// A key that a session holds until its transaction ends, alone or beside others that read it; or perhaps holds, since it is not sure that a scan met it.
 #[derive(Clone, Copy)]
 struct Held {
     session: u32,
     key: u64,
     is_alone: bool,
+    is_sure: bool,
+}
+
+// An entry that a scan meets, surely or perhaps, and its value.
+#[derive(Clone, Copy)]
+struct Entry {
+    key: u64,
+    value: Option<u64>,
+    is_sure: bool,
+}
+
+/// What a run begins on: a map, and the keys that have an entry in the tree. Each key of the map has one, and so has each that was ever written, but where a crash
+/// lost what wrote it, it is not sure that it has.
+#[derive(Drop)]
+pub(crate) struct Left {
+    pub map: BTreeMap<u64, u64>,
+    pub entries: BTreeMap<u64, bool>,
 }
 
 // A change of a session: its key, and the value before.
@@ -68,11 +88,12 @@ pub(crate) struct Wanted {
     pub durable: Option<String>,
 }
 
-/// The map as the sessions see it, what they have changed, the newest last, what they hold, and the commits of this run.
+/// The map as the sessions see it, the keys with an entry, what the sessions have changed, the newest last, what they hold, and the commits of this run.
 #[derive(Drop)]
 pub(crate) struct Plain {
     pub alloc: Global,
     pub map: BTreeMap<u64, u64>,
+    pub entries: BTreeMap<u64, bool>,
     changes: Vec<Change>,
     held: Vec<Held>,
     sessions: [Session; 3],
@@ -108,12 +129,53 @@ pub(crate) fn copied(
     Ok(copy)
 }
 
+impl Left {
+    /// A map, and no entry else.
+    pub(crate) fn of(alloc: Global, map: BTreeMap<u64, u64>) -> Result<Left, AllocError> {
+        let mut entries = BTreeMap::new(alloc);
+        for (key, _) in &map {
+            entries.insert(*key, true)?;
+        }
+        Ok(Left { map, entries })
+    }
+
+    /// The entries, with those that a run wrote: surely the keys of these commits, and perhaps its others.
+    pub(crate) fn entries_behind(
+        &self,
+        plain: &Plain,
+        is_kept: &[bool],
+    ) -> Result<BTreeMap<u64, bool>, AllocError> {
+        let mut entries = BTreeMap::new(plain.alloc);
+        for (key, is_sure) in &self.entries {
+            entries.insert(*key, *is_sure)?;
+        }
+        for (place, commit) in plain.commits.iter().enumerate() {
+            if is_kept.get(place).copied().unwrap_or(false) {
+                for write in &commit.writes {
+                    entries.insert(write.key, true)?;
+                }
+            }
+        }
+        for (key, _) in &plain.entries {
+            if entries.get(key).is_none() {
+                entries.insert(*key, false)?;
+            }
+        }
+        Ok(entries)
+    }
+}
+
 impl Plain {
-    /// A run begins on this map.
-    pub(crate) fn new(alloc: Global, map: BTreeMap<u64, u64>, run: u64) -> Plain {
-        Plain {
+    /// A run begins on what was left.
+    pub(crate) fn new(alloc: Global, left: &Left, run: u64) -> Result<Plain, AllocError> {
+        let mut entries = BTreeMap::new(alloc);
+        for (key, is_sure) in &left.entries {
+            entries.insert(*key, *is_sure)?;
+        }
+        Ok(Plain {
             alloc,
-            map,
+            map: copied(alloc, &left.map)?,
+            entries,
             changes: Vec::new(alloc),
             held: Vec::new(alloc),
             sessions: [NEW; 3],
@@ -121,7 +183,7 @@ impl Plain {
             run,
             text: String::new(alloc),
             wanted: Vec::new(alloc),
-        }
+        })
     }
 
     fn session(&self, session: u32) -> Session {
@@ -233,7 +295,14 @@ impl Plain {
     }
 
     // Whether another session holds the key: then the transaction is aborted. Else this one holds it.
-    fn is_hindered<R: Abort>(&mut self, rt: &R, session: u32, key: u64, is_alone: bool) -> bool {
+    fn is_hindered<R: Abort>(
+        &mut self,
+        rt: &R,
+        session: u32,
+        key: u64,
+        is_alone: bool,
+        is_sure: bool,
+    ) -> bool {
         match self.holder(session, key, is_alone) {
             Some(other) => {
                 let line = format!(in self.alloc; "{session} conflict {other}").expect(rt, MEMORY);
@@ -247,6 +316,7 @@ impl Plain {
                     session,
                     key,
                     is_alone,
+                    is_sure,
                 };
                 self.held.push(held).expect(rt, MEMORY);
                 false
@@ -267,12 +337,101 @@ impl Plain {
     }
 
     fn get<R: Abort>(&mut self, rt: &R, session: u32, key: u64) {
-        if self.is_hindered(rt, session, key, false) {
+        if self.is_hindered(rt, session, key, false, true) {
             return;
         }
         let value = self.map.get(&key).copied();
         let word = if value.is_some() { "value " } else { "" };
         self.want_value(rt, session, word, value);
+    }
+
+    // A key that was written keeps its entry.
+    fn note_entry(&mut self, key: u64) -> Result<(), AllocError> {
+        self.entries.insert(key, true)?;
+        Ok(())
+    }
+
+    // The entries that a scan meets, if no other session hinders it: up to the first pair that is not below its last key, or to the last pair that it tells. One above
+    // its last key it meets where the leaf of that key has it, which is not known here.
+    fn met_by<R: Abort>(&self, rt: &R, from: u64, to: u64) -> Vec<Entry> {
+        let mut met = Vec::new(self.alloc);
+        let mut pairs = 0u64;
+        if from > to {
+            return met;
+        }
+        for (key, is_sure) in self.entries.range(from..) {
+            let entry = Entry {
+                key: *key,
+                value: self.map.get(key).copied(),
+                is_sure: *is_sure && *key <= to,
+            };
+            met.push(entry).expect(rt, MEMORY);
+            if entry.value.is_some() {
+                pairs = pairs.saturating_add(1);
+                if *key >= to || pairs == PAIRS {
+                    return met;
+                }
+            }
+        }
+        met
+    }
+
+    // It holds each entry that it meets, one without a value too.
+    fn scan<R: Abort>(&mut self, rt: &R, session: u32, from: u64, to: u64) {
+        let mut pairs = 0u64;
+        let mut next = from;
+        for entry in &self.met_by(rt, from, to) {
+            let Entry {
+                key,
+                value,
+                is_sure,
+            } = *entry;
+            if self.is_hindered(rt, session, key, false, is_sure) {
+                return;
+            }
+            if let Some(value) = value {
+                if key <= to {
+                    let line = format!(in self.alloc; "{session} pair {key} {value}").expect(
+                        rt, MEMORY,
+                    );
+                    self.want(rt, line, None);
+                    pairs = pairs.saturating_add(1);
+                    next = key.saturating_add(1);
+                }
+            }
+        }
+        if pairs == PAIRS && next <= to {
+            let line = format!(in self.alloc; "{session} more {next}").expect(rt, MEMORY);
+            self.want(rt, line, None);
+        } else {
+            self.want_words(rt, session, "end");
+        }
+    }
+
+    // Whether a session perhaps holds the key's row, beside which another may not have it alone.
+    fn is_perhaps_held(&self, session: u32, key: u64) -> bool {
+        for held in &self.held {
+            if !held.is_sure && held.session != session && held.key % ROWS == key % ROWS {
+                return true;
+            }
+        }
+        false
+    }
+
+    /// Whether what the call is answered hangs on an entry of which it is not sure that a scan meets it.
+    pub(crate) fn is_doubtful<R: Abort>(&self, rt: &R, session: u32, call: Call) -> bool {
+        match call {
+            Call::Put { key, .. } | Call::Del { key } => self.is_perhaps_held(session, key),
+            Call::Scan { from, to } => {
+                for entry in &self.met_by(rt, from, to) {
+                    if self.holder(session, entry.key, false).is_some() {
+                        return !entry.is_sure;
+                    }
+                }
+                false
+            }
+            _ => false,
+        }
     }
 
     // A del of an absent key changes nothing.
@@ -281,23 +440,24 @@ impl Plain {
             self.want_words(rt, session, "too-long");
             return;
         }
-        if self.is_hindered(rt, session, key, true) {
+        if self.is_hindered(rt, session, key, true, true) {
             return;
         }
         let was = self.map.get(&key).copied();
         if was.is_some() || value.is_some() {
             let change = Change { session, key, was };
             self.changes.push(change).expect(rt, MEMORY);
+            self.note_entry(key).expect(rt, MEMORY);
             set(&mut self.map, key, value).expect(rt, MEMORY);
         }
         self.want_value(rt, session, "was ", was);
     }
 
-    // What the session's transaction holds, and what it has written by now.
+    // What the session's transaction surely holds, and what it has written by now.
     fn commit_of<R: Abort>(&self, rt: &R, session: u32) -> Commit {
         let mut held = Vec::new(self.alloc);
         for one in &self.held {
-            if one.session == session {
+            if one.session == session && one.is_sure {
                 held.push(one.key).expect(rt, MEMORY);
             }
         }
@@ -339,6 +499,7 @@ impl Plain {
             Call::Get { key } => self.get(rt, session, key),
             Call::Put { key, value } => self.write(rt, session, key, Some(value)),
             Call::Del { key } => self.write(rt, session, key, None),
+            Call::Scan { from, to } => self.scan(rt, session, from, to),
             Call::Commit => self.commit(rt, session),
             _ => {
                 self.end(rt, session, true);
@@ -354,6 +515,7 @@ impl Plain {
             Call::Get { key } => format!(in alloc; "{session} get {key}\n"),
             Call::Put { key, value } => format!(in alloc; "{session} put {key} {value}\n"),
             Call::Del { key } => format!(in alloc; "{session} del {key}\n"),
+            Call::Scan { from, to } => format!(in alloc; "{session} scan {from} {to}\n"),
             Call::Commit => format!(in alloc; "{session} commit\n"),
             Call::Abort => format!(in alloc; "{session} abort\n"),
             _ => format!(in alloc; "{session} begin\n"),
@@ -369,13 +531,16 @@ impl Plain {
         }
     }
 
-    /// Adds a begin of a session, and the put of its own key.
+    /// Adds a begin of a session, and the put of its own key, if it is not doubtful how that is answered.
     pub(crate) fn add_begin<R: Abort>(&mut self, rt: &R, session: u32) {
+        let key = WITNESS.saturating_add(u64::from(session));
+        if self.is_perhaps_held(session, key) {
+            return;
+        }
         let is_new = !self.is_open(session);
         self.add(rt, session, Call::Begin);
         if is_new {
             let value = self.mark(self.session(session).begun);
-            let key = WITNESS.saturating_add(u64::from(session));
             self.add(rt, session, Call::Put { key, value });
         }
     }

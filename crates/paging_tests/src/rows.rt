@@ -2,7 +2,7 @@
 use crate::cases::expect;
 use crate::flawed::FlawedDisk;
 use crate::found::{number_behind, pairs_of};
-use crate::plain::{Plain, copied, set};
+use crate::plain::{Left, Plain, copied, set};
 use crate::runs::{MEMORY, Open, at_rest, run_command, words_of};
 use crate::scripts::{TREES, Tree, behind_first, count_met, grown};
 use lean_disk::MemDisk;
@@ -10,7 +10,6 @@ use lean_edge::{MemSink, MemSource};
 use lean_shell::{Ended, run};
 use map_model::Call;
 use std::alloc::Global;
-use std::collections::BTreeMap;
 use std::process::Abort;
 use std::str;
 use std::sync::Wait;
@@ -35,7 +34,10 @@ const KEYS: u64 = 6000;
 // How many a transaction puts.
 const PUTS: u64 = 60;
 
-// Each key is put with its own number as its value, and then all are read in one transaction.
+// How many pairs a scan tells.
+const PAIRS: u64 = 64;
+
+// Each key is put with its own number as its value, and then all are read in one transaction, and read again by scans, one behind another.
 fn six_thousand<R: Abort>(rt: &R, alloc: Global) -> String {
     let mut text = String::new(alloc);
     for key in 1..=KEYS {
@@ -53,15 +55,42 @@ fn six_thousand<R: Abort>(rt: &R, alloc: Global) -> String {
         let line = format!(in alloc; "1 get {key}\n").expect(rt, MEMORY);
         text.push_str(&line).expect(rt, MEMORY);
     }
+    for place in 0..=KEYS / PAIRS {
+        let from = place.saturating_mul(PAIRS).saturating_add(1);
+        let line = format!(in alloc; "1 scan {from} {KEYS}\n").expect(rt, MEMORY);
+        text.push_str(&line).expect(rt, MEMORY);
+    }
     text.push_str("1 commit\n").expect(rt, MEMORY);
     text
 }
 
-// Whether each put found no value, and each get found its key's number.
+// Whether the line tells this key, and its own number as its value.
+fn is_pair(line: &str, key: u64) -> bool {
+    match line.rsplit_once(' ') {
+        Some((_, value)) => {
+            number_behind(line, "1 pair ") == Some(key) && number_behind(value, "") == Some(key)
+        }
+        None => false,
+    }
+}
+
+// Whether each put found no value, each get found its key's number, and the scans met each key once, in rising order.
 fn are_six_thousand(printed: &str) -> bool {
     let mut puts = 0u64;
     let mut gets = 0u64;
+    let mut pairs = 0u64;
     for line in printed.lines() {
+        if line.starts_with("1 pair ") {
+            pairs = pairs.saturating_add(1);
+            if !is_pair(line, pairs) {
+                return false;
+            }
+        }
+        if let Some(next) = number_behind(line, "1 more ") {
+            if next != pairs.saturating_add(1) || pairs % PAIRS != 0 {
+                return false;
+            }
+        }
         if line == "1 was none" {
             puts = puts.saturating_add(1);
         }
@@ -72,7 +101,7 @@ fn are_six_thousand(printed: &str) -> bool {
             }
         }
     }
-    puts == KEYS && gets == KEYS
+    puts == KEYS && gets == KEYS && pairs == KEYS
 }
 
 #[test]
@@ -101,16 +130,21 @@ fn six_thousand_keys_print_the_same_in_however_many_frames(rt: HostRuntime) {
 // So many reads of pages behind the opening are given as they are; behind these the disk shows zeros.
 const READS: [u64; 5] = [0, 1, 2, 9, 40];
 
-// A put, and gets of keys in leaves of their own.
-fn gets_of<R: Abort>(rt: &R, alloc: Global, before: &BTreeMap<u64, u64>) -> Plain {
-    let mut plain = Plain::new(alloc, copied(alloc, before).expect(rt, MEMORY), 1);
+// A put, and gets and scans of keys in leaves of their own.
+fn gets_of<R: Abort>(rt: &R, alloc: Global, before: &Left) -> Plain {
+    let mut plain = Plain::new(alloc, before, 1).expect(rt, MEMORY);
     plain.add(rt, 1, Call::Begin);
     plain.add(rt, 1, Call::Put { key: 2, value: 7 });
     plain.add(rt, 1, Call::Commit);
     plain.add(rt, 1, Call::Begin);
     for place in 1..60u64 {
         let key = place.saturating_mul(200);
-        plain.add(rt, 1, Call::Get { key });
+        if place % 2 == 0 {
+            plain.add(rt, 1, Call::Get { key });
+        } else {
+            let to = key.saturating_add(90);
+            plain.add(rt, 1, Call::Scan { from: key, to });
+        }
     }
     plain
 }
@@ -121,7 +155,7 @@ fn show_zeros<R: Threads + Wait + Sync + Abort>(
     alloc: Global,
     tree: &Tree,
     disk: &MemDisk,
-    before: &BTreeMap<u64, u64>,
+    before: &Left,
     reads: u64,
 ) {
     let plain = gets_of(rt, alloc, before);
@@ -153,7 +187,7 @@ fn show_zeros<R: Threads + Wait + Sync + Abort>(
     );
     let met = count_met(rt, alloc, behind_first(lines), &plain.wanted);
     expect(rt, "the lines before a damaged page", met.is_some());
-    let mut map = copied(alloc, before).expect(rt, MEMORY);
+    let mut map = copied(alloc, &before.map).expect(rt, MEMORY);
     if lines.contains("1 durable 1.1") {
         set(&mut map, 2, Some(7)).expect(rt, MEMORY);
     }

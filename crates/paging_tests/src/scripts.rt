@@ -1,7 +1,7 @@
 // Scripts on trees of many pages, in few frames.
 use crate::cases::expect;
 use crate::found::{Scene, judge};
-use crate::plain::{Plain, Wanted, copied, set};
+use crate::plain::{Left, Plain, Wanted, set};
 use crate::runs::{
     MEMORY, Outcome, any_below, any_crash, at_rest, crashed, formatted, run_command,
 };
@@ -110,12 +110,12 @@ const AREAS: u32 = 5;
 // How many keys a transaction puts that makes a tree.
 const PUTS: u64 = 60;
 
-/// Puts each even key below a bound. The map, and the disk with no block to redo.
+/// Puts each even key below a bound. What is left, and the disk with no block to redo.
 pub(crate) fn grown<R: Threads + Wait + Sync + Abort>(
     rt: &R,
     alloc: Global,
     tree: &Tree,
-) -> (MemDisk, BTreeMap<u64, u64>) {
+) -> (MemDisk, Left) {
     let mut text = String::new(alloc);
     let mut map = BTreeMap::new(alloc);
     text.push_str("1 begin\n").expect(rt, MEMORY);
@@ -133,7 +133,15 @@ pub(crate) fn grown<R: Threads + Wait + Sync + Abort>(
     let put = run_command(rt, alloc, &["lean", "run"], text.as_str(), new);
     expect(rt, "a tree that was made", put.status == 0);
     let next = run_command(rt, alloc, &["lean", "run"], "", at_rest(rt, &put.disk));
-    (at_rest(rt, &next.disk), map)
+    (
+        at_rest(rt, &next.disk),
+        Left::of(alloc, map).expect(rt, MEMORY),
+    )
+}
+
+// Whether further lines answer the same call.
+fn goes_on(line: &str) -> bool {
+    line.contains(" pair ") || line.contains(" conflict ")
 }
 
 // Takes a durable line away from those that are due. Of each session the oldest comes first.
@@ -155,7 +163,7 @@ fn is_due<R: Abort>(rt: &R, alloc: Global, due: &mut Vec<String>, line: &str) ->
 }
 
 /// Whether these lines are those that are wanted, from the first on, and among them each commit durable once, behind its answer, and before the line behind the next
-/// sync. How many of those that are wanted were there; none where one is another.
+/// sync; and none between the answers to one line. How many of those that are wanted were there; none where one is another.
 pub(crate) fn count_met<R: Abort>(
     rt: &R,
     alloc: Global,
@@ -166,9 +174,10 @@ pub(crate) fn count_met<R: Abort>(
     let mut met = 0usize;
     let mut due = Vec::new(alloc);
     let mut is_synced = false;
+    let mut is_within = false;
     for line in printed.lines() {
         if line.contains(" durable ") {
-            if !is_due(rt, alloc, &mut due, line) {
+            if is_within || !is_due(rt, alloc, &mut due, line) {
                 return None;
             }
         } else {
@@ -184,6 +193,7 @@ pub(crate) fn count_met<R: Abort>(
             }
             met = met.saturating_add(1);
             is_synced = line.starts_with("synced ");
+            is_within = goes_on(line);
             if let Some(durable) = &want.durable {
                 let copy = String::from_str(alloc, durable.as_str()).expect(rt, MEMORY);
                 due.push(copy).expect(rt, MEMORY);
@@ -275,10 +285,10 @@ fn run_once<R: Threads + Wait + Sync + Abort>(
     random: &mut Pcg32,
     tree: &Tree,
     number: u64,
-    before: &BTreeMap<u64, u64>,
+    before: &Left,
     disk: &MemDisk,
-) -> (MemDisk, BTreeMap<u64, u64>) {
-    let mut plain = Plain::new(alloc, copied(alloc, before).expect(rt, MEMORY), number);
+) -> (MemDisk, Left) {
+    let mut plain = Plain::new(alloc, before, number).expect(rt, MEMORY);
     add_lines(rt, random, &mut plain, &tree.walk);
     let group = match any_below(random, 3) {
         _ if tree.walk.sessions == 1 => "1",
@@ -313,25 +323,25 @@ fn run_once<R: Threads + Wait + Sync + Abort>(
     // Seldom in the opening.
     let opened = run.sink.moments.first().copied().unwrap_or(0);
     let mut left = at_rest(rt, &run.disk);
-    let mut map = judge(rt, alloc, &scene, &run, end, &left);
+    let mut found = judge(rt, alloc, &scene, &run, end, &left);
     for _ in 0..CRASHES {
         let first = if any_below(random, 8) == 0 { 0 } else { opened };
         let crash = any_crash(random, first, end);
         left = crashed(rt, alloc, &run.disk, &crash);
-        map = judge(rt, alloc, &scene, &run, crash.moment, &left);
+        found = judge(rt, alloc, &scene, &run, crash.moment, &left);
     }
-    (left, map)
+    (left, found)
 }
 
 // Goes through the scripts of a tree.
 fn go<R: Threads + Wait + Sync + Abort>(rt: &R, alloc: Global, place: usize, seed: u64) {
     let tree = TREES.get(place).expect(rt, "a tree");
     let mut random = Pcg32::new(seed, 4);
-    let (mut disk, mut map) = grown(rt, alloc, tree);
+    let (mut disk, mut before) = grown(rt, alloc, tree);
     for number in 1..=tree.scripts {
-        let (left, found) = run_once(rt, alloc, &mut random, tree, number, &map, &disk);
+        let (left, found) = run_once(rt, alloc, &mut random, tree, number, &before, &disk);
         disk = left;
-        map = found;
+        before = found;
     }
 }
 
@@ -372,7 +382,7 @@ fn each_call_that_fails_keeps_what_was_told(rt: HostRuntime) {
     let tree = TREES.get(4).expect(&rt, "a tree");
     let mut random = Pcg32::new(43, 4);
     let (disk, before) = grown(&rt, alloc, tree);
-    let mut plain = Plain::new(alloc, copied(alloc, &before).expect(&rt, MEMORY), 1);
+    let mut plain = Plain::new(alloc, &before, 1).expect(&rt, MEMORY);
     add_lines(&rt, &mut random, &mut plain, &tree.walk);
     let scene = Scene {
         before: &before,

@@ -26,6 +26,19 @@ fn any_key(random: &mut Pcg32, bound: u64) -> u64 {
     any_below(random, bound)
 }
 
+// A scan: mostly of a few keys, also of more than it tells, and from a key above its last one.
+fn any_scan(random: &mut Pcg32, walk: &Walk) -> Call {
+    let from = any_key(random, walk.bound);
+    let keys = match random.next_word() % 4 {
+        0 => 400,
+        _ => 24,
+    };
+    let to = from
+        .saturating_add(any_below(random, keys))
+        .saturating_sub(2);
+    Call::Scan { from, to }
+}
+
 // A line of a session in a transaction.
 fn any_call(random: &mut Pcg32, walk: &Walk) -> Call {
     let key = any_key(random, walk.bound);
@@ -36,9 +49,10 @@ fn any_call(random: &mut Pcg32, walk: &Walk) -> Call {
             _ => Call::Commit,
         };
     }
-    match random.next_word() % 8 {
-        0..=2 => Call::Get { key },
-        3..=6 => Call::Put { key, value },
+    match random.next_word() % 16 {
+        0..=4 => Call::Get { key },
+        5 => any_scan(random, walk),
+        6..=13 => Call::Put { key, value },
         _ => Call::Del { key },
     }
 }
@@ -64,7 +78,12 @@ pub(crate) fn add_lines<R: Abort>(rt: &R, random: &mut Pcg32, plain: &mut Plain,
             }
             if plain.is_open(session) {
                 let call = any_call(random, walk);
-                plain.add(rt, session, call);
+                if plain.is_doubtful(rt, session, call) {
+                    let key = any_key(random, walk.bound);
+                    plain.add(rt, session, Call::Get { key });
+                } else {
+                    plain.add(rt, session, call);
+                }
             } else {
                 plain.add_begin(rt, session);
             }

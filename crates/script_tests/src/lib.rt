@@ -14,6 +14,8 @@ mod programs;
 #[cfg(test)]
 mod rows;
 #[cfg(test)]
+mod scans;
+#[cfg(test)]
 mod scripts;
 #[cfg(test)]
 mod sessions;
