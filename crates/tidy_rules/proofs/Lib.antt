@@ -1,0 +1,4 @@
+pub mod FreedLemmas
+pub mod PurgeLemmas
+pub mod TidyLemmas
+pub mod ByHand

@@ -1,0 +1,6 @@
+-- Read Purges, Rooms and Tidying, what changes the tree; then Laws and Rows.
+pub mod Purges
+pub mod Rooms
+pub mod Tidying
+pub mod Laws
+pub mod Rows
