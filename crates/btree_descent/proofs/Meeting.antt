@@ -3,23 +3,23 @@ use Rattle.std.proofs.Common.{◌≡◌, ◌≢◌, ◌==◌, ◌&&◌, ltb, ℕ
 use Rattle.std.proofs.lemmas.Bool.{and_from}
 use Rattle.map_model.specs.Maps.{MapAnswer}
 use Rattle.page_model.specs.Nodes.{holds}
-use Rattle.core_state.specs.Openings.{Opening}
-use Rattle.core_state.specs.Events as happening
-use Rattle.core_state.specs.Needs as core
-use Rattle.core_state.specs.Needs.{holds_row, holds_answer, is_following, following, is_leaf_of}
-use Rattle.core_state.specs.States.{State, is_hot}
-use Rattle.core_state.specs.Steps.{happens}
-use Rattle.row_words.specs.declared.event.Event.{Event}
-use Rattle.row_words.specs.declared.event.Event.TheVariants.{Next, Miss}
-use Rattle.row_words.specs.declared.event.Met.{Met}
-use Rattle.row_words.specs.declared.event.Met.TheVariants as met
-use Rattle.row_words.specs.declared.given.Given.{Given}
-use Rattle.row_words.specs.Moments.{Moment, met_of}
-use Rattle.row_words.specs.Openings.{opening}
-use Rattle.row_words.specs.Sealed.{stepped}
-use Rattle.rows_trait.specs.declared.view.View.{View}
-use Rattle.rows_trait.specs.Views.{AreSilent, after_all, state}
-use Rattle.version_latch.proofs.Naming.{one_silent, either_silent}
+use Rattle.lean_proto.specs.core_state.Openings.{Opening}
+use Rattle.lean_proto.specs.core_state.Events as happening
+use Rattle.lean_proto.specs.core_state.Needs as core
+use Rattle.lean_proto.specs.core_state.Needs.{holds_row, holds_answer, is_following, following, is_leaf_of}
+use Rattle.lean_proto.specs.core_state.States.{State, is_hot}
+use Rattle.lean_proto.specs.core_state.Steps.{happens}
+use Rattle.lean_proto.specs.row_words.declared.event.Event.{Event}
+use Rattle.lean_proto.specs.row_words.declared.event.Event.TheVariants.{Next, Miss}
+use Rattle.lean_proto.specs.row_words.declared.event.Met.{Met}
+use Rattle.lean_proto.specs.row_words.declared.event.Met.TheVariants as met
+use Rattle.lean_proto.specs.row_words.declared.given.Given.{Given}
+use Rattle.lean_proto.specs.row_words.Moments.{Moment, met_of}
+use Rattle.lean_proto.specs.row_words.Openings.{opening}
+use Rattle.lean_proto.specs.row_words.Sealed.{stepped}
+use Rattle.lean_proto.specs.rows_trait.declared.view.View.{View}
+use Rattle.lean_proto.specs.rows_trait.Views.{AreSilent, after_all, state}
+use Rattle.lean_proto.proofs.version_latch_lemmas.Naming.{one_silent, either_silent}
 use Rattle.btree_descent.specs.Named.{next_at, met_or}
 use Rattle.btree_descent.specs.Meets.{answer_with, HoldsIts}
 use Rattle.btree_descent.proofs.Pasts.{LeavesPages, state_then}

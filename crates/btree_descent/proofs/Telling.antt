@@ -2,22 +2,22 @@
 use Rattle.std.proofs.Common.{◌≡◌, ◌%◌, ℕ, Bool, true, List, [], ◌∷◌, Some, None, refl, sym, ap, subst, ◌∙◌}
 use Rattle.page_model.specs.Nodes.{Node}
 use Rattle.page_model.specs.Page as stored
-use Rattle.core_state.specs.Needs.{holds_row}
-use Rattle.core_state.specs.States.{Worker, is_hot}
+use Rattle.lean_proto.specs.core_state.Needs.{holds_row}
+use Rattle.lean_proto.specs.core_state.States.{Worker, is_hot}
 use Rattle.core_index.specs.Walks.{met_keys}
-use Rattle.row_words.specs.declared.event.Event.TheVariants as event
-use Rattle.row_words.specs.declared.event.Event.TheVariants.{Miss}
-use Rattle.row_words.specs.declared.event.Met.{Met}
-use Rattle.row_words.specs.declared.given.Given.{Given}
-use Rattle.row_words.specs.Moments.{format_of}
-use Rattle.row_words.specs.Openings.{opening}
-use Rattle.row_words.specs.Words.{framed_page}
-use Rattle.rows_trait.specs.declared.view.Act.{Act}
-use Rattle.rows_trait.specs.declared.view.View.{View}
-use Rattle.rows_trait.specs.Views.{after_all, state, may}
-use Rattle.rows_trait.specs.Turns.{Ran}
-use Rattle.rows_trait.proofs.Runs.{ran_append}
-use Rattle.version_latch.proofs.Keeping.{may_ran}
+use Rattle.lean_proto.specs.row_words.declared.event.Event.TheVariants as event
+use Rattle.lean_proto.specs.row_words.declared.event.Event.TheVariants.{Miss}
+use Rattle.lean_proto.specs.row_words.declared.event.Met.{Met}
+use Rattle.lean_proto.specs.row_words.declared.given.Given.{Given}
+use Rattle.lean_proto.specs.row_words.Moments.{format_of}
+use Rattle.lean_proto.specs.row_words.Openings.{opening}
+use Rattle.lean_proto.specs.row_words.Words.{framed_page}
+use Rattle.lean_proto.specs.rows_trait.declared.view.Act.{Act}
+use Rattle.lean_proto.specs.rows_trait.declared.view.View.{View}
+use Rattle.lean_proto.specs.rows_trait.Views.{after_all, state, may}
+use Rattle.lean_proto.specs.rows_trait.Turns.{Ran}
+use Rattle.lean_proto.proofs.rows_trait_lemmas.Runs.{ran_append}
+use Rattle.lean_proto.proofs.version_latch_lemmas.Keeping.{may_ran}
 use Rattle.lean_proto.specs.Kept.{OwnKept}
 use Rattle.lean_proto.proofs.Owns.{own_after}
 use Rattle.btree_descent.specs.declared.next.Following.{Following}

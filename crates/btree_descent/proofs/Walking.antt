@@ -6,13 +6,13 @@ use Rattle.page_model.specs.Pairs.{Pair}
 use Rattle.page_model.specs.Needs.{key_at}
 use Rattle.page_model.specs.Page as stored
 use Rattle.page_model.specs.Page.{word_at}
-use Rattle.btree_node.specs.Inside.{place}
-use Rattle.btree_node.proofs.PlaceLemmas.{ordered-rising}
-use Rattle.core_state.specs.Needs.{following}
+use Rattle.lean_proto.specs.btree_node.Inside.{place}
+use Rattle.lean_proto.proofs.btree_node_lemmas.PlaceLemmas.{ordered-rising}
+use Rattle.lean_proto.specs.core_state.Needs.{following}
 use Rattle.core_index.specs.Walks.{met_keys}
-use Rattle.row_words.specs.Moments.{format_of}
-use Rattle.rows_trait.specs.declared.view.Act.{Act}
-use Rattle.rows_trait.specs.Views.{Knows}
+use Rattle.lean_proto.specs.row_words.Moments.{format_of}
+use Rattle.lean_proto.specs.rows_trait.declared.view.Act.{Act}
+use Rattle.lean_proto.specs.rows_trait.Views.{Knows}
 use Rattle.btree_descent.specs.Inside.{IsSeen}
 use Rattle.btree_descent.specs.Nexts.{AreLocked, IsFirstUnlocked}
 use Rattle.btree_descent.specs.Meets.{Passed}

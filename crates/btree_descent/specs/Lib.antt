@@ -12,3 +12,16 @@ pub mod Inside
 pub mod Meets
 pub mod Spots
 pub mod DelSpots
+-- Passed on to the crates above.
+pub use Rattle.core_index.specs as core_index
+pub use Rattle.draw_trait.specs as draw_trait
+pub use Rattle.lean_proto.specs as lean_proto
+pub use Rattle.lean_proto.specs.btree_node as btree_node
+pub use Rattle.lean_proto.specs.core_paging as core_paging
+pub use Rattle.lean_proto.specs.core_state as core_state
+pub use Rattle.lean_proto.specs.image_model as image_model
+pub use Rattle.lean_proto.specs.row_words as row_words
+pub use Rattle.lean_proto.specs.rows_trait as rows_trait
+pub use Rattle.lean_proto.specs.version_latch as version_latch
+pub use Rattle.log_record.specs as log_record
+pub use Rattle.swips.specs as swips

@@ -3,20 +3,20 @@ use Rattle.std.specs.Prelude.{◌≡◌, ◌≤◌, ◌<◌, ℕ, Bool, true, Li
 use Rattle.map_model.specs.Maps.{MapAnswer}
 use Rattle.page_model.specs.Nodes.{Node}
 use Rattle.page_model.specs.Page as stored
-use Rattle.btree_node.specs.Inside.{place}
-use Rattle.core_state.specs.Openings.{Opening}
-use Rattle.core_state.specs.States.{State}
-use Rattle.core_state.specs.Needs as core
-use Rattle.core_state.specs.Needs.{following, holds_row}
+use Rattle.lean_proto.specs.btree_node.Inside.{place}
+use Rattle.lean_proto.specs.core_state.Openings.{Opening}
+use Rattle.lean_proto.specs.core_state.States.{State}
+use Rattle.lean_proto.specs.core_state.Needs as core
+use Rattle.lean_proto.specs.core_state.Needs.{following, holds_row}
 use Rattle.core_index.specs.Walks.{met_keys}
-use Rattle.row_words.specs.declared.event.Event.{Event}
-use Rattle.row_words.specs.declared.event.Event.TheVariants as event
-use Rattle.row_words.specs.declared.event.Met.{Met}
-use Rattle.row_words.specs.Moments.{event_of, format_of}
-use Rattle.row_words.specs.Openings.{opening}
-use Rattle.rows_trait.specs.declared.view.View.{View}
-use Rattle.rows_trait.specs.Views.{after_all, state}
-use Rattle.rows_trait.specs.Turns.{Ran}
+use Rattle.lean_proto.specs.row_words.declared.event.Event.{Event}
+use Rattle.lean_proto.specs.row_words.declared.event.Event.TheVariants as event
+use Rattle.lean_proto.specs.row_words.declared.event.Met.{Met}
+use Rattle.lean_proto.specs.row_words.Moments.{event_of, format_of}
+use Rattle.lean_proto.specs.row_words.Openings.{opening}
+use Rattle.lean_proto.specs.rows_trait.declared.view.View.{View}
+use Rattle.lean_proto.specs.rows_trait.Views.{after_all, state}
+use Rattle.lean_proto.specs.rows_trait.Turns.{Ran}
 use Rattle.btree_descent.specs.declared.next.Meet.{Meet}
 use Rattle.btree_descent.specs.declared.next.Meet.TheVariants as meet
 use Rattle.btree_descent.specs.declared.next.Following.{Following}

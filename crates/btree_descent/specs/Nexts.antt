@@ -2,21 +2,21 @@
 use Rattle.std.specs.Prelude.{◌≡◌, ◌<◌, ℕ, Bool, true, List, [], ◌∷◌, ◌++◌}
 use Rattle.map_model.specs.Lists.{Has}
 use Rattle.page_model.specs.Nodes.{holds}
-use Rattle.core_state.specs.States.{is_hot}
-use Rattle.core_state.specs.Needs as core
-use Rattle.core_state.specs.Needs.{holds_row}
+use Rattle.lean_proto.specs.core_state.States.{is_hot}
+use Rattle.lean_proto.specs.core_state.Needs as core
+use Rattle.lean_proto.specs.core_state.Needs.{holds_row}
 use Rattle.core_index.specs.Walks.{met_keys}
-use Rattle.row_words.specs.declared.event.Event.{Event}
-use Rattle.row_words.specs.declared.event.Event.TheVariants as event
-use Rattle.row_words.specs.declared.event.Event.TheVariants.{Miss}
-use Rattle.row_words.specs.declared.event.Met.{Met}
-use Rattle.row_words.specs.declared.event.Met.TheVariants as met
-use Rattle.row_words.specs.Moments.{event_of}
-use Rattle.row_words.specs.Openings.{opening}
-use Rattle.rows_trait.specs.declared.view.View.{View}
-use Rattle.rows_trait.specs.Views.{after_all, state}
-use Rattle.rows_trait.specs.Causes.{IsLatched, HasMoved}
-use Rattle.rows_trait.specs.Turns.{Ran}
+use Rattle.lean_proto.specs.row_words.declared.event.Event.{Event}
+use Rattle.lean_proto.specs.row_words.declared.event.Event.TheVariants as event
+use Rattle.lean_proto.specs.row_words.declared.event.Event.TheVariants.{Miss}
+use Rattle.lean_proto.specs.row_words.declared.event.Met.{Met}
+use Rattle.lean_proto.specs.row_words.declared.event.Met.TheVariants as met
+use Rattle.lean_proto.specs.row_words.Moments.{event_of}
+use Rattle.lean_proto.specs.row_words.Openings.{opening}
+use Rattle.lean_proto.specs.rows_trait.declared.view.View.{View}
+use Rattle.lean_proto.specs.rows_trait.Views.{after_all, state}
+use Rattle.lean_proto.specs.rows_trait.Causes.{IsLatched, HasMoved}
+use Rattle.lean_proto.specs.rows_trait.Turns.{Ran}
 use Rattle.btree_descent.specs.declared.next.Following.{Following}
 use Rattle.btree_descent.specs.declared.next.Following.TheVariants.{Pair, Gap, Unlocked, Cold, Moved, Latched}
 use Rattle.btree_descent.specs.declared.next.Stamp.{Stamp}

@@ -1,10 +1,10 @@
 -- A descent that reads nothing: what it came to, and by which frames.
 use Rattle.std.specs.Prelude.{◌≡◌, ℕ, Bool, List, [], ◌∷◌}
-use Rattle.row_words.specs.declared.event.Event.TheVariants.{Miss}
-use Rattle.rows_trait.specs.declared.view.View.{View}
-use Rattle.rows_trait.specs.Views.{state}
-use Rattle.rows_trait.specs.Causes.{HasMoved, IsLatched}
-use Rattle.rows_trait.specs.Turns.{Ran}
+use Rattle.lean_proto.specs.row_words.declared.event.Event.TheVariants.{Miss}
+use Rattle.lean_proto.specs.rows_trait.declared.view.View.{View}
+use Rattle.lean_proto.specs.rows_trait.Views.{state}
+use Rattle.lean_proto.specs.rows_trait.Causes.{HasMoved, IsLatched}
+use Rattle.lean_proto.specs.rows_trait.Turns.{Ran}
 use Rattle.btree_descent.specs.declared.descent.Stop.{Stop}
 use Rattle.btree_descent.specs.declared.descent.Stop.TheVariants as stop
 use Rattle.btree_descent.specs.declared.reach.Way.{Way}

@@ -13,3 +13,10 @@ mod node;
 pub mod put;
 pub mod reach;
 mod trace;
+
+// Passed on to the crates above.
+pub use draw_trait;
+pub use lean_proto;
+pub use lean_proto::{btree_node, core_paging, image_model, rows_trait, version_latch};
+pub use log_record;
+pub use swips;

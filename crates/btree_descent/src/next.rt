@@ -1,15 +1,15 @@
 //! The walk to the pair that follows a key in its leaf, past tombstones, over entries that the worker has locked.
 ghost use Rattle.std.specs.Prelude.{◌≡◌, ◌↔◌, ◌<◌, ◌≤◌, ◌^◌, ◌-◌, ◌%◌, ◌/◌, ◌∷◌, ℕ, true, [], Some, IfOk, IfErr};
 ghost use Rattle.page_model.specs.Page as stored;
-ghost use Rattle.core_state.specs.Needs.{following};
-ghost use Rattle.row_words.specs.Moments.{format_of};
-ghost use Rattle.row_words.specs.declared.event.Event.TheVariants.{Miss};
-ghost use Rattle.rows_trait.specs.Layout.{rows_of, width};
-ghost use Rattle.rows_trait.specs.declared.view.View.{View};
-ghost use Rattle.rows_trait.specs.Views.{Has, Knows, latest, may};
-ghost use Rattle.rows_trait.specs.Causes.{HasFound, HasMoved};
-ghost use Rattle.rows_trait.specs.Turns.{Ran};
-ghost use Rattle.version_latch.specs.Kept.{Kept};
+ghost use Rattle.lean_proto.specs.core_state.Needs.{following};
+ghost use Rattle.lean_proto.specs.row_words.Moments.{format_of};
+ghost use Rattle.lean_proto.specs.row_words.declared.event.Event.TheVariants.{Miss};
+ghost use Rattle.lean_proto.specs.rows_trait.Layout.{rows_of, width};
+ghost use Rattle.lean_proto.specs.rows_trait.declared.view.View.{View};
+ghost use Rattle.lean_proto.specs.rows_trait.Views.{Has, Knows, latest, may};
+ghost use Rattle.lean_proto.specs.rows_trait.Causes.{HasFound, HasMoved};
+ghost use Rattle.lean_proto.specs.rows_trait.Turns.{Ran};
+ghost use Rattle.lean_proto.specs.version_latch.Kept.{Kept};
 ghost use Rattle.btree_descent.specs.Known.{IsSound};
 ghost use Rattle.btree_descent.specs.Named.{met_or};
 ghost use Rattle.btree_descent.specs.Descents.{Sized};
@@ -21,9 +21,9 @@ use crate::descent::{Leaf, Stop, TOMBSTONE, last_log, way};
 use crate::events::Nexts;
 use crate::node::place;
 use crate::trace::Untraced;
-use rows_trait::rows::Rows;
-use version_latch::events::Checks;
-use version_latch::{Glimpse, Latched, Moved};
+use lean_proto::rows_trait::rows::Rows;
+use lean_proto::version_latch::events::Checks;
+use lean_proto::version_latch::{Glimpse, Latched, Moved};
 
 /// Which keys a worker has locked, shared or alone.
 pub trait Locked {

@@ -1,14 +1,14 @@
 //! The way to a key's leaf, with its path and without a read.
 ghost use Rattle.std.specs.Prelude.{◌≡◌, ◌<◌, ◌^◌, ◌-◌, true, [], IfOk, IfErr};
-ghost use Rattle.rows_trait.specs.Views.{may};
+ghost use Rattle.lean_proto.specs.rows_trait.Views.{may};
 ghost use Rattle.btree_descent.specs.Known.{IsSound};
 ghost use Rattle.btree_descent.specs.Descents.{Sized};
 ghost use Rattle.btree_descent.specs.Reaches.{CameThere, IsSettledWay, WayCaused, WentThere};
 
 use crate::descent::{Stop, again, way};
 use lean_proto::path::Path;
-use rows_trait::rows::Rows;
-use version_latch::{Latched, Moved};
+use lean_proto::rows_trait::rows::Rows;
+use lean_proto::version_latch::{Latched, Moved};
 
 /// What a descent came to that reads nothing.
 #[derive(Clone, Copy)]

@@ -1,20 +1,20 @@
 -- What a purge answers, from the answers of its parts.
 use Rattle.std.proofs.Common.{◌≡◌, ◌≢◌, ◌==◌, cond, ◌<◌, ◌≤◌, ◌++◌, ℕ, Bool, true, false, List, [], ◌∷◌, length, refl, sym, ap, subst, ◌∙◌, eq-eqb, arith, true≢false}
-use Rattle.core_state.specs.States.{flushed_by_all}
-use Rattle.row_words.specs.declared.event.Event.TheVariants.{Purge}
-use Rattle.row_words.specs.declared.given.Given.{Given}
-use Rattle.row_words.specs.Moments.{Moment}
-use Rattle.row_words.specs.Openings.{opening}
-use Rattle.row_words.specs.Sealed.{begun, run}
-use Rattle.row_words.proofs.SealedLemmas.{run_append}
-use Rattle.row_words.proofs.Stays.{cases}
-use Rattle.rows_trait.specs.declared.view.View.{View}
-use Rattle.rows_trait.specs.Views.{Shape, after_all, state}
-use Rattle.rows_trait.specs.Turns.{Ran, Stepped}
-use Rattle.rows_trait.proofs.Runs.{ran_append}
-use Rattle.lean_proto.proofs.Growing.{flushed_on}
-use Rattle.log_record.specs.declared.record.Record.{Record}
-use Rattle.draw_trait.specs.Clocks.{Clock}
+use Rattle.btree_descent.specs.core_state.States.{flushed_by_all}
+use Rattle.btree_descent.specs.row_words.declared.event.Event.TheVariants.{Purge}
+use Rattle.btree_descent.specs.row_words.declared.given.Given.{Given}
+use Rattle.btree_descent.specs.row_words.Moments.{Moment}
+use Rattle.btree_descent.specs.row_words.Openings.{opening}
+use Rattle.btree_descent.specs.row_words.Sealed.{begun, run}
+use Rattle.btree_descent.proofs.row_words_lemmas.SealedLemmas.{run_append}
+use Rattle.btree_descent.proofs.row_words_lemmas.Stays.{cases}
+use Rattle.btree_descent.specs.rows_trait.declared.view.View.{View}
+use Rattle.btree_descent.specs.rows_trait.Views.{Shape, after_all, state}
+use Rattle.btree_descent.specs.rows_trait.Turns.{Ran, Stepped}
+use Rattle.btree_descent.proofs.rows_trait_lemmas.Runs.{ran_append}
+use Rattle.btree_descent.proofs.lean_proto_lemmas.Growing.{flushed_on}
+use Rattle.disk_image.specs.log_record.declared.record.Record.{Record}
+use Rattle.btree_descent.specs.draw_trait.Clocks.{Clock}
 use Rattle.btree_smo.specs.declared.outcome.Outcome.{Outcome}
 use Rattle.btree_smo.specs.declared.outcome.Outcome.TheVariants as outcome
 use Rattle.btree_smo.specs.declared.purge.Purged.{Purged}

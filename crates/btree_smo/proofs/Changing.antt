@@ -1,21 +1,21 @@
 -- What a change of held pages has appended and staged, whatever it is: the event was published, or its record was not staged.
 use Rattle.std.proofs.Common.{◌≡◌, Bool, true, List, ℕ, [], ◌∷◌, ◌++◌, append_assoc, sym, ap, subst, ◌∙◌}
 use Rattle.std.proofs.lemmas.Bool.{cond-true}
-use Rattle.image_model.specs.Entries.{Entry}
-use Rattle.core_state.specs.States.{State}
-use Rattle.core_state.specs.Needs as core
-use Rattle.core_state.specs.Steps.{at_pages, happens}
-use Rattle.row_words.specs.declared.event.Event.{Event}
-use Rattle.row_words.specs.declared.given.Given.{Given}
-use Rattle.row_words.specs.Moments.{Moment, event_of}
-use Rattle.row_words.specs.Openings.{opening}
-use Rattle.row_words.specs.Sealed.{begun, stepped}
-use Rattle.row_words.proofs.SealedLemmas.{run_append}
-use Rattle.rows_trait.specs.declared.view.View.{View}
-use Rattle.rows_trait.specs.Views.{after_all, state}
-use Rattle.rows_trait.proofs.Runs.{ran_append}
-use Rattle.log_record.specs.declared.record.Record.{Record}
-use Rattle.draw_trait.specs.Clocks.{Clock, drawn}
+use Rattle.disk_image.specs.image_model.Entries.{Entry}
+use Rattle.btree_descent.specs.core_state.States.{State}
+use Rattle.btree_descent.specs.core_state.Needs as core
+use Rattle.btree_descent.specs.core_state.Steps.{at_pages, happens}
+use Rattle.btree_descent.specs.row_words.declared.event.Event.{Event}
+use Rattle.btree_descent.specs.row_words.declared.given.Given.{Given}
+use Rattle.btree_descent.specs.row_words.Moments.{Moment, event_of}
+use Rattle.btree_descent.specs.row_words.Openings.{opening}
+use Rattle.btree_descent.specs.row_words.Sealed.{begun, stepped}
+use Rattle.btree_descent.proofs.row_words_lemmas.SealedLemmas.{run_append}
+use Rattle.btree_descent.specs.rows_trait.declared.view.View.{View}
+use Rattle.btree_descent.specs.rows_trait.Views.{after_all, state}
+use Rattle.btree_descent.proofs.rows_trait_lemmas.Runs.{ran_append}
+use Rattle.disk_image.specs.log_record.declared.record.Record.{Record}
+use Rattle.btree_descent.specs.draw_trait.Clocks.{Clock, drawn}
 use Rattle.disk_image.specs.Records.{entry_of}
 use Rattle.btree_descent.specs.Puts.{Onward, clock_in}
 use Rattle.btree_smo.specs.Outcomes.{MissedUpTo, Missed, WasSo, Changed, NotStaged}

@@ -4,25 +4,25 @@ use Rattle.map_model.specs.Lists.{Has}
 use Rattle.map_model.proofs.ListLemmas.{upd_same}
 use Rattle.page_model.specs.Page as stored
 use Rattle.page_model.specs.Records as records
-use Rattle.image_model.specs.Entries.{Entry, Kind, Contents}
-use Rattle.core_state.specs.States.{Place, State, Worker}
-use Rattle.core_state.specs.Events as happening
-use Rattle.core_state.specs.Needs as core
-use Rattle.core_state.specs.Openings.{Opening}
-use Rattle.core_state.specs.Steps.{at_pages, happens, touch}
-use Rattle.row_words.specs.declared.event.Event.{Event}
-use Rattle.row_words.specs.declared.event.Event.TheVariants.{Join}
-use Rattle.row_words.specs.declared.given.Given.{Given}
-use Rattle.row_words.specs.Openings.{opening}
-use Rattle.rows_trait.specs.declared.view.View.{View}
-use Rattle.rows_trait.specs.Views.{Shape, AreApart, after_all, state, may}
-use Rattle.lean_proto.proofs.Again.{Rest, again_join}
-use Rattle.lean_proto.proofs.Near.{SameNear}
-use Rattle.lean_proto.proofs.Owns.{own_after}
-use Rattle.lean_proto.specs.Kept.{OwnKept}
-use Rattle.log_record.specs.Model.{model_pairs}
-use Rattle.log_record.specs.declared.record.Record.{Record}
-use Rattle.draw_trait.specs.Clocks.{Clock, touched, drawn}
+use Rattle.disk_image.specs.image_model.Entries.{Entry, Kind, Contents}
+use Rattle.btree_descent.specs.core_state.States.{Place, State, Worker}
+use Rattle.btree_descent.specs.core_state.Events as happening
+use Rattle.btree_descent.specs.core_state.Needs as core
+use Rattle.btree_descent.specs.core_state.Openings.{Opening}
+use Rattle.btree_descent.specs.core_state.Steps.{at_pages, happens, touch}
+use Rattle.btree_descent.specs.row_words.declared.event.Event.{Event}
+use Rattle.btree_descent.specs.row_words.declared.event.Event.TheVariants.{Join}
+use Rattle.btree_descent.specs.row_words.declared.given.Given.{Given}
+use Rattle.btree_descent.specs.row_words.Openings.{opening}
+use Rattle.btree_descent.specs.rows_trait.declared.view.View.{View}
+use Rattle.btree_descent.specs.rows_trait.Views.{Shape, AreApart, after_all, state, may}
+use Rattle.btree_descent.proofs.lean_proto_lemmas.Again.{Rest, again_join}
+use Rattle.btree_descent.proofs.lean_proto_lemmas.Near.{SameNear}
+use Rattle.btree_descent.proofs.lean_proto_lemmas.Owns.{own_after}
+use Rattle.btree_descent.specs.lean_proto.Kept.{OwnKept}
+use Rattle.disk_image.specs.log_record.Model.{model_pairs}
+use Rattle.disk_image.specs.log_record.declared.record.Record.{Record}
+use Rattle.btree_descent.specs.draw_trait.Clocks.{Clock, touched, drawn}
 use Rattle.disk_image.specs.Records.{entry_of}
 use Rattle.btree_descent.specs.Known.{IsSound}
 use Rattle.btree_descent.specs.Puts.{DrawsFor, clock_in}

@@ -9,37 +9,37 @@ use Rattle.page_model.specs.Pairs.{Pair, is_in, find}
 use Rattle.page_model.specs.Page as stored
 use Rattle.page_model.specs.Records as records
 use Rattle.page_model.specs.Redo.{all_keys}
-use Rattle.image_model.specs.Entries.{Entry, Kind, Contents}
-use Rattle.core_state.specs.States.{Place, State, Worker, nodes_of, is_hot, flushed_by_all}
-use Rattle.core_state.specs.Events as happening
-use Rattle.core_state.specs.Needs as core
-use Rattle.core_state.specs.Needs.{is_dead}
-use Rattle.core_state.specs.Steps.{at_pages, happens, touch}
-use Rattle.row_words.specs.declared.event.Event.{Event}
-use Rattle.row_words.specs.declared.event.Event.TheVariants.{Purge}
-use Rattle.row_words.specs.declared.given.Given.{Given}
-use Rattle.row_words.specs.Moments.{Moment}
-use Rattle.row_words.specs.Openings.{opening}
-use Rattle.row_words.specs.Sealed.{begun, stepped}
-use Rattle.row_words.specs.Words.{framed}
-use Rattle.row_words.proofs.Frames.{framed_leaf, framed_level}
-use Rattle.row_words.proofs.SealedLemmas.{run_append}
-use Rattle.rows_trait.specs.declared.view.View.{View}
-use Rattle.rows_trait.specs.Views.{Shape, Spells, AreApart, after_all, state, may}
-use Rattle.rows_trait.specs.Turns.{Ran}
-use Rattle.rows_trait.proofs.Runs.{ran_append}
-use Rattle.rows_trait.proofs.EventLemmas.{apart_sync}
+use Rattle.disk_image.specs.image_model.Entries.{Entry, Kind, Contents}
+use Rattle.btree_descent.specs.core_state.States.{Place, State, Worker, nodes_of, is_hot, flushed_by_all}
+use Rattle.btree_descent.specs.core_state.Events as happening
+use Rattle.btree_descent.specs.core_state.Needs as core
+use Rattle.btree_descent.specs.core_state.Needs.{is_dead}
+use Rattle.btree_descent.specs.core_state.Steps.{at_pages, happens, touch}
+use Rattle.btree_descent.specs.row_words.declared.event.Event.{Event}
+use Rattle.btree_descent.specs.row_words.declared.event.Event.TheVariants.{Purge}
+use Rattle.btree_descent.specs.row_words.declared.given.Given.{Given}
+use Rattle.btree_descent.specs.row_words.Moments.{Moment}
+use Rattle.btree_descent.specs.row_words.Openings.{opening}
+use Rattle.btree_descent.specs.row_words.Sealed.{begun, stepped}
+use Rattle.btree_descent.specs.row_words.Words.{framed}
+use Rattle.btree_descent.proofs.row_words_lemmas.Frames.{framed_leaf, framed_level}
+use Rattle.btree_descent.proofs.row_words_lemmas.SealedLemmas.{run_append}
+use Rattle.btree_descent.specs.rows_trait.declared.view.View.{View}
+use Rattle.btree_descent.specs.rows_trait.Views.{Shape, Spells, AreApart, after_all, state, may}
+use Rattle.btree_descent.specs.rows_trait.Turns.{Ran}
+use Rattle.btree_descent.proofs.rows_trait_lemmas.Runs.{ran_append}
+use Rattle.btree_descent.proofs.rows_trait_lemmas.EventLemmas.{apart_sync}
 use Rattle.key_locks.specs.Rows.{Sized}
-use Rattle.lean_proto.specs.Purges.{CanPurge, IsQuiet}
-use Rattle.lean_proto.specs.Kept.{OwnKept}
-use Rattle.lean_proto.proofs.Again.{Rest, again_purge}
-use Rattle.lean_proto.proofs.Near.{SameNear}
-use Rattle.lean_proto.proofs.Owns.{own_after}
-use Rattle.lean_proto.proofs.Growing.{flushed_on}
-use Rattle.lean_proto.proofs.Settling.{settled_on}
-use Rattle.lean_proto.proofs.Steady.{every_purge}
-use Rattle.log_record.specs.declared.record.Record.{Record}
-use Rattle.draw_trait.specs.Clocks.{Clock, touched, drawn}
+use Rattle.btree_descent.specs.lean_proto.Purges.{CanPurge, IsQuiet}
+use Rattle.btree_descent.specs.lean_proto.Kept.{OwnKept}
+use Rattle.btree_descent.proofs.lean_proto_lemmas.Again.{Rest, again_purge}
+use Rattle.btree_descent.proofs.lean_proto_lemmas.Near.{SameNear}
+use Rattle.btree_descent.proofs.lean_proto_lemmas.Owns.{own_after}
+use Rattle.btree_descent.proofs.lean_proto_lemmas.Growing.{flushed_on}
+use Rattle.btree_descent.proofs.lean_proto_lemmas.Settling.{settled_on}
+use Rattle.btree_descent.proofs.lean_proto_lemmas.Steady.{every_purge}
+use Rattle.disk_image.specs.log_record.declared.record.Record.{Record}
+use Rattle.btree_descent.specs.draw_trait.Clocks.{Clock, touched, drawn}
 use Rattle.disk_image.specs.Records.{entry_of}
 use Rattle.btree_descent.specs.Puts.{DrawsFor, clock_in}
 use Rattle.btree_smo.specs.declared.outcome.Outcome.{Outcome}

@@ -3,16 +3,16 @@ use Rattle.std.proofs.Common.{◌≡◌, ◌≢◌, ◌==◌, ◌&&◌, not, ltb
 use Rattle.page_model.specs.Pairs.{without}
 use Rattle.page_model.specs.Nodes.{Node, NodeOk, free}
 use Rattle.page_model.specs.Page as stored
-use Rattle.image_model.specs.Entries.{Contents}
-use Rattle.core_state.specs.Openings.{Opening}
-use Rattle.core_state.specs.States.{State}
-use Rattle.core_state.specs.Events as happening
-use Rattle.core_state.specs.Steps.{happens}
-use Rattle.row_words.specs.declared.event.Event.TheVariants.{Join}
-use Rattle.row_words.specs.Openings.{opening}
-use Rattle.row_words.specs.Words.{is_inner, framed, framed_page}
-use Rattle.rows_trait.specs.declared.view.View.{View}
-use Rattle.rows_trait.specs.Views.{Shape, state, may}
+use Rattle.disk_image.specs.image_model.Entries.{Contents}
+use Rattle.btree_descent.specs.core_state.Openings.{Opening}
+use Rattle.btree_descent.specs.core_state.States.{State}
+use Rattle.btree_descent.specs.core_state.Events as happening
+use Rattle.btree_descent.specs.core_state.Steps.{happens}
+use Rattle.btree_descent.specs.row_words.declared.event.Event.TheVariants.{Join}
+use Rattle.btree_descent.specs.row_words.Openings.{opening}
+use Rattle.btree_descent.specs.row_words.Words.{is_inner, framed, framed_page}
+use Rattle.btree_descent.specs.rows_trait.declared.view.View.{View}
+use Rattle.btree_descent.specs.rows_trait.Views.{Shape, state, may}
 use Rattle.btree_descent.specs.Known.{IsSound}
 use Rattle.btree_smo.specs.declared.join.Joining.{Joining}
 use Rattle.btree_smo.specs.Joins.{join_entry}

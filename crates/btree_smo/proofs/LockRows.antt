@@ -2,20 +2,20 @@
 use Rattle.std.proofs.Common.{◌≡◌, ◌≢◌, ◌==◌, ◌<◌, ◌+◌, ◌⊎◌, inl, inr, ℕ, Bool, true, false, List, [], ◌∷◌, ◌++◌, append-nil, refl, sym, ap, subst, ◌∙◌, eq-eqb, arith, true≢false}
 use Rattle.std.proofs.lemmas.Bool.{cond-true, cond-false, eqb-true, ne_eqb}
 use Rattle.page_model.specs.Pairs.{is_in}
-use Rattle.row_words.specs.declared.event.Event.{Event}
-use Rattle.row_words.specs.declared.given.Given.{Given}
-use Rattle.row_words.specs.Moments.{Moment}
-use Rattle.row_words.specs.Openings.{opening}
-use Rattle.row_words.specs.Sealed.{stepped, run}
-use Rattle.row_words.proofs.Stays.{cases}
-use Rattle.rows_trait.specs.declared.view.Hold.{Hold}
-use Rattle.rows_trait.specs.declared.view.View.{View}
-use Rattle.rows_trait.specs.Layout.{rows_of}
-use Rattle.rows_trait.specs.Views.{Shape, AreApart, after_all, state, hold, holds, held_at}
-use Rattle.rows_trait.specs.Turns.{Ran, Stepped}
-use Rattle.rows_trait.proofs.Runs.{ran_none}
+use Rattle.btree_descent.specs.row_words.declared.event.Event.{Event}
+use Rattle.btree_descent.specs.row_words.declared.given.Given.{Given}
+use Rattle.btree_descent.specs.row_words.Moments.{Moment}
+use Rattle.btree_descent.specs.row_words.Openings.{opening}
+use Rattle.btree_descent.specs.row_words.Sealed.{stepped, run}
+use Rattle.btree_descent.proofs.row_words_lemmas.Stays.{cases}
+use Rattle.btree_descent.specs.rows_trait.declared.view.Hold.{Hold}
+use Rattle.btree_descent.specs.rows_trait.declared.view.View.{View}
+use Rattle.btree_descent.specs.rows_trait.Layout.{rows_of}
+use Rattle.btree_descent.specs.rows_trait.Views.{Shape, AreApart, after_all, state, hold, holds, held_at}
+use Rattle.btree_descent.specs.rows_trait.Turns.{Ran, Stepped}
+use Rattle.btree_descent.proofs.rows_trait_lemmas.Runs.{ran_none}
 use Rattle.key_locks.proofs.Staying.{row_apart}
-use Rattle.lean_proto.specs.Purges.{IsQuiet}
+use Rattle.btree_descent.specs.lean_proto.Purges.{IsQuiet}
 use Rattle.held_rows.specs.Rows.{Waited, Stood, HoldsOne}
 use Rattle.held_rows.specs.Waits.{waited_then, moment_run}
 use Rattle.btree_smo.specs.Inside.Quiet.{with_holds, IsTaken}
@@ -61,7 +61,7 @@ apart_less v u g a h (e ∷ es) m y = (
   record {
     other = λ x. y.0.other (x ∙ sym a);
     part = y.0.part;
-    rows = λ row q. ap (λ z. Rattle.row_words.specs.Sealed.changes z m e row) (sym g) ∙ y.0.rows row (h row q);
+    rows = λ row q. ap (λ z. Rattle.btree_descent.specs.row_words.Sealed.changes z m e row) (sym g) ∙ y.0.rows row (h row q);
   },
   apart_less v u g a h es (stepped v.given m e) (subst (λ (q : Given). AreApart u (stepped q m e) es) g y.1),
 )

@@ -6,16 +6,16 @@ use Rattle.page_model.specs.Nodes.{Node, NodeOk}
 use Rattle.page_model.specs.Check.{names_page}
 use Rattle.page_model.specs.Page as stored
 use Rattle.page_model.specs.Page.{word_at}
-use Rattle.core_state.specs.States.{Place, State, is_hot, nodes_of}
-use Rattle.core_state.specs.Needs.{may_drop, is_single}
-use Rattle.row_words.specs.declared.given.Given.{Given}
-use Rattle.row_words.specs.Moments.{Moment}
-use Rattle.row_words.specs.Openings.{opening}
-use Rattle.row_words.specs.Words.{swip, swips}
-use Rattle.row_words.proofs.Frames.{framed_inner, hot_swip}
-use Rattle.row_words.proofs.Stays.{cases, and_true}
-use Rattle.rows_trait.specs.declared.view.View.{View}
-use Rattle.rows_trait.specs.Views.{state}
+use Rattle.btree_descent.specs.core_state.States.{Place, State, is_hot, nodes_of}
+use Rattle.btree_descent.specs.core_state.Needs.{may_drop, is_single}
+use Rattle.btree_descent.specs.row_words.declared.given.Given.{Given}
+use Rattle.btree_descent.specs.row_words.Moments.{Moment}
+use Rattle.btree_descent.specs.row_words.Openings.{opening}
+use Rattle.btree_descent.specs.row_words.Words.{swip, swips}
+use Rattle.btree_descent.proofs.row_words_lemmas.Frames.{framed_inner, hot_swip}
+use Rattle.btree_descent.proofs.row_words_lemmas.Stays.{cases, and_true}
+use Rattle.btree_descent.specs.rows_trait.declared.view.View.{View}
+use Rattle.btree_descent.specs.rows_trait.Views.{state}
 use Rattle.btree_descent.specs.Known.{Sound, IsSound}
 use Rattle.btree_descent.specs.declared.put.TheConstants.{LAST_NUMBER}
 use Rattle.row_image.specs.Images.{written}
@@ -47,7 +47,7 @@ module _ {v : Given} {m : Moment} (sound : Sound v m) (n : stored.Page) (root : 
   pairs_are : 0 < node.level → n.node.pairs ≡ swips s.place node.pairs
   pairs_are up =
       ap (λ (y : stored.Page). y.node.pairs) root.page
-      ∙ (ap (λ p. (Rattle.row_words.specs.Words.framed s.place (s.page p).node).pairs) zero_is
+      ∙ (ap (λ p. (Rattle.btree_descent.specs.row_words.Words.framed s.place (s.page p).node).pairs) zero_is
       ∙ ap (λ (y : Node). y.pairs) (framed_inner s.place node sound.tree.root.0 up))
 
   -- the root with one pair that leads to the frame has the page there as its one child

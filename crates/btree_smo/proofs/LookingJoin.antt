@@ -3,12 +3,12 @@ use Rattle.std.proofs.Common.{◌<◌, ◌^◌, ◌≡◌, ◌==◌, ◌+◌, lt
 use Rattle.std.proofs.lemmas.Bool.{lt-ltb, le-leb}
 use Rattle.page_model.specs.Check.{names_page}
 use Rattle.page_model.specs.Page as stored
-use Rattle.core_state.specs.States.{is_hot}
-use Rattle.row_words.specs.declared.given.Given.{Given}
-use Rattle.row_words.specs.Moments.{Moment}
-use Rattle.row_words.specs.Openings.{opening}
-use Rattle.rows_trait.specs.declared.view.View.{View}
-use Rattle.rows_trait.specs.Views.{state}
+use Rattle.btree_descent.specs.core_state.States.{is_hot}
+use Rattle.btree_descent.specs.row_words.declared.given.Given.{Given}
+use Rattle.btree_descent.specs.row_words.Moments.{Moment}
+use Rattle.btree_descent.specs.row_words.Openings.{opening}
+use Rattle.btree_descent.specs.rows_trait.declared.view.View.{View}
+use Rattle.btree_descent.specs.rows_trait.Views.{state}
 use Rattle.btree_descent.specs.Known.{Sound, IsSound}
 use Rattle.row_image.specs.Images.{written}
 use Rattle.btree_smo.specs.declared.join.Joining.{Joining}

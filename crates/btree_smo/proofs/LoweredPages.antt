@@ -6,19 +6,19 @@ use Rattle.page_model.specs.Nodes.{Node, NodeOk, free}
 use Rattle.page_model.specs.Tree.{IsChild, Names}
 use Rattle.page_model.specs.Check.{is_nil}
 use Rattle.page_model.specs.Page as stored
-use Rattle.image_model.specs.Entries.{Contents}
-use Rattle.core_state.specs.Openings.{Opening}
-use Rattle.core_state.specs.States.{State, nodes_of}
-use Rattle.core_state.specs.Events as happening
-use Rattle.core_state.specs.Needs.{are_hot, pages_of, needs, may_drop, is_single}
-use Rattle.core_state.specs.Steps.{happens}
-use Rattle.row_words.specs.declared.given.Given.{Given}
-use Rattle.row_words.specs.Moments.{Moment}
-use Rattle.row_words.specs.Openings.{opening}
-use Rattle.row_words.specs.Words.{is_inner, framed, framed_page}
-use Rattle.row_words.proofs.Stays.{and_true}
-use Rattle.rows_trait.specs.declared.view.View.{View}
-use Rattle.rows_trait.specs.Views.{Shape, state, may}
+use Rattle.disk_image.specs.image_model.Entries.{Contents}
+use Rattle.btree_descent.specs.core_state.Openings.{Opening}
+use Rattle.btree_descent.specs.core_state.States.{State, nodes_of}
+use Rattle.btree_descent.specs.core_state.Events as happening
+use Rattle.btree_descent.specs.core_state.Needs.{are_hot, pages_of, needs, may_drop, is_single}
+use Rattle.btree_descent.specs.core_state.Steps.{happens}
+use Rattle.btree_descent.specs.row_words.declared.given.Given.{Given}
+use Rattle.btree_descent.specs.row_words.Moments.{Moment}
+use Rattle.btree_descent.specs.row_words.Openings.{opening}
+use Rattle.btree_descent.specs.row_words.Words.{is_inner, framed, framed_page}
+use Rattle.btree_descent.proofs.row_words_lemmas.Stays.{and_true}
+use Rattle.btree_descent.specs.rows_trait.declared.view.View.{View}
+use Rattle.btree_descent.specs.rows_trait.Views.{Shape, state, may}
 use Rattle.btree_descent.specs.Known.{Sound, IsSound}
 use Rattle.btree_smo.specs.declared.drop_root.Dropping.{Dropping}
 use Rattle.btree_smo.specs.Drops.{drop_entry}

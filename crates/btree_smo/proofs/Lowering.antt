@@ -1,15 +1,15 @@
 -- The drop may be published once both nodes are stored.
-use Rattle.row_words.proofs.SealedLemmas.{low_tame}
+use Rattle.btree_descent.proofs.row_words_lemmas.SealedLemmas.{low_tame}
 use Rattle.std.proofs.Common.{inl, inr, ℕ, List, [], ◌∷◌, refl, sym, subst, ◌∙◌}
 use Rattle.map_model.specs.Lists.{Has}
 use Rattle.page_model.specs.Page as stored
-use Rattle.row_words.specs.declared.event.Event.TheVariants.{Drop}
-use Rattle.rows_trait.specs.declared.view.View.{View}
-use Rattle.rows_trait.specs.declared.view.Hold.{Hold}
-use Rattle.rows_trait.specs.Views.{state, Shape}
-use Rattle.rows_trait.specs.Turns.{MayPublish}
-use Rattle.lean_proto.proofs.Again.{plain_drop}
-use Rattle.lean_proto.proofs.Steady.{every_ready}
+use Rattle.btree_descent.specs.row_words.declared.event.Event.TheVariants.{Drop}
+use Rattle.btree_descent.specs.rows_trait.declared.view.View.{View}
+use Rattle.btree_descent.specs.rows_trait.declared.view.Hold.{Hold}
+use Rattle.btree_descent.specs.rows_trait.Views.{state, Shape}
+use Rattle.btree_descent.specs.rows_trait.Turns.{MayPublish}
+use Rattle.btree_descent.proofs.lean_proto_lemmas.Again.{plain_drop}
+use Rattle.btree_descent.proofs.lean_proto_lemmas.Steady.{every_ready}
 use Rattle.held_rows.specs.Rows.{Waited}
 use Rattle.held_rows.specs.Publishing.{IsChanged}
 use Rattle.btree_smo.specs.Outcomes.{IsHotIn}

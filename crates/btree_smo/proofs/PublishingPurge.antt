@@ -4,26 +4,26 @@ use Rattle.std.proofs.lemmas.Bool.{cond-false, le-ltb, eq-eqb, eqb-true}
 use Rattle.map_model.specs.Lists.{Has}
 use Rattle.page_model.specs.Pairs.{is_in}
 use Rattle.page_model.specs.Page as stored
-use Rattle.btree_node.specs.Words.{words_of}
-use Rattle.core_state.specs.Local.{publishes_row}
-use Rattle.row_words.specs.declared.event.Event.{Event}
-use Rattle.row_words.specs.declared.event.Event.TheVariants.{Purge}
-use Rattle.row_words.specs.declared.given.Given.{Given}
-use Rattle.row_words.specs.Moments.{Moment, event_of}
-use Rattle.row_words.specs.Openings.{opening}
-use Rattle.row_words.specs.Sealed.{changes}
-use Rattle.row_words.specs.Words.{publishes_frame}
-use Rattle.row_words.proofs.SealedLemmas.{low_tame}
-use Rattle.row_words.proofs.Stays.{cases}
-use Rattle.rows_trait.specs.declared.view.Hold.{Hold}
-use Rattle.rows_trait.specs.declared.view.View.{View}
-use Rattle.rows_trait.specs.Views.{Shape, after_all, state, holds, held_at, without}
-use Rattle.rows_trait.specs.Turns.{Published, MayPublish}
-use Rattle.rows_trait.proofs.Holds.{holds_without, holds_without_here, without_apart, holds_settle, settle_at, settled}
-use Rattle.rows_trait.proofs.Runs.{ran_goes, ran_append}
-use Rattle.version_latch.proofs.Keeping.{may_ran}
-use Rattle.lean_proto.proofs.Again.{plain_purge}
-use Rattle.lean_proto.proofs.Steady.{every_purge}
+use Rattle.disk_image.specs.btree_node.Words.{words_of}
+use Rattle.btree_descent.specs.core_state.Local.{publishes_row}
+use Rattle.btree_descent.specs.row_words.declared.event.Event.{Event}
+use Rattle.btree_descent.specs.row_words.declared.event.Event.TheVariants.{Purge}
+use Rattle.btree_descent.specs.row_words.declared.given.Given.{Given}
+use Rattle.btree_descent.specs.row_words.Moments.{Moment, event_of}
+use Rattle.btree_descent.specs.row_words.Openings.{opening}
+use Rattle.btree_descent.specs.row_words.Sealed.{changes}
+use Rattle.btree_descent.specs.row_words.Words.{publishes_frame}
+use Rattle.btree_descent.proofs.row_words_lemmas.SealedLemmas.{low_tame}
+use Rattle.btree_descent.proofs.row_words_lemmas.Stays.{cases}
+use Rattle.btree_descent.specs.rows_trait.declared.view.Hold.{Hold}
+use Rattle.btree_descent.specs.rows_trait.declared.view.View.{View}
+use Rattle.btree_descent.specs.rows_trait.Views.{Shape, after_all, state, holds, held_at, without}
+use Rattle.btree_descent.specs.rows_trait.Turns.{Published, MayPublish}
+use Rattle.btree_descent.proofs.rows_trait_lemmas.Holds.{holds_without, holds_without_here, without_apart, holds_settle, settle_at, settled}
+use Rattle.btree_descent.proofs.rows_trait_lemmas.Runs.{ran_goes, ran_append}
+use Rattle.btree_descent.proofs.version_latch_lemmas.Keeping.{may_ran}
+use Rattle.btree_descent.proofs.lean_proto_lemmas.Again.{plain_purge}
+use Rattle.btree_descent.proofs.lean_proto_lemmas.Steady.{every_purge}
 use Rattle.btree_smo.specs.Outcomes.{MissedUpTo}
 use Rattle.held_rows.specs.Rows.{Waited, Wrote}
 use Rattle.held_rows.specs.Waits.{waited_then, waited_apart}

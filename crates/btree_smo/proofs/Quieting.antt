@@ -2,28 +2,28 @@
 use Rattle.std.proofs.Common.{◌≡◌, ◌==◌, ◌<◌, ◌+◌, ℕ, zero, suc, Bool, true, false, List, [], ◌∷◌, ◌++◌, append-nil, Option, Some, None, refl, sym, ap, subst, ◌∙◌, eq-eqb, arith, true≢false}
 use Rattle.std.specs.Prelude.{slice_index}
 use Rattle.std.proofs.lemmas.Bool.{cond-true}
-use Rattle.core_state.specs.States.{Row}
-use Rattle.core_state.specs.Needs.{is_free, is_reader}
-use Rattle.row_words.specs.declared.event.Event.{Event}
-use Rattle.row_words.specs.declared.given.Given.{Given}
-use Rattle.row_words.specs.Openings.{opening}
-use Rattle.row_words.specs.Sealed.{Shown}
-use Rattle.row_words.specs.Words.{mask, holder_word, lock_words}
-use Rattle.rows_trait.specs.declared.view.Hold.{Hold}
-use Rattle.rows_trait.specs.declared.view.View.{View}
-use Rattle.rows_trait.specs.Views.{Shape, Knows, state, latest, hold, holds, held_at}
-use Rattle.rows_trait.specs.Turns.{Goes, Looked, Loaded, Taken, Ran}
-use Rattle.rows_trait.specs.Causes.{HasFound}
-use Rattle.version_latch.proofs.Keeping.{kept_load, looked_latest}
+use Rattle.btree_descent.specs.core_state.States.{Row}
+use Rattle.btree_descent.specs.core_state.Needs.{is_free, is_reader}
+use Rattle.btree_descent.specs.row_words.declared.event.Event.{Event}
+use Rattle.btree_descent.specs.row_words.declared.given.Given.{Given}
+use Rattle.btree_descent.specs.row_words.Openings.{opening}
+use Rattle.btree_descent.specs.row_words.Sealed.{Shown}
+use Rattle.btree_descent.specs.row_words.Words.{mask, holder_word, lock_words}
+use Rattle.btree_descent.specs.rows_trait.declared.view.Hold.{Hold}
+use Rattle.btree_descent.specs.rows_trait.declared.view.View.{View}
+use Rattle.btree_descent.specs.rows_trait.Views.{Shape, Knows, state, latest, hold, holds, held_at}
+use Rattle.btree_descent.specs.rows_trait.Turns.{Goes, Looked, Loaded, Taken, Ran}
+use Rattle.btree_descent.specs.rows_trait.Causes.{HasFound}
+use Rattle.btree_descent.proofs.version_latch_lemmas.Keeping.{kept_load, looked_latest}
 use Rattle.key_locks.specs.Rows.{Sized}
 use Rattle.btree_smo.proofs.Causes.{found_after, found_loads}
 use Rattle.btree_smo.specs.Outcomes.{Found}
-use Rattle.rows_trait.proofs.Runs.{ran_goes, ran_append}
+use Rattle.btree_descent.proofs.rows_trait_lemmas.Runs.{ran_goes, ran_append}
 use Rattle.key_locks.specs.Rows.{IsRow, IsSound}
 use Rattle.key_locks.specs.Inside.{IsAt}
 use Rattle.key_locks.proofs.Masks.{no_reader}
 use Rattle.key_locks.proofs.Staying.{shown_word, five_wide}
-use Rattle.lean_proto.specs.Purges.{IsQuiet}
+use Rattle.btree_descent.specs.lean_proto.Purges.{IsQuiet}
 use Rattle.held_rows.specs.Rows.{Waited, Stood}
 use Rattle.held_rows.specs.Latching.{Took}
 use Rattle.btree_smo.specs.Inside.Quiet.{AreQuiet, with_holds}
@@ -42,7 +42,7 @@ quiet_row n o f a b c r q x y z = record {
   number = (let l = q.low in let e = z in omega arith);
 }
   where
-    free : (h : Option ℕ) → holder_word h ≡ 0 → ((w : ℕ) → Rattle.core_state.specs.Needs.is_held_by h w ≡ true → 0 < w) → is_free h ≡ true
+    free : (h : Option ℕ) → holder_word h ≡ 0 → ((w : ℕ) → Rattle.btree_descent.specs.core_state.Needs.is_held_by h w ≡ true → 0 < w) → is_free h ≡ true
     free None e some = refl
     free (Some w) e some = absurd (let lt = some w (eq-eqb w w refl) in omega arith)
 

@@ -1,7 +1,7 @@
 -- A change answers as its rows were refused.
 use Rattle.std.proofs.Common.{sym, subst}
 use Rattle.std.specs.Prelude.{ℕ, List}
-use Rattle.rows_trait.specs.declared.view.View.{View}
+use Rattle.btree_descent.specs.rows_trait.declared.view.View.{View}
 use Rattle.held_rows.specs.declared.latching.Refusal.{Refusal}
 use Rattle.held_rows.specs.declared.latching.Refusal.TheVariants as refusal
 use Rattle.held_rows.specs.Latching as held

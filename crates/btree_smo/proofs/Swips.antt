@@ -4,8 +4,8 @@ use Rattle.std.specs.Prelude.{if◌then◌else◌}
 use Rattle.page_model.specs.Pairs.{Pair, put, keep}
 use Rattle.page_model.specs.Nodes.{Node}
 use Rattle.page_model.specs.Needs.{key_at}
-use Rattle.core_state.specs.States.{Place}
-use Rattle.row_words.specs.Words.{swip, swips, is_inner, framed}
+use Rattle.btree_descent.specs.core_state.States.{Place}
+use Rattle.btree_descent.specs.row_words.Words.{swip, swips, is_inner, framed}
 
 module _ (place : ℕ → Place) where
   -- pairs in a frame: with swips where the node is an inner one

@@ -5,10 +5,10 @@ use Rattle.std.specs.List.{All}
 use Rattle.std.proofs.lemmas.List.{take_more_set, map-append}
 use Rattle.std.proofs.lemmas.List.Elements.{All-push}
 use Rattle.page_model.specs.Pairs as model
-use Rattle.btree_node.specs.Words.{pairs_in}
-use Rattle.log_record.specs.Model.{model_pair}
-use Rattle.log_record.specs.Spelling.{PairFits, no_pair}
-use Rattle.log_record.specs.declared.record.Pair.{Pair}
+use Rattle.disk_image.specs.btree_node.Words.{pairs_in}
+use Rattle.disk_image.specs.log_record.Model.{model_pair}
+use Rattle.disk_image.specs.log_record.Spelling.{PairFits, no_pair}
+use Rattle.disk_image.specs.log_record.declared.record.Pair.{Pair}
 
 pairs_suc : (n : ℕ) (ws : List ℕ) → pairs_in (suc n) ws ≡ pairs_in n ws ++ record { key = slice_index ws (2 * n); word = slice_index ws (2 * n + 1) } ∷ []
 pairs_suc zero ws = (λ i. record { key = slice_index ws 0; word = slice_index ws 1 } ∷ [])

@@ -1,17 +1,17 @@
 -- The drop of the root's one child, by outcome.
 use Rattle.std.specs.Prelude.{◌≡◌, ◌⊎◌, ℕ, Bool, false, List, [], ◌∷◌}
-use Rattle.image_model.specs.Entries.{Entry, Kind}
+use Rattle.disk_image.specs.image_model.Entries.{Entry, Kind}
 use Rattle.page_model.specs.Needs.{drop_record}
-use Rattle.core_state.specs.Needs.{may_drop}
-use Rattle.core_state.specs.States.{Place, State, nodes_of, gsns_of}
-use Rattle.core_state.specs.Steps.{at_pages, page_entry}
-use Rattle.row_words.specs.declared.event.Event.TheVariants.{Drop}
-use Rattle.row_words.specs.declared.given.Given.{Given}
-use Rattle.row_words.specs.Moments.{Moment}
-use Rattle.rows_trait.specs.declared.view.View.{View}
-use Rattle.rows_trait.specs.Views.{after_all}
-use Rattle.log_record.specs.declared.record.Record.{Record}
-use Rattle.draw_trait.specs.Clocks.{Clock}
+use Rattle.btree_descent.specs.core_state.Needs.{may_drop}
+use Rattle.btree_descent.specs.core_state.States.{Place, State, nodes_of, gsns_of}
+use Rattle.btree_descent.specs.core_state.Steps.{at_pages, page_entry}
+use Rattle.btree_descent.specs.row_words.declared.event.Event.TheVariants.{Drop}
+use Rattle.btree_descent.specs.row_words.declared.given.Given.{Given}
+use Rattle.btree_descent.specs.row_words.Moments.{Moment}
+use Rattle.btree_descent.specs.rows_trait.declared.view.View.{View}
+use Rattle.btree_descent.specs.rows_trait.Views.{after_all}
+use Rattle.disk_image.specs.log_record.declared.record.Record.{Record}
+use Rattle.btree_descent.specs.draw_trait.Clocks.{Clock}
 use Rattle.btree_smo.specs.declared.outcome.Outcome.{Outcome}
 use Rattle.btree_smo.specs.declared.outcome.Outcome.TheVariants as outcome
 use Rattle.btree_smo.specs.declared.outcome.Outcome.TheVariants.{Done, Full, TooTall, Stale, Moved, Latched, RowSpent, ClockSpent}

@@ -1,25 +1,25 @@
 -- The purge of a leaf's tombstones that nobody can need, by outcome.
 use Rattle.std.specs.Prelude.{◌≡◌, ◌≤◌, ◌<◌, ◌+◌, ◌⊎◌, ℕ, Bool, true, false, ◌&&◌, ◌==◌, List, [], ◌∷◌, ◌++◌, length, Result, Ok, Err, if◌then◌else◌}
-use Rattle.image_model.specs.Entries.{Entry, Kind}
+use Rattle.disk_image.specs.image_model.Entries.{Entry, Kind}
 use Rattle.page_model.specs.Pairs.{Pair}
 use Rattle.page_model.specs.Nodes.{is_leaf}
 use Rattle.page_model.specs.Needs.{purge_record}
-use Rattle.core_state.specs.Openings.{Opening}
-use Rattle.core_state.specs.States.{Place, State, gsns_of, flushed_by_all}
-use Rattle.core_state.specs.Needs as core
-use Rattle.core_state.specs.Needs.{is_settled}
-use Rattle.core_state.specs.Steps.{at_pages, page_entry}
-use Rattle.row_words.specs.declared.event.Event.{Event}
-use Rattle.row_words.specs.declared.event.Event.TheVariants.{Purge}
-use Rattle.row_words.specs.declared.given.Given.{Given}
-use Rattle.row_words.specs.Moments.{Moment, event_of}
-use Rattle.row_words.specs.Openings.{opening}
-use Rattle.rows_trait.specs.declared.view.View.{View}
-use Rattle.rows_trait.specs.Views.{Shape, after_all, state}
-use Rattle.rows_trait.specs.Turns.{Ran}
-use Rattle.log_record.specs.declared.record.Record.{Record}
-use Rattle.draw_trait.specs.Clocks.{Clock, drawn}
-use Rattle.draw_trait.specs.declared.draw.Unstaged.{Unstaged}
+use Rattle.btree_descent.specs.core_state.Openings.{Opening}
+use Rattle.btree_descent.specs.core_state.States.{Place, State, gsns_of, flushed_by_all}
+use Rattle.btree_descent.specs.core_state.Needs as core
+use Rattle.btree_descent.specs.core_state.Needs.{is_settled}
+use Rattle.btree_descent.specs.core_state.Steps.{at_pages, page_entry}
+use Rattle.btree_descent.specs.row_words.declared.event.Event.{Event}
+use Rattle.btree_descent.specs.row_words.declared.event.Event.TheVariants.{Purge}
+use Rattle.btree_descent.specs.row_words.declared.given.Given.{Given}
+use Rattle.btree_descent.specs.row_words.Moments.{Moment, event_of}
+use Rattle.btree_descent.specs.row_words.Openings.{opening}
+use Rattle.btree_descent.specs.rows_trait.declared.view.View.{View}
+use Rattle.btree_descent.specs.rows_trait.Views.{Shape, after_all, state}
+use Rattle.btree_descent.specs.rows_trait.Turns.{Ran}
+use Rattle.disk_image.specs.log_record.declared.record.Record.{Record}
+use Rattle.btree_descent.specs.draw_trait.Clocks.{Clock, drawn}
+use Rattle.btree_descent.specs.draw_trait.declared.draw.Unstaged.{Unstaged}
 use Rattle.disk_image.specs.Records.{entry_of}
 use Rattle.btree_descent.specs.Puts.{Onward, clock_in}
 use Rattle.btree_smo.specs.declared.outcome.Outcome.{Outcome}

@@ -1,9 +1,9 @@
 //! The root takes the contents of its one child.
 ghost use Rattle.std.specs.Prelude.{◌≡◌, ◌≢◌, ◌↔◌, ◌<◌, ◌≤◌, ◌^◌, ◌∷◌, [], ℕ, true, IsTrue, IfOk, IfErr, Ok, Err};
-ghost use Rattle.row_words.specs.declared.event.Event.TheVariants.{Drop};
-ghost use Rattle.rows_trait.specs.Views.{may, state};
-ghost use Rattle.log_record.specs.declared.record.Record.{Record};
-ghost use Rattle.draw_trait.specs.Clocks.{touched, drawn};
+ghost use Rattle.btree_descent.specs.row_words.declared.event.Event.TheVariants.{Drop};
+ghost use Rattle.btree_descent.specs.rows_trait.Views.{may, state};
+ghost use Rattle.disk_image.specs.log_record.declared.record.Record.{Record};
+ghost use Rattle.btree_descent.specs.draw_trait.Clocks.{touched, drawn};
 ghost use Rattle.btree_descent.specs.Known.{IsSound};
 ghost use Rattle.btree_descent.specs.Descents.{Sized};
 ghost use Rattle.btree_descent.specs.Puts.{DrawsFor};
@@ -19,14 +19,14 @@ use crate::image::image;
 use crate::latch::latch_two;
 use crate::outcome::Outcome;
 use crate::record::pairs_of;
+use btree_descent::draw_trait::draw::{Draw, Unstaged};
 use btree_descent::put::LAST_NUMBER;
-use btree_node::Node;
-use draw_trait::draw::{Draw, Unstaged};
+use btree_descent::rows_trait::rows::Rows;
+use btree_descent::swips::Swip;
+use btree_descent::version_latch::Hold;
+use disk_image::btree_node::Node;
+use disk_image::log_record::{Body, PageRef, Record};
 use held_rows::{give_up_two, publish_two, store};
-use log_record::{Body, PageRef, Record};
-use rows_trait::rows::Rows;
-use swips::Swip;
-use version_latch::Hold;
 
 // The root and its one child as they stand in their rows, and the child as it is written.
 #[derive(Drop)]

@@ -1,6 +1,6 @@
 //! The events of changes of the structure.
 use crate::gathered::GoneKeys;
-use rows_trait::names::Names;
+use btree_descent::rows_trait::names::Names;
 
 /// The root's contents go into a new page.
 #[derive(Drop)]
@@ -11,7 +11,7 @@ pub(crate) struct Lifts {
 
 impl Names for Lifts {
     ghost use Rattle.std.specs.Prelude.{[], ◌∷◌};
-    ghost use Rattle.row_words.specs.declared.event.Event.TheVariants.{Lift};
+    ghost use Rattle.btree_descent.specs.row_words.declared.event.Event.TheVariants.{Lift};
 
     ghost names = { λ s _. Lift s.worker s.page ∷ [] };
 }
@@ -28,7 +28,7 @@ pub(crate) struct Splits {
 
 impl Names for Splits {
     ghost use Rattle.std.specs.Prelude.{[], ◌∷◌};
-    ghost use Rattle.row_words.specs.declared.event.Event.TheVariants.{Split};
+    ghost use Rattle.btree_descent.specs.row_words.declared.event.Event.TheVariants.{Split};
 
     ghost names = { λ s _. Split s.worker s.left s.right s.parent s.place ∷ [] };
 }
@@ -43,7 +43,7 @@ pub(crate) struct Purges {
 
 impl Names for Purges {
     ghost use Rattle.std.specs.Prelude.{[], ◌∷◌};
-    ghost use Rattle.row_words.specs.declared.event.Event.TheVariants.{Purge};
+    ghost use Rattle.btree_descent.specs.row_words.declared.event.Event.TheVariants.{Purge};
 
     ghost names = { λ s _. Purge s.worker s.page s.keys ∷ [] };
 }
@@ -57,7 +57,7 @@ pub(crate) struct Drops {
 
 impl Names for Drops {
     ghost use Rattle.std.specs.Prelude.{[], ◌∷◌};
-    ghost use Rattle.row_words.specs.declared.event.Event.TheVariants.{Drop};
+    ghost use Rattle.btree_descent.specs.row_words.declared.event.Event.TheVariants.{Drop};
 
     ghost names = { λ s _. Drop s.worker s.page ∷ [] };
 }
@@ -73,7 +73,7 @@ pub(crate) struct Joins {
 
 impl Names for Joins {
     ghost use Rattle.std.specs.Prelude.{[], ◌∷◌};
-    ghost use Rattle.row_words.specs.declared.event.Event.TheVariants.{Join};
+    ghost use Rattle.btree_descent.specs.row_words.declared.event.Event.TheVariants.{Join};
 
     ghost names = { λ s _. Join s.worker s.left s.right s.parent ∷ [] };
 }

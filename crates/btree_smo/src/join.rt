@@ -1,9 +1,9 @@
 //! Two neighbours become one page, and their parent loses the right one.
 ghost use Rattle.std.specs.Prelude.{◌≡◌, ◌≢◌, ◌<◌, ◌≤◌, ◌+◌, ◌^◌, ◌∷◌, [], ℕ, true, IfOk, IfErr, OnOk, Ok, Err, length};
-ghost use Rattle.row_words.specs.declared.event.Event.TheVariants.{Join};
-ghost use Rattle.rows_trait.specs.Views.{may, state};
-ghost use Rattle.log_record.specs.declared.record.Record.{Record};
-ghost use Rattle.draw_trait.specs.Clocks.{touched, drawn};
+ghost use Rattle.btree_descent.specs.row_words.declared.event.Event.TheVariants.{Join};
+ghost use Rattle.btree_descent.specs.rows_trait.Views.{may, state};
+ghost use Rattle.disk_image.specs.log_record.declared.record.Record.{Record};
+ghost use Rattle.btree_descent.specs.draw_trait.Clocks.{touched, drawn};
 ghost use Rattle.btree_descent.specs.Known.{IsSound};
 ghost use Rattle.btree_descent.specs.Descents.{Sized};
 ghost use Rattle.btree_descent.specs.Puts.{DrawsFor};
@@ -20,13 +20,13 @@ use crate::latch::latch_three;
 use crate::leading::leads;
 use crate::outcome::Outcome;
 use crate::record::{pairs_of, reference};
+use btree_descent::draw_trait::draw::{Draw, Unstaged};
 use btree_descent::put::LAST_NUMBER;
-use btree_node::Node;
-use draw_trait::draw::{Draw, Unstaged};
+use btree_descent::rows_trait::rows::Rows;
+use btree_descent::version_latch::Hold;
+use disk_image::btree_node::Node;
+use disk_image::log_record::{Body, Record};
 use held_rows::{give_up_three, publish_three, store};
-use log_record::{Body, Record};
-use rows_trait::rows::Rows;
-use version_latch::Hold;
 
 /// The most pairs that two pages have together which are joined.
 const JOINED: usize = 45;

@@ -1,10 +1,10 @@
 //! Tombstones that nobody can need go.
 ghost use Rattle.std.specs.Prelude.{◌≡◌, ◌<◌, ◌≤◌, ◌^◌, ◌∷◌, [], true, IfOk, IfErr, Ok, Err, length};
-ghost use Rattle.row_words.specs.declared.event.Event.TheVariants.{Purge};
-ghost use Rattle.rows_trait.specs.Layout.{rows_of};
-ghost use Rattle.rows_trait.specs.Views.{may, state};
-ghost use Rattle.log_record.specs.declared.record.Record.{Record};
-ghost use Rattle.draw_trait.specs.Clocks.{touched, drawn};
+ghost use Rattle.btree_descent.specs.row_words.declared.event.Event.TheVariants.{Purge};
+ghost use Rattle.btree_descent.specs.rows_trait.Layout.{rows_of};
+ghost use Rattle.btree_descent.specs.rows_trait.Views.{may, state};
+ghost use Rattle.disk_image.specs.log_record.declared.record.Record.{Record};
+ghost use Rattle.btree_descent.specs.draw_trait.Clocks.{touched, drawn};
 ghost use Rattle.key_locks.specs.Rows as lock_rows;
 ghost use Rattle.btree_descent.specs.Known.{IsSound};
 ghost use Rattle.btree_descent.specs.Descents.{Sized};
@@ -22,13 +22,13 @@ use crate::latch::latch_one;
 use crate::outcome::Outcome;
 use crate::record::keys_of;
 use crate::release::{give_up_places, release_places};
+use btree_descent::draw_trait::draw::{Draw, Unstaged};
 use btree_descent::put::LAST_NUMBER;
-use btree_node::Node;
-use draw_trait::draw::{Draw, Unstaged};
+use btree_descent::rows_trait::rows::Rows;
+use btree_descent::version_latch::Hold;
+use disk_image::btree_node::Node;
+use disk_image::log_record::{Body, PageRef, Record};
 use held_rows::store;
-use log_record::{Body, PageRef, Record};
-use rows_trait::rows::Rows;
-use version_latch::Hold;
 
 /// What a purge did, or why it did nothing.
 #[derive(Clone, Copy)]

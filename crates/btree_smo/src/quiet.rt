@@ -1,12 +1,12 @@
 // A lock row is latched where nobody has its lock and its last end is flushed.
 ghost use Rattle.std.specs.Prelude.{◌≡◌, ◌<◌, ◌≤◌, ◌+◌, true, false};
-ghost use Rattle.rows_trait.specs.Layout.{rows_of, width};
+ghost use Rattle.btree_descent.specs.rows_trait.Layout.{rows_of, width};
 ghost use Rattle.key_locks.specs.Rows as lock_rows;
 ghost use Rattle.btree_smo.specs.Inside.Quiet.{Quietly, AreQuiet};
 
-use rows_trait::names::Nothing;
-use rows_trait::rows::Rows;
-use version_latch::{Glimpse, Hold, Unheld};
+use btree_descent::rows_trait::names::Nothing;
+use btree_descent::rows_trait::rows::Rows;
+use btree_descent::version_latch::{Glimpse, Hold, Unheld};
 
 // Whether a lock row was latched.
 #[derive(Clone, Copy)]

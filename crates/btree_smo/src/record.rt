@@ -1,12 +1,12 @@
 // The pairs, the keys and the pages of a record.
 ghost use Rattle.std.specs.Prelude.{◌≡◌, ◌≤◌, ◌<◌, ◌^◌, ◌*◌, ◌%◌, length, map, take, drop};
 ghost use Rattle.std.specs.List.{All};
-ghost use Rattle.btree_node.specs.Words.{pairs_of, pairs_in};
-ghost use Rattle.log_record.specs.Model.{model_pair, model_pairs, model_keys};
-ghost use Rattle.log_record.specs.Spelling.{PairFits, PairsFit, KeyFits, KeysFit, RefFits};
+ghost use Rattle.disk_image.specs.btree_node.Words.{pairs_of, pairs_in};
+ghost use Rattle.disk_image.specs.log_record.Model.{model_pair, model_pairs, model_keys};
+ghost use Rattle.disk_image.specs.log_record.Spelling.{PairFits, PairsFit, KeyFits, KeysFit, RefFits};
 
-use btree_node::Node;
-use log_record::{Keys, PageRef, Pair, Pairs};
+use disk_image::btree_node::Node;
+use disk_image::log_record::{Keys, PageRef, Pair, Pairs};
 
 // Pairs of their words, key and word in turn.
 pub(crate) fn pairs_of(words: &[u64]) -> Pairs

@@ -1,12 +1,12 @@
 // Rows that are given up as they stood.
 ghost use Rattle.std.specs.Prelude.{◌≡◌, ◌<◌, ◌+◌, ◌^◌, [], length};
-ghost use Rattle.rows_trait.specs.Layout.{rows_of};
+ghost use Rattle.btree_descent.specs.rows_trait.Layout.{rows_of};
 ghost use Rattle.btree_smo.specs.Outcomes.{MissedUpTo};
 ghost use Rattle.btree_smo.specs.Inside.Purging.{KeepsPlaces, KeepsBeside};
 
 use crate::gathered::Places;
-use rows_trait::rows::Rows;
-use version_latch::Hold;
+use btree_descent::rows_trait::rows::Rows;
+use btree_descent::version_latch::Hold;
 
 // Gives up the lock rows of these places, the only rows that are held.
 pub(crate) fn release_places<R: Rows>(

@@ -6,13 +6,13 @@ use Rattle.map_model.specs.Lists.{Has, any, keep}
 use Rattle.map_model.specs.Journals.{Name}
 use Rattle.map_model.proofs.ListLemmas.{upd_same}
 use Rattle.rfa_model.specs.Stamps.{need_of}
-use Rattle.core_state.specs.Openings.{Opening}
-use Rattle.core_state.specs.States.{Worker, State, start}
-use Rattle.core_state.specs.Events.{Event}
-use Rattle.core_state.specs.Needs.{may}
-use Rattle.core_state.specs.Steps.{finished, happens, run, AllMet, state_after}
-use Rattle.core_state.proofs.Runs.{run_more, met_more}
-use Rattle.core_commit.specs.Rises.{EveryRise}
+use Rattle.rows_trait.specs.core_state.Openings.{Opening}
+use Rattle.rows_trait.specs.core_state.States.{Worker, State, start}
+use Rattle.rows_trait.specs.core_state.Events.{Event}
+use Rattle.rows_trait.specs.core_state.Needs.{may}
+use Rattle.rows_trait.specs.core_state.Steps.{finished, happens, run, AllMet, state_after}
+use Rattle.rows_trait.proofs.core_state_lemmas.Runs.{run_more, met_more}
+use Rattle.disk_runs.specs.core_commit.Rises.{EveryRise}
 use Rattle.core_calls.specs.Deeds.{Deed, Aborted, Committed}
 use Rattle.core_calls.specs.Refusals.{Limits}
 use Rattle.core_calls.specs.Fronts.{Done, front, outcomes}

@@ -10,11 +10,11 @@ use Rattle.map_model.specs.declared.call.Answer.TheVariants as answer
 use Rattle.map_model.specs.declared.call.Call.{Call}
 use Rattle.map_model.specs.declared.call.Call.TheVariants as call
 use Rattle.rfa_model.specs.Stamps.{need_of}
-use Rattle.core_commit.specs.Rises.{EveryRise}
-use Rattle.core_state.specs.Events.{Event}
-use Rattle.core_state.specs.Openings.{Opening}
-use Rattle.core_state.specs.States as core
-use Rattle.core_state.specs.Steps.{state_after}
+use Rattle.disk_runs.specs.core_commit.Rises.{EveryRise}
+use Rattle.rows_trait.specs.core_state.Events.{Event}
+use Rattle.rows_trait.specs.core_state.Openings.{Opening}
+use Rattle.rows_trait.specs.core_state.States as core
+use Rattle.rows_trait.specs.core_state.Steps.{state_after}
 use Rattle.core_calls.specs.Deeds.{answered}
 use Rattle.core_calls.specs.Durables.{due}
 use Rattle.core_calls.specs.Fronts.{Done, front}
@@ -22,10 +22,10 @@ use Rattle.core_calls.specs.Refusals.{waiting}
 use Rattle.core_calls.specs.Runs.{EachTells}
 use Rattle.lean_disk.specs.Story.{Story}
 use Rattle.row_opening.specs.Openings.{EveryReached}
-use Rattle.row_words.specs.declared.event.Event as row
-use Rattle.row_words.specs.declared.event.Event.TheVariants as row_event
-use Rattle.row_words.specs.declared.given.Given.{Given}
-use Rattle.row_words.specs.Moments.{event_of, events_of}
+use Rattle.rows_trait.specs.row_words.declared.event.Event as row
+use Rattle.rows_trait.specs.row_words.declared.event.Event.TheVariants as row_event
+use Rattle.rows_trait.specs.row_words.declared.given.Given.{Given}
+use Rattle.rows_trait.specs.row_words.Moments.{event_of, events_of}
 use Rattle.rows_trait.specs.declared.view.View.{View}
 use Rattle.rows_trait.specs.Views.{state}
 use Rattle.engine_trait.specs.Limits.{limits}

@@ -3,20 +3,20 @@ use Rattle.std.proofs.Common.{◌≡◌, ◌≤◌, inl, inr, ℕ, Bool, true, f
 use Rattle.std.proofs.lemmas.Bool.{and_from, and_parts, and_right, cases_Bool, cond-true, eqb-true, le-leb}
 use Rattle.std.proofs.lemmas.List.{append_assoc}
 use Rattle.map_model.specs.Lists.{Has, any, keep}
-use Rattle.image_model.specs.Entries.{Entry, is_end}
+use Rattle.rows_trait.specs.image_model.Entries.{Entry, is_end}
 use Rattle.rfa_model.specs.Reaches.{least}
-use Rattle.core_state.specs.Lists.{most}
-use Rattle.core_state.specs.Openings.{Opening}
-use Rattle.core_state.specs.States.{State, start, flushed_by_all}
-use Rattle.core_state.specs.Events.{Event}
-use Rattle.core_state.specs.Needs.{is_behind, may, needs}
-use Rattle.core_state.specs.Steps.{AllMet, happens, run, state_after, synced}
-use Rattle.core_state.proofs.Runs.{met_more, run_more}
-use Rattle.core_commit.proofs.Controls.{le_most}
-use Rattle.core_commit.proofs.History.{Recorded}
-use Rattle.core_commit.proofs.Invariants.{Inv}
-use Rattle.core_commit.proofs.Lists.{Before, le_least}
-use Rattle.core_commit.proofs.Runs.{good_run, good_start}
+use Rattle.rows_trait.specs.core_state.Lists.{most}
+use Rattle.rows_trait.specs.core_state.Openings.{Opening}
+use Rattle.rows_trait.specs.core_state.States.{State, start, flushed_by_all}
+use Rattle.rows_trait.specs.core_state.Events.{Event}
+use Rattle.rows_trait.specs.core_state.Needs.{is_behind, may, needs}
+use Rattle.rows_trait.specs.core_state.Steps.{AllMet, happens, run, state_after, synced}
+use Rattle.rows_trait.proofs.core_state_lemmas.Runs.{met_more, run_more}
+use Rattle.disk_runs.proofs.core_commit_lemmas.Controls.{le_most}
+use Rattle.disk_runs.proofs.core_commit_lemmas.History.{Recorded}
+use Rattle.disk_runs.proofs.core_commit_lemmas.Invariants.{Inv}
+use Rattle.disk_runs.proofs.core_commit_lemmas.Lists.{Before, le_least}
+use Rattle.disk_runs.proofs.core_commit_lemmas.Runs.{good_run, good_start}
 use Rattle.core_calls.proofs.DurableLemmas.{entered}
 use Rattle.core_calls.specs.Deeds.{Begun, Deed}
 use Rattle.core_calls.specs.Fronts.{Done, front, outcomes}

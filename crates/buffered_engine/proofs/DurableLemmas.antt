@@ -3,7 +3,7 @@ use Rattle.std.proofs.Common.{◌≡◌, inl, inr, ◌↔◌, ◌≤◌, ◌<◌
 use Rattle.std.proofs.lemmas.Bool.{cases_Bool}
 use Rattle.std.proofs.lemmas.List.{length-take-le}
 use Rattle.map_model.specs.Journals.{Name}
-use Rattle.core_state.specs.Openings.{Opening}
+use Rattle.rows_trait.specs.core_state.Openings.{Opening}
 use Rattle.core_calls.specs.Fronts.{Done}
 use Rattle.lean_disk.specs.Story.{Story}
 use Rattle.engine_trait.specs.Calls.{is_half_done}

@@ -1,14 +1,14 @@
 -- Whether an abort is half done is told by the events.
 use Rattle.std.proofs.Common.{◌≡◌, ℕ, Bool, true, false, cond, ◌&&◌, ◌==◌, List, [], ◌∷◌, ◌++◌, refl, sym, ap, ◌∙◌, true≢false}
 use Rattle.map_model.specs.Maps.{MapAnswer}
-use Rattle.image_model.specs.Entries.{Entry}
+use Rattle.rows_trait.specs.image_model.Entries.{Entry}
 use Rattle.page_model.specs.Nodes.{Node}
-use Rattle.core_state.specs.Openings.{Opening}
-use Rattle.core_state.specs.States.{State}
-use Rattle.core_state.specs.Events.{Event}
-use Rattle.core_state.specs.Local.{is_of}
-use Rattle.core_state.specs.Needs.{are_hot, may, may_put_back, pages_of}
-use Rattle.core_state.specs.Steps.{AllMet, state_after, step}
+use Rattle.rows_trait.specs.core_state.Openings.{Opening}
+use Rattle.rows_trait.specs.core_state.States.{State}
+use Rattle.rows_trait.specs.core_state.Events.{Event}
+use Rattle.rows_trait.specs.core_state.Local.{is_of}
+use Rattle.rows_trait.specs.core_state.Needs.{are_hot, may, may_put_back, pages_of}
+use Rattle.rows_trait.specs.core_state.Steps.{AllMet, state_after, step}
 use Rattle.core_calls.specs.Deeds.{marks_by, marks_for}
 use Rattle.core_calls.specs.Fronts.{Done, front, outcomes}
 use Rattle.core_calls.specs.Marks.{Mark, back_in, is_half, mark, marks, met_in, onto}

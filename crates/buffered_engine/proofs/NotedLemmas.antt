@@ -2,7 +2,7 @@
 use Rattle.std.proofs.Common.{◌≡◌, List, length, refl, sym, subst}
 use Rattle.std.specs.Prelude.{IsTrue}
 use Rattle.map_model.specs.Journals.{Name}
-use Rattle.core_state.specs.Openings.{Opening}
+use Rattle.rows_trait.specs.core_state.Openings.{Opening}
 use Rattle.core_calls.specs.Fronts.{Done}
 use Rattle.lean_disk.specs.Area.{Area}
 use Rattle.lean_disk.specs.Calls.{Noted}
@@ -12,7 +12,7 @@ use Rattle.lean_edge.specs.declared.sink.Put.TheVariants as put
 use Rattle.engine_front.specs.declared.calls.Next.{Next}
 use Rattle.group_commit.specs.declared.queue.End.{End}
 use Rattle.page_calls.specs.Mirrors.{HoldsLast}
-use Rattle.page_store.specs.Saved.{Reaches}
+use Rattle.disk_runs.specs.page_store.Saved.{Reaches}
 use Rattle.paged_desks.specs.Machines.{IsReady, pages}
 use Rattle.paged_desks.specs.declared.machine.PagedMachine.{PagedMachine}
 use Rattle.paged_rows.specs.Paged.{IsFedIfFaithful, Paged}

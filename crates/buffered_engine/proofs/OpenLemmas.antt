@@ -1,9 +1,9 @@
 -- An engine on a disk that was opened.
 use Rattle.std.proofs.Common.{◌≡◌, ℕ, Bool, false, List, [], length, refl, sym, ap, subst, arith}
-use Rattle.core_state.specs.Openings.{Opening}
-use Rattle.core_state.specs.States.{start}
+use Rattle.rows_trait.specs.core_state.Openings.{Opening}
+use Rattle.rows_trait.specs.core_state.States.{start}
 use Rattle.core_calls.specs.Refusals.{waiting}
-use Rattle.disk_slots.specs.declared.master.Master.{Master}
+use Rattle.disk_runs.specs.disk_slots.declared.master.Master.{Master}
 use Rattle.lean_disk.specs.Story.{Story}
 use Rattle.engine_front.specs.declared.calls.Next.TheVariants.{Line}
 use Rattle.group_commit.specs.Laws.{EveryStart}

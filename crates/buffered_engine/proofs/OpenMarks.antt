@@ -4,14 +4,14 @@ use Rattle.std.proofs.lemmas.Bool.{cases_eq, cond-true, eq-eqb, ne_eqb}
 use Rattle.map_model.specs.Histories.{Step}
 use Rattle.map_model.specs.Lists.{upd}
 use Rattle.map_model.specs.Maps.{MapAnswer}
-use Rattle.image_model.specs.Entries.{Entry}
-use Rattle.core_state.specs.Openings.{Opening}
-use Rattle.core_state.specs.States.{State, Worker, start}
-use Rattle.core_state.specs.Events.{Event}
-use Rattle.core_state.specs.Local.{is_of}
-use Rattle.core_state.specs.Needs.{may}
-use Rattle.core_state.specs.Steps.{AllMet, follows, happens, put_back, run, state_after, step}
-use Rattle.core_state.proofs.Runs.{run_more}
+use Rattle.rows_trait.specs.image_model.Entries.{Entry}
+use Rattle.rows_trait.specs.core_state.Openings.{Opening}
+use Rattle.rows_trait.specs.core_state.States.{State, Worker, start}
+use Rattle.rows_trait.specs.core_state.Events.{Event}
+use Rattle.rows_trait.specs.core_state.Local.{is_of}
+use Rattle.rows_trait.specs.core_state.Needs.{may}
+use Rattle.rows_trait.specs.core_state.Steps.{AllMet, follows, happens, put_back, run, state_after, step}
+use Rattle.rows_trait.proofs.core_state_lemmas.Runs.{run_more}
 use Rattle.core_calls.specs.Deeds.{Aborted, Absent, Begun, Changed, Checkpointed, Committed, Deed, Deleted, Got, Met, Over, Paused, Refused, Synced, Unsaid, marks_for, marks_of, put_backs, reads_of}
 use Rattle.core_calls.specs.Fronts.{Done, front}
 use Rattle.core_calls.specs.Marks.{Mark, Began, Ended, back_in, mark, marks, met_in, onto}

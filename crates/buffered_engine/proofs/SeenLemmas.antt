@@ -1,14 +1,14 @@
 -- What a view that is tied to a run has seen: the state of that run, and which aborts are half done.
 use Rattle.std.proofs.Common.{◌≡◌, ℕ, false, List, ◌++◌, append-nil, sym, ap, ◌∙◌}
 use Rattle.rfa_model.specs.Reaches.{least}
-use Rattle.core_state.specs.Openings.{Opening}
-use Rattle.core_state.specs.States.{State, flushed_by_all}
-use Rattle.core_state.specs.Events.{Event}
-use Rattle.core_state.specs.Steps.{state_after}
+use Rattle.rows_trait.specs.core_state.Openings.{Opening}
+use Rattle.rows_trait.specs.core_state.States.{State, flushed_by_all}
+use Rattle.rows_trait.specs.core_state.Events.{Event}
+use Rattle.rows_trait.specs.core_state.Steps.{state_after}
 use Rattle.core_calls.specs.Fronts.{Done, front}
 use Rattle.row_opening.specs.Openings.{EveryReached}
-use Rattle.row_words.specs.Moments.{events_of}
-use Rattle.row_words.specs.Openings.{opening}
+use Rattle.rows_trait.specs.row_words.Moments.{events_of}
+use Rattle.rows_trait.specs.row_words.Openings.{opening}
 use Rattle.rows_trait.specs.declared.view.View.{View}
 use Rattle.rows_trait.specs.Views.{state}
 use Rattle.call_parts.specs.Memory.{Memory}

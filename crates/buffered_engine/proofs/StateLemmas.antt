@@ -8,8 +8,8 @@ use Rattle.map_model.specs.declared.call.Call.TheVariants as call
 use Rattle.page_model.specs.Limits.{waiting_ends}
 use Rattle.core_calls.specs.Fronts.{Done}
 use Rattle.core_calls.specs.Steps.{is_conflict}
-use Rattle.core_commit.specs.Rises.{EveryRise}
-use Rattle.core_state.specs.Openings.{Opening}
+use Rattle.disk_runs.specs.core_commit.Rises.{EveryRise}
+use Rattle.rows_trait.specs.core_state.Openings.{Opening}
 use Rattle.lean_disk.specs.Story.{Story}
 use Rattle.row_opening.specs.Openings.{EveryReached}
 use Rattle.engine_trait.specs.Calls.{IsAsked}

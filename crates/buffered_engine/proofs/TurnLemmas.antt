@@ -5,14 +5,14 @@ use Rattle.map_model.specs.declared.call.Answer.TheVariants as answer
 use Rattle.map_model.specs.declared.call.Call.{Call}
 use Rattle.map_model.specs.declared.call.Call.TheVariants as call
 use Rattle.map_model.specs.declared.call.Refusal.TheVariants as refusal
-use Rattle.core_state.specs.Openings.{Opening}
-use Rattle.core_state.specs.Steps.{state_after}
+use Rattle.rows_trait.specs.core_state.Openings.{Opening}
+use Rattle.rows_trait.specs.core_state.Steps.{state_after}
 use Rattle.core_calls.specs.Deeds.{asked}
 use Rattle.core_calls.specs.Fronts.{Done, front, outcomes}
 use Rattle.core_calls.specs.Steps.{call_behind}
 use Rattle.disk_runs.specs.Masters.{IsNoEarlier}
 use Rattle.disk_runs.specs.Stands.{Known}
-use Rattle.disk_slots.specs.declared.master.Master.{Master}
+use Rattle.disk_runs.specs.disk_slots.declared.master.Master.{Master}
 use Rattle.lean_disk.specs.Faults.{HasCause}
 use Rattle.lean_disk.specs.Story.{Story}
 use Rattle.page_calls.specs.declared.slots.Slot.{Slot}
@@ -23,10 +23,10 @@ use Rattle.engine_trait.specs.Calls.{IsAsked, is_half_done}
 use Rattle.engine_trait.specs.Logs.{Logs}
 use Rattle.engine_trait.specs.Refusals.{IsRefusedFor, refusal_in}
 use Rattle.engine_front.specs.Stops.{StandsNot}
-use Rattle.row_words.specs.Openings.{opening}
+use Rattle.rows_trait.specs.row_words.Openings.{opening}
 use Rattle.rows_trait.specs.declared.view.View.{View}
 use Rattle.rows_trait.specs.Views.{state}
-use Rattle.worker_log.specs.Logs.{Log}
+use Rattle.disk_runs.specs.worker_log.Logs.{Log}
 use Rattle.session_desks.specs.Machines.{IsLogged}
 use Rattle.session_desks.proofs.SeatLemmas.{holds_of}
 use Rattle.session_state.specs.Holds.{Holds}

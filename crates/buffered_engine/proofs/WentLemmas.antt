@@ -8,7 +8,7 @@ use Rattle.map_model.specs.declared.call.Call.{Call}
 use Rattle.map_model.specs.declared.call.Refusal.{Refusal}
 use Rattle.map_model.specs.declared.call.Refusal.TheVariants as refusal
 use Rattle.rfa_model.specs.Stamps.{need_of}
-use Rattle.core_state.specs.Openings.{Opening}
+use Rattle.rows_trait.specs.core_state.Openings.{Opening}
 use Rattle.core_calls.specs.Fronts.{Done}
 use Rattle.lean_disk.specs.Faults.{HasCause}
 use Rattle.lean_disk.specs.Story.{Story}
@@ -17,8 +17,8 @@ use Rattle.group_commit.specs.declared.receipts.Receipt.{Receipt}
 use Rattle.row_ends.specs.Ends.{gives}
 use Rattle.row_ends.specs.Receipts.{IsEnded}
 use Rattle.row_ends.specs.declared.ending.Ended.{Ended}
-use Rattle.row_words.specs.declared.event.Event.{Event}
-use Rattle.row_words.specs.declared.event.Event.TheVariants.{End}
+use Rattle.rows_trait.specs.row_words.declared.event.Event.{Event}
+use Rattle.rows_trait.specs.row_words.declared.event.Event.TheVariants.{End}
 use Rattle.rows_trait.specs.declared.view.View.{View}
 use Rattle.session_desks.specs.Parts.{AreAsMany, SeatFits, Works, here, shape}
 use Rattle.session_desks.proofs.SeatLemmas.{holds_of}

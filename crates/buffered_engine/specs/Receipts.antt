@@ -1,8 +1,8 @@
 -- Receipts of ends, and when a commit is durable.
 use Rattle.std.specs.Prelude.{◌≡◌, ◌<◌, ◌≤◌, ℕ, List, length}
 use Rattle.rfa_model.specs.Stamps.{need_of}
-use Rattle.core_state.specs.States.{flushed_by_all}
-use Rattle.row_words.specs.Openings.{opening}
+use Rattle.rows_trait.specs.core_state.States.{flushed_by_all}
+use Rattle.rows_trait.specs.row_words.Openings.{opening}
 use Rattle.rows_trait.specs.Views.{state}
 use Rattle.rows_trait.specs.declared.view.View.{View}
 use Rattle.group_commit.specs.Ripeness.{flushed_of, ripeness_of}

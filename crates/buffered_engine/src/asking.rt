@@ -22,6 +22,7 @@ ghost use Rattle.buffered_engine.specs.Inside.Scans.{scan_behind, scan_of};
 use crate::ends::Response;
 use crate::engine::Engine;
 use crate::machine::{abort, begin, row_call, scan_step, sync, turn_to};
+use disk_runs::core_commit;
 use engine_front::calls::Next;
 use group_commit::{LOGS, Receipt, Unripe};
 use map_model::{Answer, Call, Refusal};

@@ -2,7 +2,7 @@
 ghost use Rattle.std.specs.Prelude.{◌≡◌, ◌↔◌, ◌≤◌, ◌<◌, IsErr, IfOk, List, Some, true, false};
 ghost use Rattle.map_model.specs.Journals.{Name};
 ghost use Rattle.page_model.specs.Limits.{most_sessions};
-ghost use Rattle.core_state.specs.Openings.{Opening};
+ghost use Rattle.rows_trait.specs.core_state.Openings.{Opening};
 ghost use Rattle.core_calls.specs.Fronts.{Done};
 ghost use Rattle.engine_trait.specs.Calls.{is_half_done};
 ghost use Rattle.engine_front.specs.Turns.{behind_durables};

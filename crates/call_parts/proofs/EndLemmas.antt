@@ -5,10 +5,10 @@ use Rattle.map_model.specs.Lists.{any}
 use Rattle.map_model.specs.declared.call.Answer.{Answer}
 use Rattle.map_model.specs.declared.call.Call.{Call}
 use Rattle.map_model.specs.declared.call.Call.TheVariants as call
-use Rattle.core_state.specs.Openings.{Opening}
-use Rattle.core_state.specs.Events as happening
-use Rattle.core_state.specs.Local.{is_sync}
-use Rattle.core_state.specs.Steps.{state_after}
+use Rattle.rows_trait.specs.core_state.Openings.{Opening}
+use Rattle.rows_trait.specs.core_state.Events as happening
+use Rattle.rows_trait.specs.core_state.Local.{is_sync}
+use Rattle.rows_trait.specs.core_state.Steps.{state_after}
 use Rattle.core_calls.specs.Deeds.{answered, asked}
 use Rattle.core_calls.specs.Fronts.{Done, front, outcomes}
 use Rattle.core_calls.specs.Runs.{Tells}
@@ -21,8 +21,8 @@ use Rattle.lean_disk.proofs.MomentLemmas.{weaker}
 use Rattle.lean_disk.specs.Moments.{LeavesOnly}
 use Rattle.lean_disk.specs.Story.{Crash, Story}
 use Rattle.run_crashes.specs.Lines.{CallLeaves}
-use Rattle.row_words.specs.declared.event.Event.{Event}
-use Rattle.row_words.specs.Moments.{events_of}
+use Rattle.rows_trait.specs.row_words.declared.event.Event.{Event}
+use Rattle.rows_trait.specs.row_words.Moments.{events_of}
 use Rattle.rows_trait.specs.declared.view.View.{View}
 use Rattle.engine_calls.specs.Clauses.{Between}
 use Rattle.engine_calls.specs.Parts.{Passes}

@@ -1,20 +1,20 @@
 -- A part of a call behind a part is one.
 use Rattle.std.proofs.Common.{◌≡◌, ◌++◌, ◌||◌, ℕ, Bool, false, List, sym, ap, ◌∙◌, subst, append_assoc}
 use Rattle.map_model.specs.Lists.{any}
-use Rattle.core_state.specs.Openings.{Opening}
-use Rattle.core_state.specs.Events as happening
-use Rattle.core_state.specs.Local.{is_sync}
-use Rattle.core_state.specs.States.{State}
-use Rattle.core_state.specs.Steps as core
-use Rattle.core_state.specs.Steps.{AllMet}
+use Rattle.rows_trait.specs.core_state.Openings.{Opening}
+use Rattle.rows_trait.specs.core_state.Events as happening
+use Rattle.rows_trait.specs.core_state.Local.{is_sync}
+use Rattle.rows_trait.specs.core_state.States.{State}
+use Rattle.rows_trait.specs.core_state.Steps as core
+use Rattle.rows_trait.specs.core_state.Steps.{AllMet}
 use Rattle.core_calls.specs.Fronts.{Done, front}
 use Rattle.disk_runs.specs.Masters.{IsNoEarlier}
 use Rattle.disk_runs.specs.Stands.{Known, Stands}
 use Rattle.disk_runs.proofs.LineLemmas.{further}
 use Rattle.lean_disk.specs.Moments.{LeavesOnly}
 use Rattle.lean_disk.specs.Story.{Crash, IsLawful, Story}
-use Rattle.row_words.specs.declared.event.Event.{Event}
-use Rattle.row_words.specs.Moments.{events_of}
+use Rattle.rows_trait.specs.row_words.declared.event.Event.{Event}
+use Rattle.rows_trait.specs.row_words.Moments.{events_of}
 use Rattle.rows_trait.specs.declared.view.View.{View}
 use Rattle.engine_calls.specs.Moves.{EveryMove}
 use Rattle.engine_calls.specs.Parts.{behind_first}

@@ -3,17 +3,17 @@ use Rattle.std.proofs.Common.{◌≡◌, ◌⊎◌, inl, inr, ◌≤◌, ◌<◌
 use Rattle.std.proofs.lemmas.Bool.{cases_eq, eqb-true}
 use Rattle.map_model.specs.Lists.{any, upd}
 use Rattle.map_model.proofs.ListLemmas.{upd_other, upd_same}
-use Rattle.image_model.specs.Entries.{Entry, is_record}
-use Rattle.core_state.specs.Openings.{Opening}
-use Rattle.core_state.specs.Events as happening
-use Rattle.core_state.specs.Local.{is_sync}
-use Rattle.core_state.specs.Needs.{may}
-use Rattle.core_state.specs.States.{State}
-use Rattle.core_state.specs.Steps as core
-use Rattle.core_state.specs.Steps.{AllMet, happens, put_back, state_after}
-use Rattle.core_disk.specs.Versions.{is_cut, then}
+use Rattle.rows_trait.specs.image_model.Entries.{Entry, is_record}
+use Rattle.rows_trait.specs.core_state.Openings.{Opening}
+use Rattle.rows_trait.specs.core_state.Events as happening
+use Rattle.rows_trait.specs.core_state.Local.{is_sync}
+use Rattle.rows_trait.specs.core_state.Needs.{may}
+use Rattle.rows_trait.specs.core_state.States.{State}
+use Rattle.rows_trait.specs.core_state.Steps as core
+use Rattle.rows_trait.specs.core_state.Steps.{AllMet, happens, put_back, state_after}
+use Rattle.disk_runs.specs.core_disk.Versions.{is_cut, then}
 use Rattle.core_calls.specs.Fronts.{Done, front}
-use Rattle.disk_image.specs.Records.{entry_of}
+use Rattle.disk_runs.specs.disk_image.Records.{entry_of}
 use Rattle.disk_runs.specs.Laws.{with_log}
 use Rattle.disk_runs.specs.Logs as logs
 use Rattle.disk_runs.specs.Logs.{Records}
@@ -27,16 +27,16 @@ use Rattle.lean_disk.specs.Moments.{LeavesOnly}
 use Rattle.lean_disk.specs.Story.{Crash, Story}
 use Rattle.log_calls.specs.Calls.{IsLog}
 use Rattle.log_calls.specs.Wholes.{EndsInRecord, FlushesWhole, IsWhole, flush_of}
-use Rattle.row_words.specs.declared.event.Event.{Event}
-use Rattle.row_words.specs.declared.event.Event.TheVariants as told
-use Rattle.row_words.specs.Moments.{event_of, events_of}
-use Rattle.row_words.specs.Openings.{opening}
+use Rattle.rows_trait.specs.row_words.declared.event.Event.{Event}
+use Rattle.rows_trait.specs.row_words.declared.event.Event.TheVariants as told
+use Rattle.rows_trait.specs.row_words.Moments.{event_of, events_of}
+use Rattle.rows_trait.specs.row_words.Openings.{opening}
 use Rattle.row_opening.specs.Openings.{EveryNeed, EveryReached}
 use Rattle.rows_trait.specs.declared.view.View.{View}
 use Rattle.rows_trait.specs.Views.{state}
-use Rattle.worker_log.specs.Calls.{flushed_log}
-use Rattle.worker_log.specs.Kept.{flushed}
-use Rattle.worker_log.specs.Logs.{Log}
+use Rattle.disk_runs.specs.worker_log.Calls.{flushed_log}
+use Rattle.disk_runs.specs.worker_log.Kept.{flushed}
+use Rattle.disk_runs.specs.worker_log.Logs.{Log}
 use Rattle.engine_calls.specs.Parts.{Passes, behind_first}
 use Rattle.engine_trait.specs.Logs.{Logs, LogsEntry, LogsOne, OnOwn}
 use Rattle.session_state.specs.Staging.{KeepsLog}

@@ -1,13 +1,13 @@
 -- Events that are seen one after another, and the records that they enter.
 use Rattle.std.proofs.Common.{◌≡◌, ◌++◌, List, [], ◌∷◌, refl, sym, ap, ◌∙◌, subst, append_assoc}
 use Rattle.std.proofs.lemmas.Bool.{eq-eqb}
-use Rattle.image_model.specs.Entries.{Entry}
-use Rattle.core_state.specs.Steps as core
-use Rattle.core_state.specs.Steps.{AllMet, at_pages}
-use Rattle.disk_image.specs.Records.{entry_of}
-use Rattle.row_words.specs.declared.event.Event.{Event}
-use Rattle.row_words.specs.Moments.{events_of}
-use Rattle.row_words.specs.Openings.{opening}
+use Rattle.rows_trait.specs.image_model.Entries.{Entry}
+use Rattle.rows_trait.specs.core_state.Steps as core
+use Rattle.rows_trait.specs.core_state.Steps.{AllMet, at_pages}
+use Rattle.disk_runs.specs.disk_image.Records.{entry_of}
+use Rattle.rows_trait.specs.row_words.declared.event.Event.{Event}
+use Rattle.rows_trait.specs.row_words.Moments.{events_of}
+use Rattle.rows_trait.specs.row_words.Openings.{opening}
 use Rattle.rows_trait.specs.declared.view.View.{View}
 use Rattle.rows_trait.specs.Views.{state}
 use Rattle.engine_calls.specs.Entries.{EveryEntry}

@@ -2,14 +2,14 @@
 use Rattle.std.proofs.Common.{◌≡◌, ◌++◌, ℕ, suc, true, false, List, [], ◌∷◌, length, refl, sym, ap, ◌∙◌, subst, arith, append_assoc, true≢false}
 use Rattle.std.proofs.lemmas.List.{append-nil}
 use Rattle.map_model.specs.Lists.{all, any}
-use Rattle.core_state.specs.Openings.{Opening}
-use Rattle.core_state.specs.Events as happening
-use Rattle.core_state.specs.Local.{is_sync}
-use Rattle.core_state.specs.States.{State}
-use Rattle.core_state.specs.Steps as core
-use Rattle.core_disk.specs.Versions.{EveryVersion}
+use Rattle.rows_trait.specs.core_state.Openings.{Opening}
+use Rattle.rows_trait.specs.core_state.Events as happening
+use Rattle.rows_trait.specs.core_state.Local.{is_sync}
+use Rattle.rows_trait.specs.core_state.States.{State}
+use Rattle.rows_trait.specs.core_state.Steps as core
+use Rattle.disk_runs.specs.core_disk.Versions.{EveryVersion}
 use Rattle.core_calls.specs.Fronts.{Done, front}
-use Rattle.disk_image.specs.Laws.{EverySealed}
+use Rattle.disk_runs.specs.disk_image.Laws.{EverySealed}
 use Rattle.disk_runs.specs.Masters.{IsNoEarlier}
 use Rattle.disk_runs.specs.Moments.{LeavesSome}
 use Rattle.disk_runs.specs.Quiet.{is_quiet}
@@ -17,18 +17,18 @@ use Rattle.disk_runs.specs.Stands.{Known, LeavesRun, Stands}
 use Rattle.disk_runs.proofs.LineLemmas.{same}
 use Rattle.disk_runs.proofs.MomentLemmas.{some_laws}
 use Rattle.disk_runs.proofs.StandLemmas.{every_same, log_part, master_part, page_part}
-use Rattle.disk_slots.specs.declared.master.Master.{Master}
+use Rattle.disk_runs.specs.disk_slots.declared.master.Master.{Master}
 use Rattle.lean_disk.proofs.MomentLemmas.{reads_none, weaker}
 use Rattle.lean_disk.specs.Moments.{AsAt, LeavesOnly, OnlyReads}
 use Rattle.lean_disk.specs.Story.{Crash, IsLawful, Story}
 use Rattle.page_calls.specs.Calls.{IsOn}
 use Rattle.page_calls.specs.declared.slots.Slot.{Slot}
-use Rattle.row_words.specs.declared.event.Event.{Event}
-use Rattle.row_words.specs.Moments.{events_of}
+use Rattle.rows_trait.specs.row_words.declared.event.Event.{Event}
+use Rattle.rows_trait.specs.row_words.Moments.{events_of}
 use Rattle.row_opening.specs.Openings.{EveryNeed, EveryReached}
 use Rattle.rows_trait.specs.declared.view.View.{View}
-use Rattle.worker_log.specs.Laws.{EveryKept, EveryPrefix}
-use Rattle.worker_log.specs.Logs.{Log}
+use Rattle.disk_runs.specs.worker_log.Laws.{EveryKept, EveryPrefix}
+use Rattle.disk_runs.specs.worker_log.Logs.{Log}
 use Rattle.engine_calls.specs.Moves.{Moved}
 use Rattle.engine_calls.specs.Parts.{behind_first}
 use Rattle.engine_calls.proofs.PartLemmas.{quiet_all}

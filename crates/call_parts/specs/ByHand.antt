@@ -1,8 +1,8 @@
 -- A part of a call by hand: what a get does where its pages are hot.
 use Rattle.std.specs.Prelude.{ℕ, [], ◌∷◌, Option}
 use Rattle.lean_disk.specs.Story.{Story}
-use Rattle.row_words.specs.declared.event.Event.TheVariants.{Lock, Read}
-use Rattle.row_words.specs.declared.event.Mode.{Mode}
+use Rattle.rows_trait.specs.row_words.declared.event.Event.TheVariants.{Lock, Read}
+use Rattle.rows_trait.specs.row_words.declared.event.Mode.{Mode}
 use Rattle.rows_trait.specs.declared.view.View.{View}
 use Rattle.call_parts.specs.Memory.{Memory}
 use Rattle.call_parts.specs.Parts.{Part}

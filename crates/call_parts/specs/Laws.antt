@@ -3,10 +3,10 @@ use Rattle.std.specs.Prelude.{◌≡◌, ◌≤◌, ◌<◌, ◌++◌, ◌||◌,
 use Rattle.map_model.specs.Lists.{all, any}
 use Rattle.map_model.specs.declared.call.Answer.{Answer}
 use Rattle.map_model.specs.declared.call.Call.{Call}
-use Rattle.core_state.specs.Openings.{Opening}
-use Rattle.core_state.specs.Events as happening
-use Rattle.core_state.specs.Local.{is_sync}
-use Rattle.core_state.specs.Steps.{at_pages}
+use Rattle.rows_trait.specs.core_state.Openings.{Opening}
+use Rattle.rows_trait.specs.core_state.Events as happening
+use Rattle.rows_trait.specs.core_state.Local.{is_sync}
+use Rattle.rows_trait.specs.core_state.Steps.{at_pages}
 use Rattle.core_calls.specs.Deeds.{answered, asked}
 use Rattle.core_calls.specs.Fronts.{Done, outcomes}
 use Rattle.core_calls.specs.Runs.{Tells}
@@ -16,15 +16,15 @@ use Rattle.lean_disk.specs.Moments.{CrashIn, Framed, LeavesOnly, OnlyReads}
 use Rattle.lean_disk.specs.Story.{Story}
 use Rattle.log_calls.specs.Calls.{Anything}
 use Rattle.log_calls.specs.Wholes.{EndsInRecord}
-use Rattle.log_record.specs.declared.record.Record.{Record}
+use Rattle.disk_runs.specs.log_record.declared.record.Record.{Record}
 use Rattle.page_calls.specs.declared.slots.Slot.{Slot}
-use Rattle.row_words.specs.declared.event.Event.{Event}
-use Rattle.row_words.specs.declared.event.Event.TheVariants as told
-use Rattle.row_words.specs.Moments.{events_of}
-use Rattle.row_words.specs.Openings.{opening}
+use Rattle.rows_trait.specs.row_words.declared.event.Event.{Event}
+use Rattle.rows_trait.specs.row_words.declared.event.Event.TheVariants as told
+use Rattle.rows_trait.specs.row_words.Moments.{events_of}
+use Rattle.rows_trait.specs.row_words.Openings.{opening}
 use Rattle.rows_trait.specs.declared.view.View.{View}
 use Rattle.rows_trait.specs.Views.{state}
-use Rattle.worker_log.specs.Logs.{Log}
+use Rattle.disk_runs.specs.worker_log.Logs.{Log}
 use Rattle.engine_calls.specs.Entries.{abort_record, change_record, commit_record}
 use Rattle.engine_trait.specs.Calls as resident
 use Rattle.engine_trait.specs.Calls.{is_half_done}

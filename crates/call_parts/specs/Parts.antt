@@ -1,18 +1,18 @@
 -- A part of a call: it goes on from wherever the call has come to, so that a call is one part behind another.
 use Rattle.std.specs.Prelude.{◌≡◌, ◌≤◌, ◌<◌, ◌++◌, ℕ, Bool, false, List}
 use Rattle.map_model.specs.Lists.{any}
-use Rattle.core_state.specs.Openings.{Opening}
-use Rattle.core_state.specs.Events as happening
-use Rattle.core_state.specs.Local.{is_sync}
-use Rattle.core_state.specs.States.{State}
-use Rattle.core_state.specs.Steps.{AllMet}
+use Rattle.rows_trait.specs.core_state.Openings.{Opening}
+use Rattle.rows_trait.specs.core_state.Events as happening
+use Rattle.rows_trait.specs.core_state.Local.{is_sync}
+use Rattle.rows_trait.specs.core_state.States.{State}
+use Rattle.rows_trait.specs.core_state.Steps.{AllMet}
 use Rattle.core_calls.specs.Fronts.{Done, front}
 use Rattle.disk_runs.specs.Masters.{IsNoEarlier}
 use Rattle.disk_runs.specs.Stands.{Known, Stands}
 use Rattle.lean_disk.specs.Moments.{LeavesOnly}
 use Rattle.lean_disk.specs.Story.{Crash, Story}
-use Rattle.row_words.specs.declared.event.Event.{Event}
-use Rattle.row_words.specs.Moments.{events_of}
+use Rattle.rows_trait.specs.row_words.declared.event.Event.{Event}
+use Rattle.rows_trait.specs.row_words.Moments.{events_of}
 use Rattle.rows_trait.specs.declared.view.View.{View}
 use Rattle.engine_calls.specs.Moves.{Moved}
 use Rattle.engine_calls.specs.Parts.{Passes, behind_first}

@@ -1,12 +1,12 @@
 -- What a step of a call shows, of itself alone, to be a part of the call.
 use Rattle.std.specs.Prelude.{◌≡◌, ◌≤◌, ◌<◌, ◌++◌, ◌==◌, ℕ, Bool, true, false, List, [], ◌∷◌}
 use Rattle.map_model.specs.Lists.{all, any}
-use Rattle.core_state.specs.Openings.{Opening}
-use Rattle.core_state.specs.Events as happening
-use Rattle.core_state.specs.Local.{is_sync}
-use Rattle.core_state.specs.States.{State}
-use Rattle.core_state.specs.Steps.{AllMet, happens}
-use Rattle.disk_image.specs.Records.{entry_of}
+use Rattle.rows_trait.specs.core_state.Openings.{Opening}
+use Rattle.rows_trait.specs.core_state.Events as happening
+use Rattle.rows_trait.specs.core_state.Local.{is_sync}
+use Rattle.rows_trait.specs.core_state.States.{State}
+use Rattle.rows_trait.specs.core_state.Steps.{AllMet, happens}
+use Rattle.disk_runs.specs.disk_image.Records.{entry_of}
 use Rattle.disk_runs.specs.Moments.{LeavesSome}
 use Rattle.core_calls.specs.Fronts.{Done, front}
 use Rattle.disk_runs.specs.Masters.{IsNoEarlier}
@@ -14,14 +14,14 @@ use Rattle.disk_runs.specs.Stands.{Known, Stands}
 use Rattle.lean_disk.specs.Moments.{LeavesOnly}
 use Rattle.lean_disk.specs.Story.{Crash, Story}
 use Rattle.log_calls.specs.Calls.{FlushesOn, StagesOn}
-use Rattle.log_record.specs.declared.record.Record.{Record}
+use Rattle.disk_runs.specs.log_record.declared.record.Record.{Record}
 use Rattle.page_calls.specs.Calls.{IsOn}
 use Rattle.page_calls.specs.declared.slots.Slot.{Slot}
 use Rattle.row_opening.specs.Openings.{Opens}
-use Rattle.row_words.specs.declared.event.Event.{Event}
-use Rattle.row_words.specs.declared.event.Event.TheVariants as told
-use Rattle.row_words.specs.Moments.{event_of, events_of}
-use Rattle.row_words.specs.Openings.{opening}
+use Rattle.rows_trait.specs.row_words.declared.event.Event.{Event}
+use Rattle.rows_trait.specs.row_words.declared.event.Event.TheVariants as told
+use Rattle.rows_trait.specs.row_words.Moments.{event_of, events_of}
+use Rattle.rows_trait.specs.row_words.Openings.{opening}
 use Rattle.rows_trait.specs.declared.view.View.{View}
 use Rattle.rows_trait.specs.Views.{state}
 use Rattle.engine_calls.specs.Moves.{Moved}
@@ -31,8 +31,8 @@ use Rattle.engine_trait.specs.Calls as resident
 use Rattle.engine_trait.specs.Logs.{Logs}
 use Rattle.session_state.specs.Staging.{KeepsLog}
 use Rattle.session_state.specs.Ties.{Behind}
-use Rattle.worker_log.specs.Calls.{After, flushed_log}
-use Rattle.worker_log.specs.Logs.{Log}
+use Rattle.disk_runs.specs.worker_log.Calls.{After, flushed_log}
+use Rattle.disk_runs.specs.worker_log.Logs.{Log}
 use Rattle.call_parts.specs.Areas.{Apart, is_save}
 use Rattle.call_parts.specs.Memory.{Memory}
 

@@ -4,13 +4,14 @@
 //! behind them.
 #![tactic(auto)]
 
-ghost use Rattle.core_disk.specs.Versions.{EveryVersion};
-ghost use Rattle.disk_image.specs.Laws.{EverySealed};
+ghost use Rattle.disk_runs.specs.core_disk.Versions.{EveryVersion};
+ghost use Rattle.disk_runs.specs.disk_image.Laws.{EverySealed};
 ghost use Rattle.row_opening.specs.Openings.{EveryNeed, EveryReached};
-ghost use Rattle.worker_log.specs.Laws.{EveryKept, EveryPrefix};
+ghost use Rattle.disk_runs.specs.worker_log.Laws.{EveryKept, EveryPrefix};
 ghost use Rattle.call_parts.specs.ByHand.{Worked};
 ghost use Rattle.call_parts.specs.Laws.{EveryArea, EveryEnd, EveryEnter, EveryJoin, EveryMemory, EveryOwn, EverySight, EveryStep, EveryStill};
 
+use disk_runs::{core_disk, disk_image, worker_log};
 use lean_disk::Disk;
 
 /// The laws of versions, logs, seals and openings, on which those below stand.

@@ -1,23 +1,23 @@
 -- A cut in a run.
 use Rattle.std.proofs.Common.{◌≡◌, ◌≤◌, ◌<◌, ◌+◌, ◌-◌, ◌^◌, ℕ, zero, suc, List, [], ◌∷◌, length, slice_index, Option, refl, sym, ap, ◌∙◌, subst, arith}
-use Rattle.image_model.specs.Fair.{piece}
-use Rattle.core_state.specs.Openings.{Opening}
-use Rattle.core_state.specs.States.{flushed_by_all}
-use Rattle.core_state.specs.Events.{Event}
-use Rattle.core_state.specs.Steps.{state_after}
-use Rattle.core_disk.specs.Versions.{EveryVersion}
-use Rattle.disk_image.specs.Laws.{EverySealed}
-use Rattle.disk_image.specs.Shown.{head_of}
-use Rattle.disk_slots.specs.Masters.{IsMaster}
-use Rattle.disk_slots.specs.declared.master.Master.{Master}
+use Rattle.disk_runs.specs.image_model.Fair.{piece}
+use Rattle.disk_runs.specs.core_state.Openings.{Opening}
+use Rattle.disk_runs.specs.core_state.States.{flushed_by_all}
+use Rattle.disk_runs.specs.core_state.Events.{Event}
+use Rattle.disk_runs.specs.core_state.Steps.{state_after}
+use Rattle.disk_runs.specs.core_disk.Versions.{EveryVersion}
+use Rattle.disk_runs.specs.disk_image.Laws.{EverySealed}
+use Rattle.disk_runs.specs.disk_image.Shown.{head_of}
+use Rattle.disk_runs.specs.disk_slots.Masters.{IsMaster}
+use Rattle.disk_runs.specs.disk_slots.declared.master.Master.{Master}
 use Rattle.lean_disk.specs.Moments.{CrashIn, LeavesOnly}
 use Rattle.lean_disk.specs.Story.{Crash, IsLawful, Story}
 use Rattle.lean_disk.proofs.MomentLemmas.{started, weaker}
-use Rattle.worker_log.specs.Calls.{cut_log}
-use Rattle.worker_log.specs.Laws.{EveryKept, EveryPassed, EveryPrefix}
-use Rattle.worker_log.specs.Logs.{Log, passed_by}
-use Rattle.worker_log.specs.Kept.{ends_of}
-use Rattle.log_record.specs.declared.record.Record.{Record}
+use Rattle.disk_runs.specs.worker_log.Calls.{cut_log}
+use Rattle.disk_runs.specs.worker_log.Laws.{EveryKept, EveryPassed, EveryPrefix}
+use Rattle.disk_runs.specs.worker_log.Logs.{Log, passed_by}
+use Rattle.disk_runs.specs.worker_log.Kept.{ends_of}
+use Rattle.disk_runs.specs.log_record.declared.record.Record.{Record}
 use Rattle.log_calls.specs.Calls.{Anything}
 use Rattle.log_calls.specs.Cuts.{CutsOn}
 use Rattle.log_calls.specs.Cuts as master_cuts

@@ -3,18 +3,18 @@ use Rattle.std.proofs.Common.{◌≡◌, ◌⊎◌, ⊎_elim, ◌≤◌, ◌<◌
 use Rattle.std.proofs.lemmas.Bool.{and_from, and_parts, cond-true, ltb-true}
 use Rattle.std.proofs.lemmas.List.{append-nil}
 use Rattle.map_model.specs.Lists.{all, upd}
-use Rattle.image_model.specs.Entries.{Contents}
+use Rattle.disk_runs.specs.image_model.Entries.{Contents}
 use Rattle.map_model.proofs.ListLemmas.{upd_same}
-use Rattle.core_commit.proofs.Copies.{at_place}
-use Rattle.core_state.specs.Openings.{Opening}
-use Rattle.core_state.specs.States.{Place, State, flushed_by_all, in_frame, start}
-use Rattle.core_state.specs.Events.{Event}
-use Rattle.core_state.specs.Needs.{is_dirty, may}
-use Rattle.core_state.specs.Steps.{AllMet, happens, run, state_after, step}
-use Rattle.core_state.proofs.Runs.{run_more}
-use Rattle.core_paging.specs.Paging.{EveryResidence}
-use Rattle.disk_image.specs.Laws.{EverySealed}
-use Rattle.worker_log.specs.Laws.{EveryKept, EveryPrefix}
+use Rattle.disk_runs.proofs.core_commit_lemmas.Copies.{at_place}
+use Rattle.disk_runs.specs.core_state.Openings.{Opening}
+use Rattle.disk_runs.specs.core_state.States.{Place, State, flushed_by_all, in_frame, start}
+use Rattle.disk_runs.specs.core_state.Events.{Event}
+use Rattle.disk_runs.specs.core_state.Needs.{is_dirty, may}
+use Rattle.disk_runs.specs.core_state.Steps.{AllMet, happens, run, state_after, step}
+use Rattle.disk_runs.proofs.core_state_lemmas.Runs.{run_more}
+use Rattle.disk_runs.specs.core_paging.Paging.{EveryResidence}
+use Rattle.disk_runs.specs.disk_image.Laws.{EverySealed}
+use Rattle.disk_runs.specs.worker_log.Laws.{EveryKept, EveryPrefix}
 use Rattle.lean_disk.specs.Moments.{Framed, LeavesOnly}
 use Rattle.lean_disk.specs.Story.{IsLawful, Story}
 use Rattle.lean_disk.proofs.MomentLemmas as moments

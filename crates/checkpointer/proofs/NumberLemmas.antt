@@ -1,9 +1,9 @@
 -- The number of a cut.
 use Rattle.std.proofs.Common.{◌≡◌, ⊎_elim, ◌≤◌, ◌<◌, ◌+◌, ℕ, min, List, Option, ap, arith}
 use Rattle.std.proofs.lemmas.Bool.{cases_lt}
-use Rattle.core_state.specs.Openings.{Opening}
-use Rattle.core_state.specs.States.{State}
-use Rattle.core_state.specs.Steps.{state_after}
+use Rattle.disk_runs.specs.core_state.Openings.{Opening}
+use Rattle.disk_runs.specs.core_state.States.{State}
+use Rattle.disk_runs.specs.core_state.Steps.{state_after}
 use Rattle.core_covers.specs.Cuts.{EveryCutMet, EveryCutNumber}
 use Rattle.core_covers.specs.Firsts.{IsBelowFirsts}
 use Rattle.page_model.specs.Nodes.{Format}

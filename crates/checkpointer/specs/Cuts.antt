@@ -1,15 +1,15 @@
 -- A cut of all logs.
 use Rattle.std.specs.Prelude.{◌≡◌, ◌<◌, ◌≤◌, ◌+◌, ◌^◌, ◌++◌, ◌∷◌, [], ℕ, List, length}
-use Rattle.core_state.specs.Openings.{Opening}
-use Rattle.core_state.specs.States.{flushed_by_all}
-use Rattle.core_state.specs.Events.{Event}
-use Rattle.core_state.specs.Steps.{state_after}
-use Rattle.disk_image.specs.Shown.{head_of}
-use Rattle.disk_slots.specs.declared.master.Master.{Master}
+use Rattle.disk_runs.specs.core_state.Openings.{Opening}
+use Rattle.disk_runs.specs.core_state.States.{flushed_by_all}
+use Rattle.disk_runs.specs.core_state.Events.{Event}
+use Rattle.disk_runs.specs.core_state.Steps.{state_after}
+use Rattle.disk_runs.specs.disk_image.Shown.{head_of}
+use Rattle.disk_runs.specs.disk_slots.declared.master.Master.{Master}
 use Rattle.lean_disk.specs.Moments.{LeavesOnly}
 use Rattle.lean_disk.specs.Story.{Crash, Story}
-use Rattle.worker_log.specs.Calls.{cut_log}
-use Rattle.worker_log.specs.Logs.{Log, passed_by}
+use Rattle.disk_runs.specs.worker_log.Calls.{cut_log}
+use Rattle.disk_runs.specs.worker_log.Logs.{Log, passed_by}
 use Rattle.disk_runs.specs.Masters.{IsNoEarlier}
 use Rattle.disk_runs.specs.Moments.{LeavesSome}
 use Rattle.disk_runs.specs.Rings.{MayCut, heads_of}

@@ -1,10 +1,10 @@
 -- An increment: the dirty pages of one shard are saved, and the pages are synced.
 use Rattle.std.specs.Prelude.{◌≡◌, ◌<◌, ◌++◌, ℕ, Bool, true, false, List}
 use Rattle.map_model.specs.Lists.{all, upd}
-use Rattle.core_state.specs.Openings.{Opening}
-use Rattle.core_state.specs.States.{State}
-use Rattle.core_state.specs.Events.{Event}
-use Rattle.core_state.specs.Steps.{AllMet, state_after}
+use Rattle.disk_runs.specs.core_state.Openings.{Opening}
+use Rattle.disk_runs.specs.core_state.States.{State}
+use Rattle.disk_runs.specs.core_state.Events.{Event}
+use Rattle.disk_runs.specs.core_state.Steps.{AllMet, state_after}
 use Rattle.lean_disk.specs.Moments.{LeavesOnly}
 use Rattle.lean_disk.specs.Story.{Crash, Story}
 use Rattle.disk_runs.specs.Moments.{LeavesSome}

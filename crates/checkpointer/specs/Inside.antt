@@ -1,15 +1,15 @@
 -- Words of private functions: how an increment goes from frame to frame.
 use Rattle.std.specs.Prelude.{◌≡◌, ◌<◌, ◌≤◌, ◌+◌, ◌++◌, ℕ, true, List, length, slice_index, Option, Some, None}
-use Rattle.core_state.specs.Openings.{Opening}
-use Rattle.core_state.specs.States.{State, in_frame}
-use Rattle.core_state.specs.Events.{Event}
-use Rattle.core_state.specs.Needs.{is_dirty}
-use Rattle.core_state.specs.Steps.{AllMet, state_after}
+use Rattle.disk_runs.specs.core_state.Openings.{Opening}
+use Rattle.disk_runs.specs.core_state.States.{State, in_frame}
+use Rattle.disk_runs.specs.core_state.Events.{Event}
+use Rattle.disk_runs.specs.core_state.Needs.{is_dirty}
+use Rattle.disk_runs.specs.core_state.Steps.{AllMet, state_after}
 use Rattle.lean_disk.specs.Moments.{Framed}
 use Rattle.lean_disk.specs.Story.{Story}
-use Rattle.disk_slots.specs.declared.master.Master.{Master}
-use Rattle.worker_log.specs.Calls.{cut_log}
-use Rattle.worker_log.specs.Logs.{Log, passed_by}
+use Rattle.disk_runs.specs.disk_slots.declared.master.Master.{Master}
+use Rattle.disk_runs.specs.worker_log.Calls.{cut_log}
+use Rattle.disk_runs.specs.worker_log.Logs.{Log, passed_by}
 use Rattle.disk_runs.specs.Stands.{Known}
 use Rattle.core_covers.specs.Covers.{shard_of}
 use Rattle.checkpointer.specs.Increments.{AreSaves, IsAbove, KeepsSome}

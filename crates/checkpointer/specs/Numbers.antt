@@ -1,9 +1,9 @@
 -- The number of a cut, as it is found.
 use Rattle.std.specs.Prelude.{◌≡◌, ◌<◌, ◌≤◌, ℕ, List, Option, Some, slice_index}
-use Rattle.core_state.specs.Openings.{Opening}
-use Rattle.core_state.specs.States.{State, flushed_by_all}
-use Rattle.core_state.specs.Events.{Event}
-use Rattle.core_state.specs.Steps.{state_after}
+use Rattle.disk_runs.specs.core_state.Openings.{Opening}
+use Rattle.disk_runs.specs.core_state.States.{State, flushed_by_all}
+use Rattle.disk_runs.specs.core_state.Events.{Event}
+use Rattle.disk_runs.specs.core_state.Steps.{state_after}
 use Rattle.core_covers.specs.Covers.{AreCovers, IsCovered}
 use Rattle.core_covers.specs.Cuts.{IsCutAt, MayCutAt}
 use Rattle.core_covers.specs.Firsts.{first_of}

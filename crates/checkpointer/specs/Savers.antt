@@ -1,13 +1,13 @@
 -- Who saves the pages that stand in frames: what its calls say, in the words of a run over a disk.
 use Rattle.std.specs.Prelude.{◌≡◌, ◌≤◌, ◌++◌, ◌∷◌, [], ℕ, true, List, Option, Some, None}
-use Rattle.core_state.specs.Openings.{Opening}
-use Rattle.core_state.specs.States.{State, flushed_by_all, in_frame}
-use Rattle.core_state.specs.Events.{Event}
-use Rattle.core_state.specs.Needs.{is_dirty, may}
-use Rattle.core_state.specs.Steps.{state_after}
+use Rattle.disk_runs.specs.core_state.Openings.{Opening}
+use Rattle.disk_runs.specs.core_state.States.{State, flushed_by_all, in_frame}
+use Rattle.disk_runs.specs.core_state.Events.{Event}
+use Rattle.disk_runs.specs.core_state.Needs.{is_dirty, may}
+use Rattle.disk_runs.specs.core_state.Steps.{state_after}
 use Rattle.lean_disk.specs.Moments.{LeavesOnly}
 use Rattle.lean_disk.specs.Story.{Crash, Story}
-use Rattle.page_store.specs.Bases.{image_page}
+use Rattle.disk_runs.specs.page_store.Bases.{image_page}
 use Rattle.disk_runs.specs.Stands.{Known, LeavesRun, Stands}
 use Rattle.core_covers.specs.Covers.{IsSettled}
 use Rattle.checkpointer.specs.declared.saver.Dirty.{Dirty}

@@ -5,17 +5,18 @@ ghost use Rattle.lean_disk.specs.Faults.{HasCause};
 ghost use Rattle.lean_disk.specs.Moments.{CrashIn, Framed, LeavesOnly};
 ghost use Rattle.log_calls.specs.Calls.{Anything};
 ghost use Rattle.log_calls.specs.Cuts.{CutsOn, KeepsCut as KeepsMaster};
-ghost use Rattle.worker_log.specs.Logs.{passed_by};
+ghost use Rattle.disk_runs.specs.worker_log.Logs.{passed_by};
 ghost use Rattle.checkpointer.specs.Cuts.{ArePassed, AreRings, CutGoes, KeepsCut};
 ghost use Rattle.checkpointer.specs.Inside.{AreHeads, AreSame, next_cut};
 ghost use Rattle.checkpointer.specs.Numbers.{IsNumber};
 
 use crate::number::cut_number;
 use crate::rings::Rings;
-use disk_slots::{Heads, Master};
+use disk_runs::disk_slots::{Heads, Master};
+use disk_runs::worker_log::DiskFault;
+use disk_runs::{core_disk, disk_image, worker_log};
 use lean_disk::{Did, Disk};
 use log_calls::cut_master;
-use worker_log::DiskFault;
 
 // The heads behind the blocks that have no record above the number.
 fn next_heads<L: Rings>(rings: &L, number: u64) -> Heads

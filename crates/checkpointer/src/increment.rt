@@ -1,16 +1,17 @@
 //! One increment: the dirty pages of a shard of frames are saved, and the pages are synced.
 ghost use Rattle.std.specs.Prelude.{◌≡◌, ◌<◌, ◌≤◌, ◌↔◌, Err, IsErr, IsErrAnd, IfErr, OnOk};
 ghost use Rattle.disk_runs.specs.Stands.{Known};
-ghost use Rattle.core_state.specs.States.{flushed_by_all};
-ghost use Rattle.core_state.specs.Steps.{state_after};
+ghost use Rattle.disk_runs.specs.core_state.States.{flushed_by_all};
+ghost use Rattle.disk_runs.specs.core_state.Steps.{state_after};
 ghost use Rattle.lean_disk.specs.Faults.{HasCause};
 ghost use Rattle.lean_disk.specs.Moments.{Framed};
 ghost use Rattle.checkpointer.specs.Inside.{Above, AreLow, Going, Looked};
 ghost use Rattle.checkpointer.specs.Increments.{IncrementFails, Increments, IsAgain, IsSomeAbove, TellsAgain};
 
 use crate::saver::{Dirty, Saver};
+use disk_runs::worker_log::DiskFault;
+use disk_runs::{core_disk, core_paging, disk_image, worker_log};
 use lean_disk::Disk;
-use worker_log::DiskFault;
 
 /// How many shards there are; a frame is of the shard of its number modulo this.
 pub const SHARDS: u32 = 8;

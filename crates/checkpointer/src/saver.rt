@@ -1,15 +1,15 @@
 //! Who saves the pages that stand in frames.
 ghost use Rattle.std.specs.Prelude.{◌≡◌, ◌<◌, ◌≤◌, ℕ, List, IsErr, OnOk};
-ghost use Rattle.core_state.specs.Events.{Event};
-ghost use Rattle.core_state.specs.Openings.{Opening};
-ghost use Rattle.core_state.specs.Steps.{state_after};
+ghost use Rattle.disk_runs.specs.core_state.Events.{Event};
+ghost use Rattle.disk_runs.specs.core_state.Openings.{Opening};
+ghost use Rattle.disk_runs.specs.core_state.Steps.{state_after};
 ghost use Rattle.disk_runs.specs.Stands.{Known};
 ghost use Rattle.lean_disk.specs.Faults.{HasCause};
 ghost use Rattle.lean_disk.specs.Moments.{Framed};
 ghost use Rattle.checkpointer.specs.Savers.{IsFound, KeepsRun, MaySave, Saves, Settles};
 
+use disk_runs::worker_log::DiskFault;
 use lean_disk::Disk;
-use worker_log::DiskFault;
 
 /// A page that is not on the disk as it stands in its frame, and its number.
 #[derive(Clone, Copy, Debug, PartialEq, Eq)]

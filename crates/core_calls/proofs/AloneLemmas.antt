@@ -7,21 +7,21 @@ use Rattle.map_model.specs.Journals.{Name}
 use Rattle.map_model.specs.Lists.{Has}
 use Rattle.map_model.specs.Pairings.{is_last}
 use Rattle.map_model.proofs.ListLemmas.{has_left}
-use Rattle.image_model.specs.Entries.{Entry, is_commit, touches, written}
-use Rattle.image_model.specs.Ends.{name_of}
+use Rattle.core_crash.specs.image_model.Entries.{Entry, is_commit, touches, written}
+use Rattle.core_crash.specs.image_model.Ends.{name_of}
 use Rattle.rfa_model.specs.Stamps.{is_remote, need_of}
-use Rattle.core_state.specs.Openings.{Opening}
-use Rattle.core_state.specs.States.{State, start, flushed_by_all}
-use Rattle.core_state.specs.Events.{Event}
-use Rattle.core_state.specs.Needs.{pages_of, are_hot, needs, may}
-use Rattle.core_state.specs.Steps.{happens, step, run}
-use Rattle.core_state.proofs.Runs.{run_more}
-use Rattle.core_commit.specs.Debts.{Stamp, stamps_of, touched, Touched, EveryNeed}
-use Rattle.core_commit.specs.Holders.{EveryHolder}
-use Rattle.core_commit.specs.Rises.{EveryRise}
-use Rattle.core_commit.specs.Floors.{EveryFloor}
-use Rattle.core_commit.proofs.History.{IsRecorded, page_at}
-use Rattle.core_commit.proofs.Runs.{good_run, good_start}
+use Rattle.core_crash.specs.core_state.Openings.{Opening}
+use Rattle.core_crash.specs.core_state.States.{State, start, flushed_by_all}
+use Rattle.core_crash.specs.core_state.Events.{Event}
+use Rattle.core_crash.specs.core_state.Needs.{pages_of, are_hot, needs, may}
+use Rattle.core_crash.specs.core_state.Steps.{happens, step, run}
+use Rattle.core_crash.proofs.core_state_lemmas.Runs.{run_more}
+use Rattle.core_crash.specs.core_commit.Debts.{Stamp, stamps_of, touched, Touched, EveryNeed}
+use Rattle.core_crash.specs.core_commit.Holders.{EveryHolder}
+use Rattle.core_crash.specs.core_commit.Rises.{EveryRise}
+use Rattle.core_crash.specs.core_commit.Floors.{EveryFloor}
+use Rattle.core_crash.proofs.core_commit_lemmas.History.{IsRecorded, page_at}
+use Rattle.core_crash.proofs.core_commit_lemmas.Runs.{good_run, good_start}
 use Rattle.core_crash.proofs.Ends.{one_end}
 use Rattle.core_crash.proofs.Journal.{commit_is_end}
 use Rattle.core_calls.specs.Marks.{Mark, Ended, back_in, mark, marks}

@@ -1,7 +1,7 @@
 -- The scripts by hand, computed.
 use Rattle.std.proofs.Common.{◌^◌, ◌-◌, ℕ, true, false, List, [], ◌∷◌, Some, None, refl, sym, inl, inr, arith, true≢false}
-use Rattle.core_state.specs.Events.{Event, Mode}
-use Rattle.core_state.specs.Steps.{state_after}
+use Rattle.core_crash.specs.core_state.Events.{Event, Mode}
+use Rattle.core_crash.specs.core_state.Steps.{state_after}
 use Rattle.core_crash.proofs.ByHand.{opening}
 use Rattle.map_model.specs.declared.call.Call.TheVariants as call
 use Rattle.map_model.specs.declared.call.Refusal.TheVariants as refusal

@@ -8,19 +8,19 @@ use Rattle.map_model.specs.Lists.{Has, keep}
 use Rattle.map_model.specs.Journals.{Name}
 use Rattle.map_model.specs.Pairings.{is_last}
 use Rattle.page_model.specs.Nodes.{Format}
-use Rattle.image_model.specs.Entries.{Kind, Entry, is_commit, is_end}
-use Rattle.image_model.specs.Ends.{name_of}
-use Rattle.core_state.specs.Openings.{Opening}
-use Rattle.core_state.specs.States.{State, start, flushed_by_all}
-use Rattle.core_state.specs.Events.{Event}
-use Rattle.core_state.specs.Local.{is_of}
-use Rattle.core_state.specs.Needs.{pages_of, are_hot, needs, may}
-use Rattle.core_state.specs.Steps.{happens, run, AllMet, state_after}
-use Rattle.core_state.proofs.Runs.{run_more, met_more}
-use Rattle.core_commit.specs.Rises.{EveryRise}
-use Rattle.core_commit.proofs.History.{IsRecorded}
-use Rattle.core_commit.proofs.Invariants.{Inv}
-use Rattle.core_commit.proofs.Runs.{Good, good_event, good_start}
+use Rattle.core_crash.specs.image_model.Entries.{Kind, Entry, is_commit, is_end}
+use Rattle.core_crash.specs.image_model.Ends.{name_of}
+use Rattle.core_crash.specs.core_state.Openings.{Opening}
+use Rattle.core_crash.specs.core_state.States.{State, start, flushed_by_all}
+use Rattle.core_crash.specs.core_state.Events.{Event}
+use Rattle.core_crash.specs.core_state.Local.{is_of}
+use Rattle.core_crash.specs.core_state.Needs.{pages_of, are_hot, needs, may}
+use Rattle.core_crash.specs.core_state.Steps.{happens, run, AllMet, state_after}
+use Rattle.core_crash.proofs.core_state_lemmas.Runs.{run_more, met_more}
+use Rattle.core_crash.specs.core_commit.Rises.{EveryRise}
+use Rattle.core_crash.proofs.core_commit_lemmas.History.{IsRecorded}
+use Rattle.core_crash.proofs.core_commit_lemmas.Invariants.{Inv}
+use Rattle.core_crash.proofs.core_commit_lemmas.Runs.{Good, good_event, good_start}
 use Rattle.core_crash.proofs.Ends.{one_end}
 use Rattle.core_calls.specs.Marks.{Mark, Ended, mark, onto, marks}
 use Rattle.core_calls.specs.Deeds.{Deed, Committed, Synced, Unsaid, answered, reads_of, marks_of, marks_for, marks_by}
@@ -80,7 +80,7 @@ rests_event g s e w ms inv (None_new q) h n k =
 rests_event g s e w ms inv (Begin_new q) h n k = elim (cases_eq w q.worker) [
   | inl i ↦ absurd (true≢false (sym k ∙ ap (λ (l : List Mark). ended_last l n) (cond-true (is_of e w) (onto (mark g s e) ms) ms (q.by w ∙ eq-eqb q.worker w (sym i)) ∙ ap (λ (o : Option Mark). onto o ms) q.mark)))
   | inr i ↦ (let r = h n (sym (ap (λ (l : List Mark). ended_last l n) (cond-false (is_of e w) (onto (mark g s e) ms) ms (q.by w ∙ ne_eqb q.worker w (λ j. i (sym j))))) ∙ k) in
-      record { closed = ap (λ (a : Rattle.core_state.specs.States.Worker). a.is_open) (q.others w i) ∙ r.closed; last = λ x j. r.last x (subst (λ (l : List Entry). Has x l) q.entries j) })
+      record { closed = ap (λ (a : Rattle.core_crash.specs.core_state.States.Worker). a.is_open) (q.others w i) ∙ r.closed; last = λ x j. r.last x (subst (λ (l : List Entry). Has x l) q.entries j) })
 ]
 rests_event g s e w ms inv (One_new q) h n k = elim (cases_eq w q.worker) [ inl i ↦ own i | inr i ↦ other i ]
   where

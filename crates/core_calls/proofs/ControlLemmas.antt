@@ -7,12 +7,12 @@ use Rattle.map_model.specs.Maps.{Map, MapCall, MapAnswer}
 use Rattle.map_model.specs.Histories.{Step, first_of, write_or, last_write}
 use Rattle.map_model.specs.Journals.{Name, Txn, Journal, journal_of, after, Gives, Serial}
 use Rattle.map_model.specs.Transcripts.{Line, lines_in, steps_of, told, txn_of, journal, is_bound}
-use Rattle.image_model.specs.Entries.{Entry, is_commit}
-use Rattle.image_model.specs.Ends.{name_of}
-use Rattle.core_state.specs.Openings.{Opening, first_map}
-use Rattle.core_state.specs.States.{start, flushed_by_all}
-use Rattle.core_state.specs.Events.{Event}
-use Rattle.core_state.specs.Steps.{run}
+use Rattle.core_crash.specs.image_model.Entries.{Entry, is_commit}
+use Rattle.core_crash.specs.image_model.Ends.{name_of}
+use Rattle.core_crash.specs.core_state.Openings.{Opening, first_map}
+use Rattle.core_crash.specs.core_state.States.{start, flushed_by_all}
+use Rattle.core_crash.specs.core_state.Events.{Event}
+use Rattle.core_crash.specs.core_state.Steps.{run}
 use Rattle.core_crash.proofs.Ends.{one_end}
 use Rattle.map_model.proofs.ListLemmas.{has_order}
 use Rattle.core_calls.specs.Marks.{Mark, Began, Called, Ended}

@@ -3,17 +3,17 @@ use Rattle.std.proofs.Common.{◌≡◌, ◌<◌, ℕ, suc, Bool, true, false, c
 use Rattle.std.proofs.lemmas.Bool.{cases_Bool, cases_eq, eq-eqb, ne_eqb, and_parts, cond-true, cond-false}
 use Rattle.map_model.specs.Maps.{MapCall, MapAnswer}
 use Rattle.page_model.specs.Nodes.{Format}
-use Rattle.image_model.specs.Entries.{Kind, Entry, is_end}
-use Rattle.image_model.specs.Histories.{said, write_call}
-use Rattle.core_state.specs.Openings.{Opening}
-use Rattle.core_state.specs.States.{State, Worker, start}
-use Rattle.core_state.specs.Events.{Event}
-use Rattle.core_state.specs.Local.{is_of}
-use Rattle.core_state.specs.Needs.{pages_of, are_hot, needs, may}
-use Rattle.core_state.specs.Steps.{happens, run}
-use Rattle.core_commit.proofs.Invariants.{Inv}
-use Rattle.core_commit.proofs.Runs.{Good, good_event, good_start}
-use Rattle.core_commit.proofs.Says.{said_live, said_dead}
+use Rattle.core_crash.specs.image_model.Entries.{Kind, Entry, is_end}
+use Rattle.core_crash.specs.image_model.Histories.{said, write_call}
+use Rattle.core_crash.specs.core_state.Openings.{Opening}
+use Rattle.core_crash.specs.core_state.States.{State, Worker, start}
+use Rattle.core_crash.specs.core_state.Events.{Event}
+use Rattle.core_crash.specs.core_state.Local.{is_of}
+use Rattle.core_crash.specs.core_state.Needs.{pages_of, are_hot, needs, may}
+use Rattle.core_crash.specs.core_state.Steps.{happens, run}
+use Rattle.core_crash.proofs.core_commit_lemmas.Invariants.{Inv}
+use Rattle.core_crash.proofs.core_commit_lemmas.Runs.{Good, good_event, good_start}
+use Rattle.core_crash.proofs.core_commit_lemmas.Says.{said_live, said_dead}
 use Rattle.core_calls.specs.Marks.{Mark, Began, Called, Back, Ended, mark, onto, marks}
 use Rattle.core_calls.specs.Deeds.{marks_by}
 use Rattle.core_calls.specs.Counts.{begun_in, IsAbove, Undo, undo_onto, without_first, undo_in, value_call, UndoesNewest, AreOrdered, EveryOrdered}

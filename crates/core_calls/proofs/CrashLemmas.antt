@@ -6,13 +6,13 @@ use Rattle.map_model.specs.Lists.{Has}
 use Rattle.map_model.specs.Journals.{Txn, Journal, journal_of, is_earlier, Serial}
 use Rattle.map_model.specs.Laws.{IsFalling}
 use Rattle.map_model.specs.Transcripts.{Line, told, told_onto, txn_of, lines_in, journal}
-use Rattle.image_model.specs.Entries.{Entry, Contents}
-use Rattle.image_model.specs.Ends.{is_kept}
-use Rattle.image_model.specs.Images.{Image, found}
-use Rattle.core_state.specs.Openings.{Opening, first_map}
-use Rattle.core_state.specs.States.{start}
-use Rattle.core_state.specs.Events.{Event}
-use Rattle.core_state.specs.Steps.{run, state_after}
+use Rattle.core_crash.specs.image_model.Entries.{Entry, Contents}
+use Rattle.core_crash.specs.image_model.Ends.{is_kept}
+use Rattle.core_crash.specs.image_model.Images.{Image, found}
+use Rattle.core_crash.specs.core_state.Openings.{Opening, first_map}
+use Rattle.core_crash.specs.core_state.States.{start}
+use Rattle.core_crash.specs.core_state.Events.{Event}
+use Rattle.core_crash.specs.core_state.Steps.{run, state_after}
 use Rattle.core_crash.specs.Crashes.{Leaves, image_of, journal_in}
 use Rattle.map_model.proofs.ListLemmas.{order_has, has_order}
 use Rattle.core_calls.specs.Marks.{Mark, marks}

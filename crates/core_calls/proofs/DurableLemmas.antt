@@ -6,24 +6,24 @@ use Rattle.std.proofs.lemmas.Bool.{cases_Bool, eq-eqb, eqb-true, leb-true, le-le
 use Rattle.map_model.specs.Lists.{Has, keep, in_order, insert_by}
 use Rattle.map_model.specs.Journals.{Name, Txn, Journal}
 use Rattle.map_model.specs.Transcripts.{journal}
-use Rattle.image_model.specs.Entries.{Entry, Contents, is_commit, earlier}
-use Rattle.image_model.specs.Ends.{name_of, names_of, is_kept}
-use Rattle.image_model.specs.Images.{Image}
-use Rattle.image_model.specs.Histories as histories
-use Rattle.core_state.specs.Lists.{most}
-use Rattle.core_state.specs.Openings.{Opening}
-use Rattle.core_state.specs.States.{State, start, flushed_by_all}
-use Rattle.core_state.specs.Events.{Event}
-use Rattle.core_state.specs.Needs.{pages_of, are_hot, is_behind, needs, may}
-use Rattle.core_state.specs.Steps.{happens, synced, step, run}
-use Rattle.core_state.proofs.Runs.{run_more}
-use Rattle.core_commit.specs.Rises.{EveryRise}
+use Rattle.core_crash.specs.image_model.Entries.{Entry, Contents, is_commit, earlier}
+use Rattle.core_crash.specs.image_model.Ends.{name_of, names_of, is_kept}
+use Rattle.core_crash.specs.image_model.Images.{Image}
+use Rattle.core_crash.specs.image_model.Histories as histories
+use Rattle.core_crash.specs.core_state.Lists.{most}
+use Rattle.core_crash.specs.core_state.Openings.{Opening}
+use Rattle.core_crash.specs.core_state.States.{State, start, flushed_by_all}
+use Rattle.core_crash.specs.core_state.Events.{Event}
+use Rattle.core_crash.specs.core_state.Needs.{pages_of, are_hot, is_behind, needs, may}
+use Rattle.core_crash.specs.core_state.Steps.{happens, synced, step, run}
+use Rattle.core_crash.proofs.core_state_lemmas.Runs.{run_more}
+use Rattle.core_crash.specs.core_commit.Rises.{EveryRise}
 use Rattle.map_model.proofs.ListLemmas.{any_has, has_any, insert_has, order_has, has_order, has_keep, keep_has, has_cases, has_left, has_right}
-use Rattle.core_commit.proofs.Lists.{Before, has_before, each_at, le_least}
-use Rattle.core_commit.proofs.Controls.{le_most}
-use Rattle.core_commit.proofs.History.{Recorded, IsRecorded}
-use Rattle.core_commit.proofs.Invariants.{Inv}
-use Rattle.core_commit.proofs.Runs.{good_run, good_start}
+use Rattle.core_crash.proofs.core_commit_lemmas.Lists.{Before, has_before, each_at, le_least}
+use Rattle.core_crash.proofs.core_commit_lemmas.Controls.{le_most}
+use Rattle.core_crash.proofs.core_commit_lemmas.History.{Recorded, IsRecorded}
+use Rattle.core_crash.proofs.core_commit_lemmas.Invariants.{Inv}
+use Rattle.core_crash.proofs.core_commit_lemmas.Runs.{good_run, good_start}
 use Rattle.core_crash.specs.Crashes.{Leaves, image_of, journal_in, IsRipe}
 use Rattle.core_calls.specs.Deeds.{Outcome, Answers, transcript}
 use Rattle.core_calls.specs.Told.{SameTxn, ByThen, kept_of, ToldLaws, EveryTold}
@@ -240,7 +240,7 @@ module _ (rises : EveryRise) (g : Opening) where
       whole = record { falls = law.falls; has_told = λ x j. j; has_kept = λ x j k. j; only = λ x j. (j, inl j) }
 
       among : Has t.0 by_then
-      among = b.has_kept t.0 t.1 (keep_has (is_kept (image_of g (past ms later) logs page).logs (image_of g (past ms later) logs page).floor (Rattle.image_model.specs.Images.found (image_of g (past ms later) logs page))) (journal (transcript xs)) t.0
+      among = b.has_kept t.0 t.1 (keep_has (is_kept (image_of g (past ms later) logs page).logs (image_of g (past ms later) logs page).floor (Rattle.core_crash.specs.image_model.Images.found (image_of g (past ms later) logs page))) (journal (transcript xs)) t.0
           ((law.crash f logs page c (journal (transcript xs)) (journal (transcript xs)) whole).ripe t.0 t.1 is)).1
 
       kept : Has t.0 (kept_of (image_of g (past ms later) logs page) by_then)

@@ -9,16 +9,16 @@ use Rattle.page_model.specs.Nodes.{Format}
 use Rattle.page_model.specs.Records.{Record}
 use Rattle.page_model.specs.Needs as record_needs
 use Rattle.page_model.specs.Redo.{all_keys}
-use Rattle.image_model.specs.Entries.{Kind, Entry, is_end, is_commit, same_txn, word_in, is_record}
-use Rattle.image_model.specs.Histories.{said, write_call}
-use Rattle.core_state.specs.Lists.{is_empty}
-use Rattle.core_state.specs.Openings.{Opening}
-use Rattle.core_state.specs.States.{State, Worker, nodes_of, gsns_of, flushed_by_all}
-use Rattle.core_state.specs.Events.{Event}
-use Rattle.core_state.specs.Local.{is_of}
-use Rattle.core_state.specs.Needs.{is_held_by, holds_row, is_value, is_following, following, holds_answer, is_leaf_of, value_in, may_read, may_put, may_put_back, may_split, may_lift, may_join, may_drop, may_purge, is_settled, needs}
-use Rattle.core_state.specs.Steps.{at_pages, at_row, begun, finished, read_entry, write_entry, end_entry, page_entry, moves, put_back, follows, happens, step, run}
-use Rattle.core_commit.proofs.Says.{said_word}
+use Rattle.core_crash.specs.image_model.Entries.{Kind, Entry, is_end, is_commit, same_txn, word_in, is_record}
+use Rattle.core_crash.specs.image_model.Histories.{said, write_call}
+use Rattle.core_crash.specs.core_state.Lists.{is_empty}
+use Rattle.core_crash.specs.core_state.Openings.{Opening}
+use Rattle.core_crash.specs.core_state.States.{State, Worker, nodes_of, gsns_of, flushed_by_all}
+use Rattle.core_crash.specs.core_state.Events.{Event}
+use Rattle.core_crash.specs.core_state.Local.{is_of}
+use Rattle.core_crash.specs.core_state.Needs.{is_held_by, holds_row, is_value, is_following, following, holds_answer, is_leaf_of, value_in, may_read, may_put, may_put_back, may_split, may_lift, may_join, may_drop, may_purge, is_settled, needs}
+use Rattle.core_crash.specs.core_state.Steps.{at_pages, at_row, begun, finished, read_entry, write_entry, end_entry, page_entry, moves, put_back, follows, happens, step, run}
+use Rattle.core_crash.proofs.core_commit_lemmas.Says.{said_word}
 use Rattle.core_calls.specs.Marks.{Mark, Began, Called, Back, Ended, found_in, back_in, mark, onto}
 
 -- ## What entries say
@@ -213,7 +213,7 @@ read_mark : (g : Opening) (s : State) (w p k : ℕ) → Some (found_in g s w p k
 read_mark g s w p k = ap₂ (λ (v : Option ℕ) (b : Bool). Some (Called (MapCall.Get k) (MapAnswer.Value v) b)) (sym (said_word g.format (find k (s.page p).node.pairs))) (sym (alone_is (is_held_by (s.row (g.row_of k)).holder w)))
 
 -- a read
-read_adds : (g : Opening) (s : State) (e : Event) (w p k : ℕ) → happens g s e ≡ Rattle.core_state.specs.Steps.reads g s w p k → mark g s e ≡ Some (found_in g s w p k) → ((v : ℕ) → is_of e v ≡ (w == v)) → (s.worker w).is_open ≡ true → Adds g s e
+read_adds : (g : Opening) (s : State) (e : Event) (w p k : ℕ) → happens g s e ≡ Rattle.core_crash.specs.core_state.Steps.reads g s w p k → mark g s e ≡ Some (found_in g s w p k) → ((v : ℕ) → is_of e v ≡ (w == v)) → (s.worker w).is_open ≡ true → Adds g s e
 read_adds g s e w p k h m b o = One_new (record {
   entry = read_entry w a k (word_in g.format (s.page p).node k) (is_held_by (s.row (g.row_of k)).holder w);
   worker = w;
@@ -240,7 +240,7 @@ read_adds g s e w p k h m b o = One_new (record {
     a = at_pages s w (s.worker w) (p ∷ [])
 
 -- a write, of a kind that is no end
-write_adds : (g : Opening) (s : State) (e : Event) (K : Kind) (w p k v : ℕ) (changes : Entry → List Entry) → happens g s e ≡ Rattle.core_state.specs.Steps.writes g s K w p k v changes →
+write_adds : (g : Opening) (s : State) (e : Event) (K : Kind) (w p k v : ℕ) (changes : Entry → List Entry) → happens g s e ≡ Rattle.core_crash.specs.core_state.Steps.writes g s K w p k v changes →
     mark g s e ≡ entry_mark g.format K (write_entry g K s w (at_pages s w (s.worker w) (p ∷ [])) p k v) → is_end K ≡ false →
     ((r : Entry) → r.key ≡ k → r.after ≡ v → (changes r ≡ listed K r (s.worker w).changes) × IsUndoing K r (s.worker w).changes) → ((v : ℕ) → is_of e v ≡ (w == v)) → (s.worker w).is_open ≡ true → Adds g s e
 write_adds g s e K w p k v changes h m n u b o = One_new (record {

@@ -1,15 +1,15 @@
 -- What the scripts by hand have in common: whose marks events tell, and which rows they take.
 use Rattle.std.proofs.Common.{◌≡◌, ◌⊎◌, ℕ, Bool, true, false, cond, not, ◌==◌, List, [], ◌∷◌, Option, None, refl, sym, ap, ◌∙◌, inl, inr, true≢false}
 use Rattle.map_model.proofs.ListLemmas.{all_to}
-use Rattle.core_state.specs.Openings.{Opening, first_map}
-use Rattle.core_state.specs.States.{Row, State, start}
-use Rattle.core_state.specs.Events.{Event}
-use Rattle.core_state.specs.Local.{publishes_row, is_of}
-use Rattle.core_state.proofs.Locality.{every_local}
-use Rattle.core_state.specs.Needs.{holds_row, may}
+use Rattle.core_crash.specs.core_state.Openings.{Opening, first_map}
+use Rattle.core_crash.specs.core_state.States.{Row, State, start}
+use Rattle.core_crash.specs.core_state.Events.{Event}
+use Rattle.core_crash.specs.core_state.Local.{publishes_row, is_of}
+use Rattle.core_crash.proofs.core_state_lemmas.Locality.{every_local}
+use Rattle.core_crash.specs.core_state.Needs.{holds_row, may}
 use Rattle.std.proofs.lemmas.Bool.{cases_eq, ne_eqb}
 use Rattle.map_model.specs.Lists.{Has, all}
-use Rattle.core_state.specs.Steps.{happens, step, run}
+use Rattle.core_crash.specs.core_state.Steps.{happens, step, run}
 use Rattle.core_crash.proofs.ByHand.{opening}
 use Rattle.page_model.specs.Nodes.{holds}
 use Rattle.page_model.specs.Tree.{value_of}

@@ -8,12 +8,12 @@ use Rattle.map_model.specs.Histories.{Step, first_of, write_or, last_write, over
 use Rattle.map_model.specs.Journals.{Txn, Journal, journal_of, after, Gives, Serial, Wrote, Used}
 use Rattle.map_model.specs.Laws.{AreApart, EveryOrder}
 use Rattle.page_model.specs.Nodes.{Format}
-use Rattle.image_model.specs.Entries.{Kind, Entry, is_commit, is_write, is_call, same_txn}
-use Rattle.image_model.specs.Histories as histories
-use Rattle.image_model.specs.Histories.{said, write_call, steps_of, step_onto}
-use Rattle.core_state.specs.Openings.{Opening}
-use Rattle.core_state.specs.Steps.{claims}
-use Rattle.core_commit.proofs.History.{IsRecorded}
+use Rattle.core_crash.specs.image_model.Entries.{Kind, Entry, is_commit, is_write, is_call, same_txn}
+use Rattle.core_crash.specs.image_model.Histories as histories
+use Rattle.core_crash.specs.image_model.Histories.{said, write_call, steps_of, step_onto}
+use Rattle.core_crash.specs.core_state.Openings.{Opening}
+use Rattle.core_crash.specs.core_state.Steps.{claims}
+use Rattle.core_crash.proofs.core_commit_lemmas.History.{IsRecorded}
 use Rattle.core_calls.specs.Marks.{Mark, Began, Called, Back, Ended}
 use Rattle.core_calls.specs.Told.{Pairwise, Covers, SameCall, Same, Absent, Met, IsRead}
 use Rattle.core_calls.proofs.PairLemmas.{pair_of, pair_for, covers_of, covers_join, pairs_keep, pairs_join, SameKey, falls_pair, apart_keep, apart_pairs, of_session, apart_from}

@@ -13,11 +13,11 @@ use Rattle.map_model.specs.Lists.{Has, keep}
 use Rattle.map_model.specs.Outputs.{Reply}
 use Rattle.map_model.specs.Pairings.{is_last, is_open_line}
 use Rattle.map_model.proofs.ListLemmas.{has_left, has_right}
-use Rattle.image_model.specs.Entries.{Entry, is_commit}
-use Rattle.image_model.specs.Ends.{name_of}
-use Rattle.core_state.specs.Openings.{Opening}
-use Rattle.core_state.specs.Events.{Event}
-use Rattle.core_state.specs.Steps.{state_after}
+use Rattle.core_crash.specs.image_model.Entries.{Entry, is_commit}
+use Rattle.core_crash.specs.image_model.Ends.{name_of}
+use Rattle.core_crash.specs.core_state.Openings.{Opening}
+use Rattle.core_crash.specs.core_state.Events.{Event}
+use Rattle.core_crash.specs.core_state.Steps.{state_after}
 use Rattle.core_calls.specs.Deeds.{Deed, Met, Committed, Aborted, Refused, Outcome, Unsaid, asked, answered, in_words}
 use Rattle.core_calls.specs.Refusals.{Limits}
 use Rattle.core_calls.specs.Fronts.{Done, front, outcomes}

@@ -8,7 +8,7 @@ use Rattle.map_model.specs.Transcripts.{journal}
 use Rattle.map_model.specs.Pairings.{paired, counted, answers_in, is_open_line, script_of, EachGoesOn}
 use Rattle.map_model.specs.PairLaws as pair_laws
 use Rattle.map_model.specs.Outputs.{Reply, answers_told}
-use Rattle.core_state.specs.Openings.{Opening}
+use Rattle.core_crash.specs.core_state.Openings.{Opening}
 use Rattle.core_calls.specs.Deeds.{in_words, transcript}
 use Rattle.core_calls.specs.Refusals.{Limits}
 use Rattle.core_calls.specs.Fronts.{Done, outcomes}

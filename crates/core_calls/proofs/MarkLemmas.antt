@@ -3,13 +3,13 @@ use Rattle.std.proofs.Common.{◌≡◌, ◌⊎◌, ◌≤◌, ℕ, suc, Bool, t
 use Rattle.std.proofs.lemmas.Bool.{cases_Bool, cases_eq, eq-eqb, ne_eqb, and_parts, and_from, and_left, and_right, cond-true, cond-false}
 use Rattle.map_model.specs.Lists.{Has, keep}
 use Rattle.page_model.specs.Nodes.{Format}
-use Rattle.image_model.specs.Entries.{Kind, Entry, is_end, is_commit, same_txn}
-use Rattle.core_state.specs.Openings.{Opening}
-use Rattle.core_state.specs.States.{State, start}
-use Rattle.core_state.specs.Events.{Event}
-use Rattle.core_state.specs.Local.{is_of}
-use Rattle.core_state.specs.Needs.{pages_of, are_hot, needs, may}
-use Rattle.core_state.specs.Steps.{happens, run}
+use Rattle.core_crash.specs.image_model.Entries.{Kind, Entry, is_end, is_commit, same_txn}
+use Rattle.core_crash.specs.core_state.Openings.{Opening}
+use Rattle.core_crash.specs.core_state.States.{State, start}
+use Rattle.core_crash.specs.core_state.Events.{Event}
+use Rattle.core_crash.specs.core_state.Local.{is_of}
+use Rattle.core_crash.specs.core_state.Needs.{pages_of, are_hot, needs, may}
+use Rattle.core_crash.specs.core_state.Steps.{happens, run}
 use Rattle.core_calls.specs.Marks.{Mark, Began, Ended, mark, onto, marks}
 use Rattle.core_calls.proofs.EntryLemmas.{call_mark, entry_mark, call_marks, Deal, deal_of, deals_of, marks_in, deals_in, Quiet, Enters, Opens, Adds, None_new, One_new, Begin_new, adds}
 
@@ -53,7 +53,7 @@ opened g s e ms q m = record {
   open_calls = λ w o. elim (cases_eq w q.worker) [ inl i ↦ here w i | inr n ↦ there w n o ];
   up_to = λ r i. elim (cases_eq r.log q.worker) [
     | inl k ↦ (let a = m.up_to r (subst (λ (h : List Entry). Has r h) q.entries i) in let b = q.next in let c = ap (λ (v : ℕ). ((happens g s e).worker v).txn) k in let d = ap (λ (v : ℕ). (s.worker v).txn) k in omega arith)
-    | inr k ↦ (let a = m.up_to r (subst (λ (h : List Entry). Has r h) q.entries i) in let b = ap (λ (a : Rattle.core_state.specs.States.Worker). a.txn) (q.others r.log k) in omega arith)
+    | inr k ↦ (let a = m.up_to r (subst (λ (h : List Entry). Has r h) q.entries i) in let b = ap (λ (a : Rattle.core_crash.specs.core_state.States.Worker). a.txn) (q.others r.log k) in omega arith)
   ];
 }
   where
@@ -84,8 +84,8 @@ opened g s e ms q m = record {
 
     there : (w : ℕ) → (w ≡ q.worker → ⊥) → ((happens g s e).worker w).is_open ≡ true → call_marks g.format (keep (mine w ((happens g s e).worker w).txn) (happens g s e).entries) ≡ marks_in (told g s e w (ms w))
     there w i o =
-        ap₂ (λ (k : ℕ) (h : List Entry). call_marks g.format (keep (mine w k) h)) (ap (λ (a : Rattle.core_state.specs.States.Worker). a.txn) (q.others w i)) q.entries
-        ∙ (m.open_calls w (ap (λ (a : Rattle.core_state.specs.States.Worker). a.is_open) (sym (q.others w i)) ∙ o) ∙ ap marks_in (sym (other w i)))
+        ap₂ (λ (k : ℕ) (h : List Entry). call_marks g.format (keep (mine w k) h)) (ap (λ (a : Rattle.core_crash.specs.core_state.States.Worker). a.txn) (q.others w i)) q.entries
+        ∙ (m.open_calls w (ap (λ (a : Rattle.core_crash.specs.core_state.States.Worker). a.is_open) (sym (q.others w i)) ∙ o) ∙ ap marks_in (sym (other w i)))
 
 -- ## An entry
 

@@ -3,13 +3,13 @@ use Rattle.std.proofs.Common.{◌≡◌, ◌⊎◌, ◌==◌, ◌||◌, ℕ, suc
 use Rattle.std.proofs.lemmas.Bool.{cases_eq, cond-true, cond-false, eq-eqb, ne_eqb, or_left, or_right}
 use Rattle.map_model.specs.Lists.{Has, keep}
 use Rattle.map_model.specs.Maps.{MapAnswer}
-use Rattle.core_state.specs.Openings.{Opening}
-use Rattle.core_state.specs.States.{Row, State}
-use Rattle.core_state.specs.Events.{Event, Mode}
-use Rattle.core_state.specs.Local.{publishes_row}
-use Rattle.core_state.specs.Needs.{holds_row, is_held_by, is_reader, may}
-use Rattle.core_state.specs.Steps.{AllMet, happens, locked, state_after, step}
-use Rattle.core_state.proofs.Locality.{every_local}
+use Rattle.core_crash.specs.core_state.Openings.{Opening}
+use Rattle.core_crash.specs.core_state.States.{Row, State}
+use Rattle.core_crash.specs.core_state.Events.{Event, Mode}
+use Rattle.core_crash.specs.core_state.Local.{publishes_row}
+use Rattle.core_crash.specs.core_state.Needs.{holds_row, is_held_by, is_reader, may}
+use Rattle.core_crash.specs.core_state.Steps.{AllMet, happens, locked, state_after, step}
+use Rattle.core_crash.proofs.core_state_lemmas.Locality.{every_local}
 use Rattle.core_calls.specs.Deeds.{Deed, Met, Over}
 use Rattle.core_calls.specs.Fronts.{front, outcomes}
 use Rattle.core_calls.specs.Runs.{EveryMet}

@@ -5,11 +5,11 @@ use Rattle.map_model.proofs.ListLemmas.{keep_has}
 use Rattle.map_model.specs.Lists.{Has, keep, insert_by, in_order}
 use Rattle.map_model.specs.Journals.{Txn, is_earlier, journal_of}
 use Rattle.map_model.specs.Laws.{IsFalling, AreApart, EveryOrder}
-use Rattle.image_model.specs.Entries.{Entry, is_commit, earlier}
-use Rattle.core_state.specs.Openings.{Opening}
-use Rattle.core_state.specs.States.{start, flushed_by_all}
-use Rattle.core_state.specs.Steps.{run}
-use Rattle.core_commit.proofs.History.{IsRecorded}
+use Rattle.core_crash.specs.image_model.Entries.{Entry, is_commit, earlier}
+use Rattle.core_crash.specs.core_state.Openings.{Opening}
+use Rattle.core_crash.specs.core_state.States.{start, flushed_by_all}
+use Rattle.core_crash.specs.core_state.Steps.{run}
+use Rattle.core_crash.proofs.core_commit_lemmas.History.{IsRecorded}
 use Rattle.core_calls.specs.Durables.{is_ripe, is_told, place_of, EveryDue}
 use Rattle.core_calls.proofs.DurableLemmas.{recorded_of, passes, ripe_to}
 

@@ -4,10 +4,10 @@ use Rattle.std.proofs.lemmas.Bool.{ltb-true}
 use Rattle.page_model.specs.Nodes.{Format, Node, free}
 use Rattle.page_model.specs.Tree.{IsTree}
 use Rattle.page_model.proofs.Check as page_check
-use Rattle.core_state.specs.Openings.{Opening}
-use Rattle.core_state.specs.Events.{Event, Mode}
-use Rattle.core_state.specs.States.{State}
-use Rattle.core_state.specs.Steps.{run, state_after}
+use Rattle.core_crash.specs.core_state.Openings.{Opening}
+use Rattle.core_crash.specs.core_state.Events.{Event, Mode}
+use Rattle.core_crash.specs.core_state.States.{State}
+use Rattle.core_crash.specs.core_state.Steps.{run, state_after}
 use Rattle.core_calls.specs.LogEvents.{IsTaken, IsTight}
 use Rattle.core_calls.specs.Presses.{EveryPress, IsLoose, WorkedPress, crowded}
 

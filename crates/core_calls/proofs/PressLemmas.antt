@@ -3,18 +3,18 @@ use Rattle.std.proofs.Common.{◌≡◌, ◌⊎◌, ◌<◌, ◌≤◌, ℕ, suc
 use Rattle.std.proofs.lemmas.Bool.{and_parts, cases_eq, lt-ltb, ltb-true}
 use Rattle.map_model.specs.Lists.{all, any, upd}
 use Rattle.map_model.proofs.ListLemmas.{upd_other, upd_same}
-use Rattle.image_model.specs.Entries.{Contents}
+use Rattle.core_crash.specs.image_model.Entries.{Contents}
 use Rattle.page_model.specs.Pairs.{Pair}
 use Rattle.page_model.specs.Nodes.{covers}
-use Rattle.core_state.specs.Openings.{Opening}
-use Rattle.core_state.specs.Events.{Event}
-use Rattle.core_state.specs.Lists.{all_below}
-use Rattle.core_state.specs.Needs.{has_hot_child, has_hot_parent, is_dirty, is_empty_frame, is_inside, may, may_have}
-use Rattle.core_state.specs.States.{Place, State, flushed_by_all, frame_of, in_frame, is_cold, is_cooling, is_hot, start, waits_for}
-use Rattle.core_state.specs.Steps.{AllMet, happens, run, state_after, step, with_pairs}
-use Rattle.core_state.proofs.Runs.{run_more}
-use Rattle.core_paging.specs.Paging.{EveryResidence, EverySaved, Residence}
-use Rattle.core_paging.proofs.Places.{below}
+use Rattle.core_crash.specs.core_state.Openings.{Opening}
+use Rattle.core_crash.specs.core_state.Events.{Event}
+use Rattle.core_crash.specs.core_state.Lists.{all_below}
+use Rattle.core_crash.specs.core_state.Needs.{has_hot_child, has_hot_parent, is_dirty, is_empty_frame, is_inside, may, may_have}
+use Rattle.core_crash.specs.core_state.States.{Place, State, flushed_by_all, frame_of, in_frame, is_cold, is_cooling, is_hot, start, waits_for}
+use Rattle.core_crash.specs.core_state.Steps.{AllMet, happens, run, state_after, step, with_pairs}
+use Rattle.core_crash.proofs.core_state_lemmas.Runs.{run_more}
+use Rattle.core_crash.specs.core_paging.Paging.{EveryResidence, EverySaved, Residence}
+use Rattle.core_crash.proofs.core_paging_lemmas.Places.{below}
 use Rattle.core_calls.specs.LogEvents.{IsTaken, IsTight}
 use Rattle.core_calls.specs.Presses.{EveryPress, IsLoose, KeepsWay, is_load, is_move}
 

@@ -8,9 +8,9 @@ use Rattle.map_model.specs.Journals.{Name}
 use Rattle.map_model.specs.Pairings.{answers_in, is_last}
 use Rattle.map_model.specs.Outputs.{Reply, answer_of, answers_told, name_of, names}
 use Rattle.map_model.proofs.ListLemmas.{has_cases, has_left, has_right}
-use Rattle.core_state.specs.Openings.{Opening}
-use Rattle.core_state.specs.Events.{Event}
-use Rattle.core_state.specs.Steps.{state_after}
+use Rattle.core_crash.specs.core_state.Openings.{Opening}
+use Rattle.core_crash.specs.core_state.Events.{Event}
+use Rattle.core_crash.specs.core_state.Steps.{state_after}
 use Rattle.core_calls.proofs.PairLemmas.{none_before, none_behind}
 use Rattle.core_calls.specs.Deeds.{answered, in_words, transcript}
 use Rattle.core_calls.specs.Fronts.{Done, front, outcomes}

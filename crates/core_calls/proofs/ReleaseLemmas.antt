@@ -3,15 +3,15 @@ use Rattle.std.proofs.Common.{◌≡◌, ◌⊎◌, ℕ, Bool, true, false, cond
 use Rattle.std.proofs.lemmas.Bool.{cases_Bool, cases_eq, eq-eqb, ne_eqb, and_parts, cond-true, cond-false}
 use Rattle.map_model.specs.Lists.{keep}
 use Rattle.map_model.specs.Histories.{Step}
-use Rattle.image_model.specs.Entries.{Kind, Entry, is_end}
-use Rattle.core_state.specs.Openings.{Opening}
-use Rattle.core_state.specs.States.{Row, State, start}
-use Rattle.core_state.specs.Events.{Event, Mode}
-use Rattle.core_state.specs.Local.{publishes_row, is_of}
-use Rattle.core_state.specs.Needs.{is_held_by, is_reader, holds_row, may_hold, pages_of, are_hot, needs, may}
-use Rattle.core_state.specs.Steps.{locked, unlocked, happens, run, state_after}
-use Rattle.core_state.proofs.Locality.{every_local}
-use Rattle.core_state.proofs.Runs.{run_more}
+use Rattle.core_crash.specs.image_model.Entries.{Kind, Entry, is_end}
+use Rattle.core_crash.specs.core_state.Openings.{Opening}
+use Rattle.core_crash.specs.core_state.States.{Row, State, start}
+use Rattle.core_crash.specs.core_state.Events.{Event, Mode}
+use Rattle.core_crash.specs.core_state.Local.{publishes_row, is_of}
+use Rattle.core_crash.specs.core_state.Needs.{is_held_by, is_reader, holds_row, may_hold, pages_of, are_hot, needs, may}
+use Rattle.core_crash.specs.core_state.Steps.{locked, unlocked, happens, run, state_after}
+use Rattle.core_crash.proofs.core_state_lemmas.Locality.{every_local}
+use Rattle.core_crash.proofs.core_state_lemmas.Runs.{run_more}
 use Rattle.core_calls.specs.Marks.{Mark, Began, Called, Back, Ended, mark, onto, marks}
 use Rattle.core_calls.specs.Deeds.{Deed, Begun, Got, Changed, Deleted, Absent, Met, Paused, Over, Committed, Aborted, Refused, Synced, Checkpointed, put_backs, marks_of, Unsaid, reads_of, marks_for}
 use Rattle.core_calls.specs.Fronts.{front}
@@ -115,10 +115,10 @@ closed_before : (g : Opening) (s : State) (e : Event) (w : ℕ) → Adds g s e �
 closed_before g s e w (None_new q) n c = sym (q.opens w) ∙ c
 closed_before g s e w (Begin_new q) n c = elim (cases_eq w q.worker) [
   | inl i ↦ absurd (true≢false (sym q.opened ∙ (ap (λ (v : ℕ). ((happens g s e).worker v).is_open) (sym i) ∙ c)))
-  | inr i ↦ ap (λ (a : Rattle.core_state.specs.States.Worker). a.is_open) (sym (q.others w i)) ∙ c
+  | inr i ↦ ap (λ (a : Rattle.core_crash.specs.core_state.States.Worker). a.is_open) (sym (q.others w i)) ∙ c
 ]
 closed_before g s e w (One_new q) n c = elim (cases_eq w q.worker) [
-  | inr i ↦ ap (λ (a : Rattle.core_state.specs.States.Worker). a.is_open) (sym (q.others w i)) ∙ c
+  | inr i ↦ ap (λ (a : Rattle.core_crash.specs.core_state.States.Worker). a.is_open) (sym (q.others w i)) ∙ c
   | inl i ↦ elim (cases_Bool (is_end q.entry.kind)) [
     | inr k ↦ sym (q.opens_same k w) ∙ c
     | inl k ↦ absurd (true≢false (sym (end_told g.format q.entry.kind q.entry k) ∙ (sym (ap has_end (cond-true (is_of e w) (onto (mark g s e) []) [] (q.by w ∙ eq-eqb q.worker w (sym i)) ∙ ap (λ (o : Option Mark). onto o []) q.mark)) ∙ n)))

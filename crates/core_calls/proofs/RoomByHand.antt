@@ -3,7 +3,7 @@ use Rattle.std.proofs.Common.{◌≡◌, ◌<◌, ℕ, zero, suc, true, List, []
 use Rattle.page_model.specs.Nodes.{Format, Node, free}
 use Rattle.page_model.specs.Tree.{IsTree}
 use Rattle.page_model.proofs.Check.{every_check}
-use Rattle.core_state.specs.Openings.{Opening}
+use Rattle.core_crash.specs.core_state.Openings.{Opening}
 use Rattle.core_calls.specs.Rows.{WorkedRoom}
 
 abbrev format : Format

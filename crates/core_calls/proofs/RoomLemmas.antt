@@ -9,13 +9,13 @@ use Rattle.page_model.specs.Records as records
 use Rattle.page_model.specs.Needs.{split_record, lift_record}
 use Rattle.page_model.specs.Tree.{IsTree}
 use Rattle.page_model.proofs.Tree.{Lies, ok, one, tall, span_fences}
-use Rattle.image_model.specs.Entries.{Kind, Entry, applied_as, touches, written}
-use Rattle.core_state.specs.Openings.{Opening}
-use Rattle.core_state.specs.States.{State, Worker, nodes_of, gsns_of}
-use Rattle.core_state.specs.Events.{Event}
-use Rattle.core_state.specs.Needs.{may, may_split, may_lift, needs, are_hot}
-use Rattle.core_state.specs.Steps.{at_pages, page_entry, write_entry, records_in, happens}
-use Rattle.core_commit.proofs.Events.{names_to}
+use Rattle.core_crash.specs.image_model.Entries.{Kind, Entry, applied_as, touches, written}
+use Rattle.core_crash.specs.core_state.Openings.{Opening}
+use Rattle.core_crash.specs.core_state.States.{State, Worker, nodes_of, gsns_of}
+use Rattle.core_crash.specs.core_state.Events.{Event}
+use Rattle.core_crash.specs.core_state.Needs.{may, may_split, may_lift, needs, are_hot}
+use Rattle.core_crash.specs.core_state.Steps.{at_pages, page_entry, write_entry, records_in, happens}
+use Rattle.core_crash.proofs.core_commit_lemmas.Events.{names_to}
 use Rattle.core_calls.specs.Room.{is_full_at, full_from, full_run, frees_from, free_list, IsWay, EveryRoom}
 
 -- ## The nodes of the way

@@ -6,15 +6,15 @@ use Rattle.map_model.specs.Lists.{Has}
 use Rattle.map_model.specs.Journals.{Txn, is_earlier}
 use Rattle.map_model.specs.Transcripts.{journal}
 use Rattle.page_model.specs.Nodes.{Format}
-use Rattle.image_model.specs.Entries.{Entry, is_commit}
-use Rattle.image_model.specs.Histories as histories
-use Rattle.core_state.specs.Openings.{Opening}
-use Rattle.core_state.specs.States.{State, start}
-use Rattle.core_state.specs.Events.{Event}
-use Rattle.core_state.specs.Needs.{may}
-use Rattle.core_state.specs.Steps.{happens, synced, run}
-use Rattle.core_state.proofs.Runs.{run_more}
-use Rattle.core_commit.specs.Rises.{EveryRise}
+use Rattle.core_crash.specs.image_model.Entries.{Entry, is_commit}
+use Rattle.core_crash.specs.image_model.Histories as histories
+use Rattle.core_crash.specs.core_state.Openings.{Opening}
+use Rattle.core_crash.specs.core_state.States.{State, start}
+use Rattle.core_crash.specs.core_state.Events.{Event}
+use Rattle.core_crash.specs.core_state.Needs.{may}
+use Rattle.core_crash.specs.core_state.Steps.{happens, synced, run}
+use Rattle.core_crash.proofs.core_state_lemmas.Runs.{run_more}
+use Rattle.core_crash.specs.core_commit.Rises.{EveryRise}
 use Rattle.core_crash.specs.Crashes.{image_of, journal_in, IsRipe}
 use Rattle.map_model.proofs.ListLemmas.{order_has}
 use Rattle.core_calls.specs.Told.{SameTxn, Survives, ToldLaws, EveryTold}

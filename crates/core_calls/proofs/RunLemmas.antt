@@ -4,12 +4,12 @@ use Rattle.std.proofs.lemmas.List.{append_assoc}
 use Rattle.std.proofs.lemmas.Bool.{cases_Bool, cases_eq, eq-eqb, ne_eqb, cond-true, cond-false}
 use Rattle.map_model.specs.declared.call.Call.TheVariants as call
 use Rattle.map_model.specs.Histories.{Step}
-use Rattle.core_state.specs.Openings.{Opening}
-use Rattle.core_state.specs.States.{State, start}
-use Rattle.core_state.specs.Events.{Event}
-use Rattle.core_state.specs.Local.{is_of}
-use Rattle.core_state.specs.Needs.{may}
-use Rattle.core_state.specs.Steps.{step, run, state_after}
+use Rattle.core_crash.specs.core_state.Openings.{Opening}
+use Rattle.core_crash.specs.core_state.States.{State, start}
+use Rattle.core_crash.specs.core_state.Events.{Event}
+use Rattle.core_crash.specs.core_state.Local.{is_of}
+use Rattle.core_crash.specs.core_state.Needs.{may}
+use Rattle.core_crash.specs.core_state.Steps.{step, run, state_after}
 use Rattle.core_calls.proofs.PairLemmas.{none_behind}
 use Rattle.core_calls.specs.Marks.{Mark, Began, Called, Back, Ended, mark, onto, marks}
 use Rattle.core_calls.specs.Deeds.{Deed, Begun, Got, Changed, Deleted, Absent, Met, Paused, Over, Committed, Aborted, Refused, Synced, Checkpointed, asked, put_backs, marks_of, Unsaid, reads_of, Outcome, marks_for, marks_by, AreInTurn, commits, Answers}

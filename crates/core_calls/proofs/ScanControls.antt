@@ -1,10 +1,10 @@
 -- Walks that take other rows than a scan are refused.
 use Rattle.std.proofs.Common.{◌≡◌, ℕ, Bool, true, false, cond, List, [], ◌∷◌, length, refl, sym, ap, ◌∙◌, arith}
-use Rattle.core_state.specs.Openings.{Opening}
-use Rattle.core_state.specs.States.{State}
-use Rattle.core_state.specs.Events.{Event, Mode}
-use Rattle.core_state.specs.Needs.{may}
-use Rattle.core_state.specs.Steps.{happens, step}
+use Rattle.core_crash.specs.core_state.Openings.{Opening}
+use Rattle.core_crash.specs.core_state.States.{State}
+use Rattle.core_crash.specs.core_state.Events.{Event, Mode}
+use Rattle.core_crash.specs.core_state.Needs.{may}
+use Rattle.core_crash.specs.core_state.Steps.{happens, step}
 use Rattle.core_calls.specs.Controls.{EveryScanControl}
 use Rattle.core_calls.specs.Scans.{rows_met}
 

@@ -5,15 +5,15 @@ use Rattle.map_model.specs.Lists.{Has, any, keep}
 use Rattle.map_model.specs.Journals.{Txn, Journal, is_earlier, journal_of, after, Used, Wrote}
 use Rattle.map_model.specs.Laws.{EveryOrder, EveryClosed, IsFalling}
 use Rattle.map_model.specs.Transcripts.{lines_of, told, txn_of, journal}
-use Rattle.image_model.specs.Ends.{reach, wins, is_kept}
-use Rattle.image_model.specs.Histories as histories
-use Rattle.image_model.specs.Images.{Image, StandsFor, found, won_by}
-use Rattle.core_state.specs.Openings.{Opening, first_map}
-use Rattle.core_state.specs.States.{State, start, flushed_by_all}
-use Rattle.core_state.specs.Events.{Event}
-use Rattle.core_state.specs.Steps.{run}
-use Rattle.core_commit.proofs.Runs.{good_run, good_start}
-use Rattle.core_commit.proofs.History.{IsRecorded}
+use Rattle.core_crash.specs.image_model.Ends.{reach, wins, is_kept}
+use Rattle.core_crash.specs.image_model.Histories as histories
+use Rattle.core_crash.specs.image_model.Images.{Image, StandsFor, found, won_by}
+use Rattle.core_crash.specs.core_state.Openings.{Opening, first_map}
+use Rattle.core_crash.specs.core_state.States.{State, start, flushed_by_all}
+use Rattle.core_crash.specs.core_state.Events.{Event}
+use Rattle.core_crash.specs.core_state.Steps.{run}
+use Rattle.core_crash.proofs.core_commit_lemmas.Runs.{good_run, good_start}
+use Rattle.core_crash.proofs.core_commit_lemmas.History.{IsRecorded}
 use Rattle.core_crash.specs.Crashes.{Recovers, image_of, journal_in, IsRipe, EveryCrash, EverySerial}
 use Rattle.core_calls.specs.Marks.{Mark, Ended, Began, Called, Back}
 use Rattle.core_calls.specs.Deeds.{Outcome, marks_by, commits, Answers, transcript}

@@ -8,9 +8,9 @@ use Rattle.page_model.specs.Nodes.{Node, covers}
 use Rattle.page_model.specs.Pairs.{Span, spans}
 use Rattle.page_model.specs.Tree.{IsTree, Names}
 use Rattle.page_model.proofs.Tree.{Lies, named, one, tall, up_lies}
-use Rattle.core_paging.specs.Paging.{Residence}
-use Rattle.core_state.specs.Openings.{Opening}
-use Rattle.core_state.specs.States.{State, is_hot, nodes_of}
+use Rattle.core_crash.specs.core_paging.Paging.{Residence}
+use Rattle.core_crash.specs.core_state.Openings.{Opening}
+use Rattle.core_crash.specs.core_state.States.{State, is_hot, nodes_of}
 use Rattle.core_calls.specs.Warms.{EveryWarm, IsWarmFrom}
 
 lies_to : (v : Node) (k : ℕ) → covers v k ≡ true → Lies v k

@@ -5,10 +5,10 @@ use Rattle.map_model.specs.declared.call.Call.TheVariants as call
 use Rattle.map_model.specs.declared.call.Refusal.{Refusal}
 use Rattle.map_model.specs.declared.call.Refusal.TheVariants as refusal
 use Rattle.map_model.specs.Lists.{any, keep}
-use Rattle.core_state.specs.Openings.{Opening}
-use Rattle.core_state.specs.Events.{Event}
-use Rattle.core_state.specs.States.{State}
-use Rattle.core_state.specs.Steps.{run, state_after, step}
+use Rattle.core_crash.specs.core_state.Openings.{Opening}
+use Rattle.core_crash.specs.core_state.Events.{Event}
+use Rattle.core_crash.specs.core_state.States.{State}
+use Rattle.core_crash.specs.core_state.Steps.{run, state_after, step}
 use Rattle.core_calls.specs.Fronts.{Done, front, outcomes}
 use Rattle.core_calls.specs.LogEvents.{AreFlushes, AreSyncs, EveryWhere, IsPressed, IsPressedYet, IsSync, Prepares, RefusedLogs, SyncsWhere, is_log}
 use Rattle.core_calls.specs.Refusals.{Limits}

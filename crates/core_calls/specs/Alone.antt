@@ -1,8 +1,8 @@
 -- One worker, whose commits are each flushed at once: behind each commit its durable line follows, and behind no other line one does.
 use Rattle.std.specs.Prelude.{◌≡◌, ℕ, List, [], ◌∷◌}
 use Rattle.map_model.specs.Journals.{Name}
-use Rattle.core_state.specs.Openings.{Opening}
-use Rattle.core_state.specs.Steps.{state_after}
+use Rattle.core_crash.specs.core_state.Openings.{Opening}
+use Rattle.core_crash.specs.core_state.Steps.{state_after}
 use Rattle.core_calls.specs.Deeds.{Deed, Committed, Outcome}
 use Rattle.core_calls.specs.Refusals.{Limits}
 use Rattle.core_calls.specs.Fronts.{Done, front}

@@ -7,13 +7,13 @@ use Rattle.map_model.specs.declared.call.Refusal.TheVariants as refusal
 use Rattle.map_model.specs.Maps.{MapAnswer}
 use Rattle.map_model.specs.Histories.{Step}
 use Rattle.map_model.specs.Lists.{Has}
-use Rattle.image_model.specs.Entries.{Entry, is_commit}
-use Rattle.image_model.specs.Ends.{name_of}
-use Rattle.core_state.specs.Openings.{Opening, first_map}
-use Rattle.core_state.specs.States.{State}
-use Rattle.core_state.specs.Events.{Event, Mode}
-use Rattle.core_state.specs.Needs.{is_leaf_of}
-use Rattle.core_state.specs.Steps.{state_after}
+use Rattle.core_crash.specs.image_model.Entries.{Entry, is_commit}
+use Rattle.core_crash.specs.image_model.Ends.{name_of}
+use Rattle.core_crash.specs.core_state.Openings.{Opening, first_map}
+use Rattle.core_crash.specs.core_state.States.{State}
+use Rattle.core_crash.specs.core_state.Events.{Event, Mode}
+use Rattle.core_crash.specs.core_state.Needs.{is_leaf_of}
+use Rattle.core_crash.specs.core_state.Steps.{state_after}
 use Rattle.core_calls.specs.Deeds.{Deed, Begun, Got, Changed, Met, Over, Committed, Aborted, Refused, Outcome, Answers}
 use Rattle.core_calls.specs.Refusals.{Limits}
 use Rattle.core_calls.specs.Fronts.{Done, outcomes}

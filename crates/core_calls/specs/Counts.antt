@@ -1,8 +1,8 @@
 -- How a session's transactions are counted, and how they are undone.
 use Rattle.std.specs.Prelude.{◌≡◌, ◌<◌, ℕ, suc, false, List, [], ◌∷◌, Option, Some, None}
 use Rattle.map_model.specs.Maps.{MapCall, MapAnswer}
-use Rattle.core_state.specs.Openings.{Opening}
-use Rattle.core_state.specs.Events.{Event}
+use Rattle.core_crash.specs.core_state.Openings.{Opening}
+use Rattle.core_crash.specs.core_state.Events.{Event}
 use Rattle.core_calls.specs.Marks.{Mark, Began, Called, Back, Ended}
 use Rattle.core_calls.specs.Deeds.{Outcome, marks_by, Answers}
 

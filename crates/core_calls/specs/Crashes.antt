@@ -5,12 +5,12 @@ use Rattle.map_model.specs.Journals.{Name, Txn, Journal, Serial}
 use Rattle.map_model.specs.Laws.{IsFalling}
 use Rattle.map_model.specs.Transcripts.{journal}
 use Rattle.map_model.specs.Outputs.{Reply, names}
-use Rattle.image_model.specs.Entries.{Entry, Contents, is_commit}
-use Rattle.image_model.specs.Ends.{is_kept}
-use Rattle.image_model.specs.Images.{Image, found}
-use Rattle.core_state.specs.Openings.{Opening, first_map}
-use Rattle.core_state.specs.Events.{Event}
-use Rattle.core_state.specs.Steps.{state_after}
+use Rattle.core_crash.specs.image_model.Entries.{Entry, Contents, is_commit}
+use Rattle.core_crash.specs.image_model.Ends.{is_kept}
+use Rattle.core_crash.specs.image_model.Images.{Image, found}
+use Rattle.core_crash.specs.core_state.Openings.{Opening, first_map}
+use Rattle.core_crash.specs.core_state.Events.{Event}
+use Rattle.core_crash.specs.core_state.Steps.{state_after}
 use Rattle.core_crash.specs.Crashes.{Leaves, image_of, journal_in}
 use Rattle.core_calls.specs.Marks.{marks}
 use Rattle.core_calls.specs.Deeds.{Committed, Outcome, commits, transcript}

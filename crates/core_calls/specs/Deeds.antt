@@ -7,9 +7,9 @@ use Rattle.map_model.specs.declared.call.Answer.TheVariants as answer
 use Rattle.map_model.specs.declared.call.Refusal.{Refusal}
 use Rattle.map_model.specs.Maps.{MapCall, MapAnswer}
 use Rattle.map_model.specs.Histories.{Step}
-use Rattle.core_state.specs.Openings.{Opening}
-use Rattle.core_state.specs.States.{start}
-use Rattle.core_state.specs.Events.{Event}
+use Rattle.core_crash.specs.core_state.Openings.{Opening}
+use Rattle.core_crash.specs.core_state.States.{start}
+use Rattle.core_crash.specs.core_state.Events.{Event}
 use Rattle.map_model.specs.Pairings.{in_turn}
 use Rattle.map_model.specs.declared.call.Answered.{Answered}
 use Rattle.core_calls.specs.Marks.{Mark, Began, Called, Back, Ended, marks, is_half}

@@ -5,13 +5,13 @@ use Rattle.map_model.specs.Journals.{Name, Txn, Journal}
 use Rattle.map_model.specs.Laws.{IsFalling}
 use Rattle.map_model.specs.Pairings.{is_last}
 use Rattle.map_model.specs.Transcripts.{journal}
-use Rattle.image_model.specs.Entries.{Entry, Contents, is_commit, earlier}
-use Rattle.image_model.specs.Ends.{name_of, names_of}
-use Rattle.core_state.specs.Openings.{Opening}
-use Rattle.core_state.specs.States.{State, flushed_by_all}
-use Rattle.core_state.specs.Events.{Event}
-use Rattle.core_state.specs.Steps.{state_after}
-use Rattle.core_state.specs.Needs.{may}
+use Rattle.core_crash.specs.image_model.Entries.{Entry, Contents, is_commit, earlier}
+use Rattle.core_crash.specs.image_model.Ends.{name_of, names_of}
+use Rattle.core_crash.specs.core_state.Openings.{Opening}
+use Rattle.core_crash.specs.core_state.States.{State, flushed_by_all}
+use Rattle.core_crash.specs.core_state.Events.{Event}
+use Rattle.core_crash.specs.core_state.Steps.{state_after}
+use Rattle.core_crash.specs.core_state.Needs.{may}
 use Rattle.core_crash.specs.Crashes.{Leaves, image_of}
 use Rattle.core_calls.specs.Deeds.{Outcome, Committed, Synced, Answers, answered, transcript}
 use Rattle.core_calls.specs.Told.{ByThen, kept_of}

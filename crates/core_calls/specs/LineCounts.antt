@@ -4,7 +4,7 @@ use Rattle.map_model.specs.declared.call.Call.{Call}
 use Rattle.map_model.specs.declared.call.Call.TheVariants as call
 use Rattle.map_model.specs.Lists.{keep}
 use Rattle.map_model.specs.Pairings.{script_of}
-use Rattle.core_state.specs.Openings.{Opening}
+use Rattle.core_crash.specs.core_state.Openings.{Opening}
 use Rattle.core_calls.specs.Deeds.{asked, in_words}
 use Rattle.core_calls.specs.Refusals.{Limits}
 use Rattle.core_calls.specs.Fronts.{Done, outcomes}

@@ -5,12 +5,12 @@ use Rattle.map_model.specs.declared.call.Call.TheVariants as call
 use Rattle.map_model.specs.declared.call.Refusal.{Refusal}
 use Rattle.map_model.specs.declared.call.Refusal.TheVariants as refusal
 use Rattle.map_model.specs.Lists.{any, keep}
-use Rattle.image_model.specs.Entries.{is_commit}
+use Rattle.core_crash.specs.image_model.Entries.{is_commit}
 use Rattle.page_model.specs.Nodes.{covers}
-use Rattle.core_state.specs.Openings.{Opening}
-use Rattle.core_state.specs.States.{State, flushed_by_all, in_frame, is_cold}
-use Rattle.core_state.specs.Events.{Event}
-use Rattle.core_state.specs.Steps.{run, state_after, step}
+use Rattle.core_crash.specs.core_state.Openings.{Opening}
+use Rattle.core_crash.specs.core_state.States.{State, flushed_by_all, in_frame, is_cold}
+use Rattle.core_crash.specs.core_state.Events.{Event}
+use Rattle.core_crash.specs.core_state.Steps.{run, state_after, step}
 use Rattle.core_calls.specs.Deeds.{Deed, Begun, Committed, Aborted, Refused, Synced, Checkpointed, asked}
 use Rattle.core_calls.specs.Refusals.{Limits, waiting}
 use Rattle.core_calls.specs.Fronts.{Done, front, outcomes}

@@ -1,14 +1,14 @@
 -- What events tell of a session's transactions: begins, calls, put-backs and ends.
 use Rattle.std.specs.Prelude.{ℕ, suc, Bool, true, false, List, [], ◌∷◌, Option, Some, None, if◌then◌else◌}
 use Rattle.map_model.specs.Maps.{MapCall, MapAnswer}
-use Rattle.image_model.specs.Entries.{Entry}
-use Rattle.image_model.specs.Histories.{write_call}
-use Rattle.core_state.specs.Openings.{Opening}
-use Rattle.core_state.specs.States.{State}
-use Rattle.core_state.specs.Events.{Event}
-use Rattle.core_state.specs.Local.{is_of}
-use Rattle.core_state.specs.Needs.{is_held_by, value_in, may}
-use Rattle.core_state.specs.Steps.{step}
+use Rattle.core_crash.specs.image_model.Entries.{Entry}
+use Rattle.core_crash.specs.image_model.Histories.{write_call}
+use Rattle.core_crash.specs.core_state.Openings.{Opening}
+use Rattle.core_crash.specs.core_state.States.{State}
+use Rattle.core_crash.specs.core_state.Events.{Event}
+use Rattle.core_crash.specs.core_state.Local.{is_of}
+use Rattle.core_crash.specs.core_state.Needs.{is_held_by, value_in, may}
+use Rattle.core_crash.specs.core_state.Steps.{step}
 
 -- A begin, with the transaction's number; a call that was answered, and whether its key's row was held alone; a change that was
 -- put back; an end, with the transaction's number and its own.

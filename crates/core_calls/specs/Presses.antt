@@ -2,11 +2,11 @@
 use Rattle.std.specs.Prelude.{◌≡◌, ◌<◌, ◌≤◌, ℕ, Bool, true, false, List, [], ◌∷◌}
 use Rattle.map_model.specs.Lists.{all, any}
 use Rattle.page_model.specs.Nodes.{covers}
-use Rattle.core_state.specs.Openings.{Opening}
-use Rattle.core_state.specs.Events.{Event, Mode}
-use Rattle.core_state.specs.Needs.{is_empty_frame, may}
-use Rattle.core_state.specs.States.{State, flushed_by_all, in_frame}
-use Rattle.core_state.specs.Steps.{AllMet, run, state_after, step}
+use Rattle.core_crash.specs.core_state.Openings.{Opening}
+use Rattle.core_crash.specs.core_state.Events.{Event, Mode}
+use Rattle.core_crash.specs.core_state.Needs.{is_empty_frame, may}
+use Rattle.core_crash.specs.core_state.States.{State, flushed_by_all, in_frame}
+use Rattle.core_crash.specs.core_state.Steps.{AllMet, run, state_after, step}
 use Rattle.core_calls.specs.LogEvents.{IsTight, SyncsWhere}
 
 -- The frame is empty, or its page is none of the key's way and not above the number up to which all logs are flushed.

@@ -4,8 +4,8 @@ use Rattle.map_model.specs.Lists.{Has}
 use Rattle.map_model.specs.Journals.{Name}
 use Rattle.map_model.specs.Pairings.{answers_in, is_last}
 use Rattle.map_model.specs.Outputs.{Reply, answers_told, names}
-use Rattle.core_state.specs.Openings.{Opening}
-use Rattle.core_state.specs.Steps.{state_after}
+use Rattle.core_crash.specs.core_state.Openings.{Opening}
+use Rattle.core_crash.specs.core_state.Steps.{state_after}
 use Rattle.core_calls.specs.Deeds.{answered, transcript}
 use Rattle.core_calls.specs.Fronts.{Done, front, outcomes}
 use Rattle.core_calls.specs.Durables.{due, durables, moments}

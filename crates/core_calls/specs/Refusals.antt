@@ -7,11 +7,11 @@ use Rattle.map_model.specs.declared.call.Refusal.TheVariants as refusal
 use Rattle.page_model.specs.Nodes.{holds}
 use Rattle.page_model.specs.Redo.{has_key}
 use Rattle.map_model.specs.Lists.{keep}
-use Rattle.image_model.specs.Entries.{is_end}
-use Rattle.core_state.specs.Openings.{Opening}
-use Rattle.core_state.specs.States.{Row, State, flushed_by_all, nodes_of}
-use Rattle.core_state.specs.Events.{Event, Mode}
-use Rattle.core_state.specs.Needs.{is_held_by, is_free, is_reader, may_hold}
+use Rattle.core_crash.specs.image_model.Entries.{is_end}
+use Rattle.core_crash.specs.core_state.Openings.{Opening}
+use Rattle.core_crash.specs.core_state.States.{Row, State, flushed_by_all, nodes_of}
+use Rattle.core_crash.specs.core_state.Events.{Event, Mode}
+use Rattle.core_crash.specs.core_state.Needs.{is_held_by, is_free, is_reader, may_hold}
 use Rattle.core_calls.specs.Room.{is_all_full, room_takes, free_list}
 
 -- What the core does not show. After some events: whether so many of a log's blocks are in use, of those that changes may use, and whether

@@ -5,11 +5,11 @@ use Rattle.page_model.specs.Check.{some_below}
 use Rattle.page_model.specs.Nodes.{Node, covers}
 use Rattle.page_model.specs.Pairs.{Span}
 use Rattle.page_model.specs.Tree.{Names, IsTree}
-use Rattle.core_state.specs.Openings.{Opening}
-use Rattle.core_state.specs.States.{State, nodes_of}
-use Rattle.core_state.specs.Events.{Event}
-use Rattle.core_state.specs.Needs.{may}
-use Rattle.core_state.specs.Steps.{happens}
+use Rattle.core_crash.specs.core_state.Openings.{Opening}
+use Rattle.core_crash.specs.core_state.States.{State, nodes_of}
+use Rattle.core_crash.specs.core_state.Events.{Event}
+use Rattle.core_crash.specs.core_state.Needs.{may}
+use Rattle.core_crash.specs.core_state.Steps.{happens}
 
 -- ## The nodes of the way
 

@@ -3,11 +3,11 @@ use Rattle.std.specs.Prelude.{◌≡◌, ℕ, true, List, [], ◌∷◌, ◌++�
 use Rattle.map_model.specs.Lists.{Has}
 use Rattle.map_model.specs.Journals.{Txn}
 use Rattle.map_model.specs.Transcripts.{journal}
-use Rattle.image_model.specs.Entries.{Entry, Contents}
-use Rattle.core_state.specs.Openings.{Opening}
-use Rattle.core_state.specs.Events.{Event}
-use Rattle.core_state.specs.Needs.{may}
-use Rattle.core_state.specs.Steps.{state_after}
+use Rattle.core_crash.specs.image_model.Entries.{Entry, Contents}
+use Rattle.core_crash.specs.core_state.Openings.{Opening}
+use Rattle.core_crash.specs.core_state.Events.{Event}
+use Rattle.core_crash.specs.core_state.Needs.{may}
+use Rattle.core_crash.specs.core_state.Steps.{state_after}
 use Rattle.core_crash.specs.Crashes.{Leaves, image_of}
 use Rattle.core_calls.specs.Marks.{marks, is_half}
 use Rattle.core_calls.specs.Deeds.{may_follow, Outcome, marks_for, marks_by, AreInTurn, Answers, transcript}

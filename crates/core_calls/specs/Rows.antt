@@ -6,10 +6,10 @@ use Rattle.map_model.specs.declared.call.Call.TheVariants as call
 use Rattle.map_model.specs.declared.call.Refusal.TheVariants as refusal
 use Rattle.map_model.specs.Maps.{MapCall, MapAnswer}
 use Rattle.map_model.specs.Transcripts.{journal}
-use Rattle.core_state.specs.Openings.{Opening, first_map}
-use Rattle.core_state.specs.States.{State}
-use Rattle.core_state.specs.Events.{Event, Mode}
-use Rattle.core_state.specs.Steps.{step, state_after}
+use Rattle.core_crash.specs.core_state.Openings.{Opening, first_map}
+use Rattle.core_crash.specs.core_state.States.{State}
+use Rattle.core_crash.specs.core_state.Events.{Event, Mode}
+use Rattle.core_crash.specs.core_state.Steps.{step, state_after}
 use Rattle.map_model.specs.Pairings.{paired, answers_in}
 use Rattle.core_calls.specs.Deeds.{Deed, Begun, Got, Changed, Deleted, Absent, Met, Over, Committed, Aborted, Refused, Synced, transcript}
 use Rattle.core_calls.specs.Room.{room_takes, free_list}

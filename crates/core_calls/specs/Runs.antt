@@ -2,10 +2,10 @@
 use Rattle.std.specs.Prelude.{◌≡◌, ℕ, Bool, true, false, ◌==◌, List, [], ◌∷◌, ◌++◌, map, if◌then◌else◌}
 use Rattle.map_model.specs.declared.call.Call.TheVariants as call
 use Rattle.map_model.specs.Lists.{any, keep}
-use Rattle.core_state.specs.Openings.{Opening}
-use Rattle.core_state.specs.Events.{Event}
-use Rattle.core_state.specs.Needs.{holds_row}
-use Rattle.core_state.specs.Steps.{run, AllMet, state_after}
+use Rattle.core_crash.specs.core_state.Openings.{Opening}
+use Rattle.core_crash.specs.core_state.Events.{Event}
+use Rattle.core_crash.specs.core_state.Needs.{holds_row}
+use Rattle.core_crash.specs.core_state.Steps.{run, AllMet, state_after}
 use Rattle.map_model.specs.Pairings.{GoesOn}
 use Rattle.core_calls.specs.Marks.{marks, is_half}
 use Rattle.core_calls.specs.Deeds.{Deed, Committed, Aborted, Refused, asked, may_follow, Outcome, marks_for, marks_by, Answers, in_words}

@@ -6,11 +6,11 @@ use Rattle.map_model.specs.declared.call.Refusal.{Refusal}
 use Rattle.map_model.specs.declared.call.Refusal.TheVariants as refusal
 use Rattle.map_model.specs.Lists.{Has}
 use Rattle.map_model.specs.Maps.{MapAnswer}
-use Rattle.core_state.specs.Openings.{Opening}
-use Rattle.core_state.specs.States.{State}
-use Rattle.core_state.specs.Events.{Event, Mode}
-use Rattle.core_state.specs.Needs.{holds_row, is_leaf_of}
-use Rattle.core_state.specs.Steps.{step}
+use Rattle.core_crash.specs.core_state.Openings.{Opening}
+use Rattle.core_crash.specs.core_state.States.{State}
+use Rattle.core_crash.specs.core_state.Events.{Event, Mode}
+use Rattle.core_crash.specs.core_state.Needs.{holds_row, is_leaf_of}
+use Rattle.core_crash.specs.core_state.Steps.{step}
 use Rattle.core_index.specs.Walks.{met_keys}
 use Rattle.core_calls.specs.Deeds.{Deed, Met, Over, Refused, Outcome}
 use Rattle.core_calls.specs.Refusals.{Hinders}

@@ -6,8 +6,8 @@ use Rattle.map_model.specs.declared.call.Refusal.{Refusal}
 use Rattle.map_model.specs.declared.call.Refusal.TheVariants as refusal
 use Rattle.map_model.specs.Maps.{MapAnswer}
 use Rattle.map_model.specs.Histories.{Step}
-use Rattle.core_state.specs.Openings.{Opening}
-use Rattle.core_state.specs.Events.{Event, Mode}
+use Rattle.core_crash.specs.core_state.Openings.{Opening}
+use Rattle.core_crash.specs.core_state.Events.{Event, Mode}
 use Rattle.core_calls.specs.Deeds.{Deed, Begun, Got, Changed, Deleted, Absent, Met, Paused, Over, Committed, Aborted, Refused, Synced, Checkpointed, Unsaid, Outcome}
 use Rattle.core_calls.specs.Refusals.{Limits}
 

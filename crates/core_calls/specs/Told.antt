@@ -6,13 +6,13 @@ use Rattle.map_model.specs.Histories.{Step}
 use Rattle.map_model.specs.Journals.{Txn, Journal, after, Serial, IsClosed}
 use Rattle.map_model.specs.Laws.{IsFalling}
 use Rattle.map_model.specs.Transcripts.{journal}
-use Rattle.image_model.specs.Entries.{Entry, Contents}
-use Rattle.image_model.specs.Ends.{kept, is_kept}
-use Rattle.image_model.specs.Images.{Image, StandsFor, found, won_by}
-use Rattle.core_state.specs.Openings.{Opening, first_map}
-use Rattle.core_state.specs.States.{State}
-use Rattle.core_state.specs.Events.{Event}
-use Rattle.core_state.specs.Steps.{state_after}
+use Rattle.core_crash.specs.image_model.Entries.{Entry, Contents}
+use Rattle.core_crash.specs.image_model.Ends.{kept, is_kept}
+use Rattle.core_crash.specs.image_model.Images.{Image, StandsFor, found, won_by}
+use Rattle.core_crash.specs.core_state.Openings.{Opening, first_map}
+use Rattle.core_crash.specs.core_state.States.{State}
+use Rattle.core_crash.specs.core_state.Events.{Event}
+use Rattle.core_crash.specs.core_state.Steps.{state_after}
 use Rattle.core_crash.specs.Crashes.{Leaves, image_of, journal_in, IsRipe}
 use Rattle.core_calls.specs.Deeds.{Outcome, Answers, transcript}
 

@@ -2,9 +2,9 @@
 use Rattle.std.specs.Prelude.{◌≡◌, ◌<◌, ◌≤◌, ℕ, suc, true, false}
 use Rattle.page_model.specs.Nodes.{covers}
 use Rattle.page_model.specs.Tree.{IsTree}
-use Rattle.core_paging.specs.Paging.{Residence}
-use Rattle.core_state.specs.Openings.{Opening}
-use Rattle.core_state.specs.States.{State, is_hot, nodes_of}
+use Rattle.core_crash.specs.core_paging.Paging.{Residence}
+use Rattle.core_crash.specs.core_state.Openings.{Opening}
+use Rattle.core_crash.specs.core_state.States.{State, is_hot, nodes_of}
 
 -- each page of the key's way is hot, from this level up
 abbrev pub IsWarmFrom : Opening → State → (key level : ℕ) → Type 0

@@ -19,6 +19,8 @@ ghost use Rattle.core_calls.specs.Rows.{Rows, WorkedRoom};
 ghost use Rattle.core_calls.specs.Told.{EveryTold};
 ghost use Rattle.core_calls.specs.Warms.{EveryWarm};
 
+use core_crash::{core_commit, core_paging};
+
 /// The journal that the outcomes of lines tell is the core's: it is serial, and what an image keeps of it is closed and
 /// holds each ripe one.
 pub fn every_told()

@@ -1,7 +1,7 @@
 -- Each event that writes nothing keeps the invariants; so each event does.
 use Rattle.std.proofs.Common.{◌≡◌, ℕ, zero, suc, ◌≤◌, ◌<◌, max, Bool, true, false, cond, if◌then◌else◌, ◌&&◌, ◌||◌, not, leb, ltb, ◌==◌, List, [], ◌∷◌, ◌⊎◌, Option, Some, None, refl, sym, ap, ◌∙◌, subst, inl, inr, arith, true≢false}
 use Rattle.std.proofs.lemmas.Bool.{cases_Bool, cases_eq, cases_lt, eq-eqb, ne_eqb, eqb-true, and_parts, and_from, leb-true, ltb-true, le-leb, lt-leb, and_left, cond-true, cond-false, false_from_ne_true, not_from_true, not_from_false, not-true}
-use Rattle.image_model.specs.Entries.{is_end, is_record, is_call, Entry, same_txn}
+use Rattle.core_state.specs.image_model.Entries.{is_end, is_record, is_call, Entry, same_txn}
 use Rattle.map_model.specs.Lists.{upd, keep, any, Has}
 use Rattle.rfa_model.specs.Reaches.{least}
 use Rattle.core_state.specs.Needs.{is_worker, is_ripe_end, is_ripe_up_to, is_saved_up_to, is_behind, holds_row, may_hold, is_held_by, is_free, is_reader, needs}

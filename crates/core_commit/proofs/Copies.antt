@@ -1,6 +1,6 @@
 -- What is saved of each page: a cold page, and one that is not dirty, is as it was saved.
 use Rattle.map_model.specs.Lists.{upd, all, Has}
-use Rattle.image_model.specs.Entries.{Entry, Contents, touches, written}
+use Rattle.core_state.specs.image_model.Entries.{Entry, Contents, touches, written}
 use Rattle.core_state.specs.States.{Place, State, flushed_by_all, is_hot, is_cold, left_by, start}
 use Rattle.core_state.specs.Openings.{Opening}
 use Rattle.core_state.specs.Needs.{are_hot}

@@ -2,7 +2,7 @@
 use Rattle.map_model.specs.Lists.{upd, Has}
 use Rattle.map_model.specs.Maps.{MapAnswer}
 use Rattle.rfa_model.specs.Stamps.{is_remote, owed, debt_at_begin, need_of}
-use Rattle.image_model.specs.Entries.{Kind, Entry, is_write, touches}
+use Rattle.core_state.specs.image_model.Entries.{Kind, Entry, is_write, touches}
 use Rattle.page_model.specs.Records.{Record}
 use Rattle.page_model.specs.Needs as record_needs
 use Rattle.core_state.specs.Lists.{is_empty}

@@ -12,7 +12,7 @@ use Rattle.page_model.proofs.Check as page_check
 use Rattle.std.proofs.Common.{◌≡◌, ◌+◌, ℕ, suc, ◌≤◌, ◌<◌, max, Bool, true, false, cond, ◌&&◌, ◌||◌, if◌then◌else◌, not, ltb, leb, ◌==◌, List, [], ◌∷◌, ◌⊎◌, Option, Some, None, length, refl, sym, ap, ◌∙◌, subst, inl, inr, arith, true≢false}
 use Rattle.std.proofs.lemmas.Bool.{cases_Bool, cases_eq, cases_lt, eq-eqb, ne_eqb, eqb-true, and_parts, or_cases, or_left, or_right, and_from, leb-true, ltb-true, lt-ltb, le-ltb, and_left, and_right, cond-true, cond-false, not_from_true}
 use Rattle.map_model.specs.Lists.{any, upd, Has}
-use Rattle.image_model.specs.Entries.{Entry, Kind, is_call, is_write, is_end, is_commit, is_record, touches, same_txn, word_in, is_purge, is_page, page_kind, Contents, written}
+use Rattle.core_state.specs.image_model.Entries.{Entry, Kind, is_call, is_write, is_end, is_commit, is_record, touches, same_txn, word_in, is_purge, is_page, page_kind, Contents, written}
 use Rattle.page_model.specs.Records.{Ref, Record}
 use Rattle.core_state.specs.Lists.{is_empty}
 use Rattle.page_model.specs.Pairs.{Pair}
@@ -23,7 +23,7 @@ use Rattle.page_model.specs.Nodes.{Node, holds}
 use Rattle.core_state.specs.Steps.{claims, at_pages, refs_of, end_entry, read_entry, write_entry, page_entry, moves, finished, records_in, writes, put_back, reads, happens}
 use Rattle.core_state.specs.Needs.{may_put, may_put_back, may_split, may_lift, may_join, may_drop, may_purge, is_single, is_dead, is_settled, holds_row, is_held_by, is_free, is_reader, may_read, needs}
 use Rattle.page_model.specs.Tree.{IsTree}
-use Rattle.image_model.specs.Entries.Kind.{Change, Put_back, Split, Lift, Join, Drop, Purge, Read, Commit, Abort}
+use Rattle.core_state.specs.image_model.Entries.Kind.{Change, Put_back, Split, Lift, Join, Drop, Purge, Read, Commit, Abort}
 use Rattle.core_commit.proofs.Lists.{Within}
 use Rattle.map_model.proofs.ListLemmas.{any_has, upd_same, upd_other, at_upd}
 use Rattle.core_commit.proofs.Nodes.{lookup_at, on_key, is_move, Fits, fits_parted, fits_before}

@@ -1,7 +1,7 @@
 -- A cold leaf is read: the pages are a tree with the pairs that were found, and where the opening is faithful nothing changes.
 use Rattle.map_model.specs.Lists.{upd}
 use Rattle.map_model.proofs.ListLemmas.{upd_same, upd_other}
-use Rattle.image_model.specs.Entries.{Contents}
+use Rattle.core_state.specs.image_model.Entries.{Contents}
 use Rattle.page_model.specs.Pairs.{Pair, Has as HasPair, Rising, spans}
 use Rattle.page_model.specs.Records.{any}
 use Rattle.page_model.specs.Nodes.{Format, Node, is_leaf}

@@ -1,7 +1,7 @@
 -- Floors of workers: begins alone change them, and never down.
 use Rattle.map_model.specs.Lists.{upd}
 use Rattle.map_model.specs.Maps.{MapAnswer}
-use Rattle.image_model.specs.Entries.{Entry}
+use Rattle.core_state.specs.image_model.Entries.{Entry}
 use Rattle.core_state.specs.States.{State, Worker, start, flushed_by_all}
 use Rattle.core_state.specs.Openings.{Opening}
 use Rattle.core_state.specs.Events.{Event}

@@ -2,7 +2,7 @@
 use Rattle.page_model.specs.Pairs as pairs
 use Rattle.std.proofs.Common.{◌≡◌, ℕ, ◌≤◌, ◌<◌, max, Bool, true, false, cond, ◌&&◌, ◌||◌, if◌then◌else◌, not, ◌==◌, List, [], ◌∷◌, ◌⊎◌, refl, sym, ap, ◌∙◌, subst, inl, inr, arith}
 use Rattle.std.proofs.lemmas.Bool.{cases_Bool, cond-true, cond-false, eq-eqb, eqb-true, and_parts, and_from}
-use Rattle.image_model.specs.Entries.{is_purge, Entry, is_call, is_write, is_end, is_commit, is_record, same_txn, touches, applied_as, Contents, written}
+use Rattle.core_state.specs.image_model.Entries.{is_purge, Entry, is_call, is_write, is_end, is_commit, is_record, same_txn, touches, applied_as, Contents, written}
 use Rattle.map_model.specs.Lists.{Has}
 use Rattle.page_model.specs.Records.{Ref}
 use Rattle.core_state.specs.Steps.{claims}

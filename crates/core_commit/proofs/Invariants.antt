@@ -2,12 +2,12 @@
 use Rattle.std.proofs.Common.{◌≡◌, ℕ, ◌≤◌, ◌<◌, max, Bool, true, false, cond, ◌&&◌, if◌then◌else◌, not, ltb, ◌==◌, List, [], ◌∷◌, ◌⊎◌, Some, refl, sym, ap, ◌∙◌, inl, inr, arith, true≢false}
 use Rattle.std.proofs.lemmas.Bool.{cases_Bool, cases_eq, cases_lt, ne_eqb, and_from, lt-ltb, and_left, cond-true, cond-false, not_from_false}
 use Rattle.map_model.specs.Lists.{upd, Has}
-use Rattle.image_model.specs.Entries.{Entry, touches, is_call, is_write, is_end, is_record, same_txn, written}
+use Rattle.core_state.specs.image_model.Entries.{Entry, touches, is_call, is_write, is_end, is_record, same_txn, written}
 use Rattle.rfa_model.specs.Stamps.{is_remote}
 use Rattle.core_state.specs.States.{Row, Worker, State, flushed_by_all, nodes_of}
 use Rattle.core_state.specs.Openings.{Opening}
 use Rattle.core_state.specs.Steps.{claims, touch, end_entry}
-use Rattle.image_model.specs.Entries.Kind.{Commit}
+use Rattle.core_state.specs.image_model.Entries.Kind.{Commit}
 use Rattle.core_commit.proofs.KindFacts.{claims_call}
 use Rattle.core_commit.proofs.Lists.{Within, le_least, each_map}
 use Rattle.map_model.proofs.ListLemmas.{upd_same, upd_other, at_upd}

@@ -1,9 +1,9 @@
 -- What each kind of entry is, and is not.
 use Rattle.std.proofs.Common.{◌≡◌, ◌&&◌, ◌==◌, inl, inr, true, false, refl, sym, true≢false}
-use Rattle.image_model.specs.Entries.{Kind, Entry, is_call, is_write, is_end, is_record}
+use Rattle.core_state.specs.image_model.Entries.{Kind, Entry, is_call, is_write, is_end, is_record}
 use Rattle.core_state.specs.Steps.{claims}
 use Rattle.std.proofs.lemmas.Bool.{or_left, or_cases, and_parts}
-use Rattle.image_model.specs.Entries.Kind.{Change, Put_back, Split, Lift, Join, Drop, Purge, Read, Commit, Abort}
+use Rattle.core_state.specs.image_model.Entries.Kind.{Change, Put_back, Split, Lift, Join, Drop, Purge, Read, Commit, Abort}
 
 pub write_is_record : (k : Kind) → is_write k ≡ true → is_record k ≡ true
 write_is_record Read h = absurd (true≢false (sym h))

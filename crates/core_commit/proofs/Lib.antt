@@ -14,3 +14,6 @@ pub mod Says
 pub mod RiseLemmas
 pub mod FloorLemmas
 pub mod HolderLemmas
+-- Passed on to the crates above.
+pub use Rattle.core_state.proofs as core_state_lemmas
+pub use Rattle.core_state.proofs.image_model_lemmas as image_model_lemmas

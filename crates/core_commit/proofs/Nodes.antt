@@ -8,11 +8,11 @@ use Rattle.page_model.proofs.Laws as page_laws
 use Rattle.std.proofs.Common.{◌≡◌, ℕ, ◌<◌, Bool, true, false, ◌&&◌, if◌then◌else◌, ◌==◌, List, ◌⊎◌, Some, None, refl, sym, ap, ◌∙◌, subst, inl, inr, true≢false}
 use Rattle.std.proofs.lemmas.Bool.{cases_Bool, eqb-true, and_parts, and_left, cond-true, cond-false}
 use Rattle.map_model.specs.Lists.{any}
-use Rattle.image_model.specs.Entries.{Entry, Kind, is_write, is_page, is_purge, page_kind, word_in, applied_as, touches}
+use Rattle.core_state.specs.image_model.Entries.{Entry, Kind, is_write, is_page, is_purge, page_kind, word_in, applied_as, touches}
 use Rattle.page_model.specs.Records.{Ref}
 use Rattle.page_model.specs.Nodes.{Format, Node, holds}
 use Rattle.page_model.specs.Tree.{IsTree, lookup}
-use Rattle.image_model.specs.Entries.Kind.{Change, Put_back, Split, Lift, Join, Drop, Purge, Read, Commit, Abort}
+use Rattle.core_state.specs.image_model.Entries.Kind.{Change, Put_back, Split, Lift, Join, Drop, Purge, Read, Commit, Abort}
 use Rattle.page_model.proofs.Entries.{entry_at, holds_to}
 use Rattle.page_model.proofs.Pairs.{some_none}
 use mathlib.Core.Path.{fun_ext}

@@ -1,7 +1,7 @@
 -- What never falls.
 use Rattle.map_model.specs.Lists.{upd}
 use Rattle.map_model.specs.Maps.{MapAnswer}
-use Rattle.image_model.specs.Entries.{Kind, Entry, is_record}
+use Rattle.core_state.specs.image_model.Entries.{Kind, Entry, is_record}
 use Rattle.page_model.specs.Records.{Record}
 use Rattle.page_model.specs.Needs as record_needs
 use Rattle.core_state.specs.Lists.{most}

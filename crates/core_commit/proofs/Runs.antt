@@ -6,7 +6,7 @@ use Rattle.page_model.specs.Tree.{IsTree}
 use Rattle.page_model.specs.Needs as record_needs
 use Rattle.map_model.specs.Lists.{upd}
 use Rattle.map_model.specs.Maps.{MapAnswer}
-use Rattle.image_model.specs.Entries.{Kind, Entry, Contents}
+use Rattle.core_state.specs.image_model.Entries.{Kind, Entry, Contents}
 use Rattle.core_state.specs.Lists.{all_below, at_end, without}
 use Rattle.core_state.specs.States.{Place, State, nodes_of, gsns_of, is_cold, is_cooling, frame_of, left_by, waits_for, start}
 use Rattle.core_state.specs.Openings.{Opening}

@@ -1,6 +1,6 @@
 -- Words as values, and what a write of a word writes.
 use Rattle.map_model.specs.Maps.{MapCall, write_of}
-use Rattle.image_model.specs.Histories.{said, write_call}
+use Rattle.core_state.specs.image_model.Histories.{said, write_call}
 use Rattle.page_model.specs.Nodes.{Format}
 use Rattle.page_model.specs.Tree.{value_of, word_or}
 use Rattle.std.proofs.Common.{◌≡◌, ℕ, Bool, true, false, cond, ltb, ◌==◌, Option, Some, None, refl, sym, ap, ◌∙◌, arith}

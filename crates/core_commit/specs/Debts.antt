@@ -1,7 +1,7 @@
 -- What a worker knows of the logs of others, and which number its end needs.
 use Rattle.map_model.specs.Lists.{Has}
 use Rattle.rfa_model.specs.Stamps.{is_remote, need_of}
-use Rattle.image_model.specs.Entries.{Entry, is_write, is_end, same_txn, touches}
+use Rattle.core_state.specs.image_model.Entries.{Entry, is_write, is_end, same_txn, touches}
 use Rattle.core_state.specs.States.{State, start, flushed_by_all}
 use Rattle.core_state.specs.Openings.{Opening}
 use Rattle.core_state.specs.Events.{Event}

@@ -3,20 +3,20 @@ use Rattle.std.proofs.Common.{◌≡◌, ◌⊎◌, inl, inr, ◌≤◌, ◌<◌
 use Rattle.std.proofs.lemmas.List.{append-nil}
 use Rattle.map_model.specs.Lists.{Has}
 use Rattle.map_model.specs.Maps.{MapAnswer}
-use Rattle.image_model.specs.Entries.{Contents, Entry, Kind, is_record, touches, word_in}
+use Rattle.core_paging.specs.image_model.Entries.{Contents, Entry, Kind, is_record, touches, word_in}
 use Rattle.page_model.specs.Needs as record_needs
 use Rattle.page_model.specs.Records.{Record}
-use Rattle.core_state.specs.Openings.{Opening}
-use Rattle.core_state.specs.States.{State, Worker, flushed_by_all, gsns_of, is_cold, nodes_of, start}
-use Rattle.core_state.specs.Events.{Event}
-use Rattle.core_state.specs.Needs.{is_held_by}
-use Rattle.core_state.specs.Steps.{at_pages, end_entry, follows, happens, moves, page_entry, put_back, read_entry, state_after, step, reads, refs_of, write_entry, writes}
-use Rattle.core_state.proofs.Runs.{run_more}
-use Rattle.core_commit.specs.Rises.{EveryRise}
-use Rattle.core_commit.proofs.History.{Recorded, IsRecorded, number_le_gsn}
-use Rattle.core_commit.proofs.Invariants.{Inv}
-use Rattle.core_commit.proofs.Lists.{Within, each_at, has_before, least_le}
-use Rattle.core_commit.proofs.Runs.{Good, good_run, good_start, good_step, step_keeps}
+use Rattle.core_paging.specs.core_state.Openings.{Opening}
+use Rattle.core_paging.specs.core_state.States.{State, Worker, flushed_by_all, gsns_of, is_cold, nodes_of, start}
+use Rattle.core_paging.specs.core_state.Events.{Event}
+use Rattle.core_paging.specs.core_state.Needs.{is_held_by}
+use Rattle.core_paging.specs.core_state.Steps.{at_pages, end_entry, follows, happens, moves, page_entry, put_back, read_entry, state_after, step, reads, refs_of, write_entry, writes}
+use Rattle.core_paging.proofs.core_state_lemmas.Runs.{run_more}
+use Rattle.core_paging.specs.core_commit.Rises.{EveryRise}
+use Rattle.core_paging.proofs.core_commit_lemmas.History.{Recorded, IsRecorded, number_le_gsn}
+use Rattle.core_paging.proofs.core_commit_lemmas.Invariants.{Inv}
+use Rattle.core_paging.proofs.core_commit_lemmas.Lists.{Within, each_at, has_before, least_le}
+use Rattle.core_paging.proofs.core_commit_lemmas.Runs.{Good, good_run, good_start, good_step, step_keeps}
 use Rattle.core_paging.specs.Paging.{EveryResidence}
 use Rattle.core_covers.specs.Changes.{EveryChange, HasChanges}
 use Rattle.core_covers.specs.Highs.{written_in}

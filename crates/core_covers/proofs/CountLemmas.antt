@@ -2,7 +2,7 @@
 use Rattle.std.proofs.Common.{◌≡◌, ◌⊎◌, inl, inr, ◌≤◌, ◌<◌, ◌+◌, ◌==◌, ◌||◌, ℕ, zero, suc, Bool, true, false, cond, List, [], ◌∷◌, length, refl, sym, arith, true≢false}
 use Rattle.std.proofs.lemmas.Bool.{eq-eqb, eqb-true, ne_eqb, or_left, or_right}
 use Rattle.map_model.specs.Lists.{Has}
-use Rattle.core_state.specs.Lists.{count_below}
+use Rattle.core_paging.specs.core_state.Lists.{count_below}
 
 -- a test that passes where another does
 pub count_mono : (n : ℕ) (p q : ℕ → Bool) → ((i : ℕ) → i < n → q i ≡ true → p i ≡ true) → count_below n q ≤ count_below n p

@@ -5,16 +5,16 @@ use Rattle.std.proofs.lemmas.List.{append-nil}
 use Rattle.std.proofs.lemmas.Nat.{mod_below}
 use Rattle.map_model.specs.Lists.{upd}
 use Rattle.map_model.specs.Maps.{MapAnswer}
-use Rattle.image_model.specs.Entries.{Entry}
-use Rattle.core_state.specs.Openings.{Opening}
-use Rattle.core_state.specs.States.{Place, State, flushed_by_all, frame_of, in_frame, is_cold, left_by}
-use Rattle.core_state.specs.Events.{Event}
-use Rattle.core_state.specs.Needs.{are_hot, is_inside, needs, pages_of}
-use Rattle.core_state.specs.Steps.{follows, happens, put_back, state_after, step, with_pairs}
-use Rattle.core_commit.specs.Rises.{EveryRise}
-use Rattle.core_commit.proofs.Copies.{at_place}
-use Rattle.core_commit.proofs.Lists.{le_least}
-use Rattle.core_commit.proofs.Runs.{load_cold, step_keeps}
+use Rattle.core_paging.specs.image_model.Entries.{Entry}
+use Rattle.core_paging.specs.core_state.Openings.{Opening}
+use Rattle.core_paging.specs.core_state.States.{Place, State, flushed_by_all, frame_of, in_frame, is_cold, left_by}
+use Rattle.core_paging.specs.core_state.Events.{Event}
+use Rattle.core_paging.specs.core_state.Needs.{are_hot, is_inside, needs, pages_of}
+use Rattle.core_paging.specs.core_state.Steps.{follows, happens, put_back, state_after, step, with_pairs}
+use Rattle.core_paging.specs.core_commit.Rises.{EveryRise}
+use Rattle.core_paging.proofs.core_commit_lemmas.Copies.{at_place}
+use Rattle.core_paging.proofs.core_commit_lemmas.Lists.{le_least}
+use Rattle.core_paging.proofs.core_commit_lemmas.Runs.{load_cold, step_keeps}
 use Rattle.core_covers.specs.Changes.{EveryChange, HasChanges}
 use Rattle.core_covers.specs.Covers.{AreCovers, EveryBaseCover, EveryCover, IsCovered, IsSettled, IsShardSaved, shard_of}
 use Rattle.core_covers.proofs.ChangeLemmas.{has_more, state_then}

@@ -3,16 +3,16 @@ use Rattle.std.proofs.Common.{◌≡◌, inl, inr, ◌≤◌, ◌<◌, ◌==◌,
 use Rattle.std.proofs.lemmas.Bool.{and_parts, and_from, cases_Bool, le-leb, leb-true, or_left, or_right, not-true, not_from_false, cases_lt, cond-true, cond-false, eq-eqb}
 use Rattle.map_model.specs.Lists.{Has, all, any}
 use Rattle.map_model.proofs.ListLemmas.{any_has, has_any}
-use Rattle.image_model.specs.Entries.{Entry, is_end, is_record, same_txn}
+use Rattle.core_paging.specs.image_model.Entries.{Entry, is_end, is_record, same_txn}
 use Rattle.page_model.specs.Records.{Ref}
-use Rattle.core_state.specs.Openings.{Opening}
-use Rattle.core_state.specs.States.{State, flushed_by_all}
-use Rattle.core_state.specs.Events.{Event}
-use Rattle.core_state.specs.Needs.{is_ripe_end, is_ripe_up_to, is_saved_up_to}
-use Rattle.core_state.specs.Steps.{state_after}
-use Rattle.core_commit.proofs.History.{EndOf, ref_touch, same_from, same_to}
-use Rattle.core_commit.proofs.Invariants.{Inv}
-use Rattle.core_commit.proofs.Lists.{Within, least_le}
+use Rattle.core_paging.specs.core_state.Openings.{Opening}
+use Rattle.core_paging.specs.core_state.States.{State, flushed_by_all}
+use Rattle.core_paging.specs.core_state.Events.{Event}
+use Rattle.core_paging.specs.core_state.Needs.{is_ripe_end, is_ripe_up_to, is_saved_up_to}
+use Rattle.core_paging.specs.core_state.Steps.{state_after}
+use Rattle.core_paging.proofs.core_commit_lemmas.History.{EndOf, ref_touch, same_from, same_to}
+use Rattle.core_paging.proofs.core_commit_lemmas.Invariants.{Inv}
+use Rattle.core_paging.proofs.core_commit_lemmas.Lists.{Within, least_le}
 use Rattle.core_covers.specs.Changes.{EveryChange, HasChanges}
 use Rattle.core_covers.specs.Cuts.{EveryCutMet, EveryCutNumber}
 use Rattle.core_covers.specs.Lows.{IsAllFlushed}

@@ -3,14 +3,14 @@ use Rattle.std.proofs.Common.{◌≡◌, ◌⊎◌, inl, inr, ◌≤◌, ◌==�
 use Rattle.std.proofs.lemmas.Bool.{and_parts, cases_Bool, cond-true, cond-false, eqb-true}
 use Rattle.map_model.specs.Lists.{Has}
 use Rattle.map_model.proofs.ListLemmas.{upd_same}
-use Rattle.image_model.specs.Entries.{Entry, is_record}
-use Rattle.core_state.specs.Openings.{Opening}
-use Rattle.core_state.specs.States.{State, Worker, flushed_by_all}
-use Rattle.core_state.specs.Events.{Event}
-use Rattle.core_state.specs.Needs.{may}
-use Rattle.core_state.specs.Steps.{begun, finished, happens, state_after}
-use Rattle.core_commit.proofs.History.{IsRecorded}
-use Rattle.core_commit.proofs.Invariants.{Inv}
+use Rattle.core_paging.specs.image_model.Entries.{Entry, is_record}
+use Rattle.core_paging.specs.core_state.Openings.{Opening}
+use Rattle.core_paging.specs.core_state.States.{State, Worker, flushed_by_all}
+use Rattle.core_paging.specs.core_state.Events.{Event}
+use Rattle.core_paging.specs.core_state.Needs.{may}
+use Rattle.core_paging.specs.core_state.Steps.{begun, finished, happens, state_after}
+use Rattle.core_paging.proofs.core_commit_lemmas.History.{IsRecorded}
+use Rattle.core_paging.proofs.core_commit_lemmas.Invariants.{Inv}
 use Rattle.core_covers.proofs.ChangeLemmas.{good, state_then}
 use Rattle.core_covers.specs.Firsts.{EveryFirst, EveryFirstStep, IsNotBeforeFirst, first_of, is_own, oldest, or_else}
 

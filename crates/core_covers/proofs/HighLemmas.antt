@@ -3,15 +3,15 @@ use Rattle.std.proofs.Common.{◌≡◌, ◌⊎◌, inl, inr, ◌≤◌, ◌+◌
 use Rattle.std.proofs.lemmas.Bool.{cases_Bool, lt-ltb, ltb-true}
 use Rattle.std.proofs.lemmas.List.{append-nil}
 use Rattle.map_model.specs.Lists.{Has}
-use Rattle.image_model.specs.Entries.{Contents, Entry, touches}
-use Rattle.core_state.specs.Openings.{Opening}
-use Rattle.core_state.specs.States.{State, flushed_by_all}
-use Rattle.core_state.specs.Events.{Event}
-use Rattle.core_state.specs.Steps.{state_after, step}
-use Rattle.core_commit.specs.Rises.{EveryRise}
-use Rattle.core_commit.proofs.Events.{touch_has}
-use Rattle.core_commit.proofs.History.{page_at, page_miss}
-use Rattle.core_commit.proofs.Runs.{Good, good_step}
+use Rattle.core_paging.specs.image_model.Entries.{Contents, Entry, touches}
+use Rattle.core_paging.specs.core_state.Openings.{Opening}
+use Rattle.core_paging.specs.core_state.States.{State, flushed_by_all}
+use Rattle.core_paging.specs.core_state.Events.{Event}
+use Rattle.core_paging.specs.core_state.Steps.{state_after, step}
+use Rattle.core_paging.specs.core_commit.Rises.{EveryRise}
+use Rattle.core_paging.proofs.core_commit_lemmas.Events.{touch_has}
+use Rattle.core_paging.proofs.core_commit_lemmas.History.{page_at, page_miss}
+use Rattle.core_paging.proofs.core_commit_lemmas.Runs.{Good, good_step}
 use Rattle.core_covers.specs.Highs.{EveryHigh, is_above, pages_above, written_in, writes}
 use Rattle.core_covers.specs.Lows.{EveryLow, IsAllFlushed}
 use Rattle.core_covers.proofs.ChangeLemmas.{Enters, enters_step, good, state_then}

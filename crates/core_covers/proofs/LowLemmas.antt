@@ -3,20 +3,20 @@ use Rattle.std.proofs.Common.{◌≡◌, ◌⊎◌, ◌≤◌, ◌==◌, ◌&&�
 use Rattle.std.proofs.lemmas.Bool.{and_from, and_parts, cond-true, eqb-true, le-leb, not_from_false}
 use Rattle.std.proofs.lemmas.List.{append-nil}
 use Rattle.map_model.specs.Lists.{Has, any}
-use Rattle.image_model.specs.Entries.{Entry, touches, written}
-use Rattle.core_state.specs.Lists.{most}
-use Rattle.core_state.specs.Openings.{Opening}
-use Rattle.core_state.specs.States.{State, flushed_by_all, is_cold}
-use Rattle.core_state.specs.Events.{Event}
-use Rattle.core_state.specs.Needs.{is_behind, may}
-use Rattle.core_state.specs.Steps.{begun, happens, state_after}
-use Rattle.core_commit.specs.Rises.{EveryRise}
-use Rattle.core_commit.proofs.Controls.{le_most}
-use Rattle.core_commit.proofs.Copies.{at_place}
-use Rattle.core_commit.proofs.History.{page_at}
-use Rattle.core_commit.proofs.Invariants.{Inv, base_flushed}
-use Rattle.core_commit.proofs.Lists.{le_least}
-use Rattle.core_commit.proofs.Runs.{step_keeps}
+use Rattle.core_paging.specs.image_model.Entries.{Entry, touches, written}
+use Rattle.core_paging.specs.core_state.Lists.{most}
+use Rattle.core_paging.specs.core_state.Openings.{Opening}
+use Rattle.core_paging.specs.core_state.States.{State, flushed_by_all, is_cold}
+use Rattle.core_paging.specs.core_state.Events.{Event}
+use Rattle.core_paging.specs.core_state.Needs.{is_behind, may}
+use Rattle.core_paging.specs.core_state.Steps.{begun, happens, state_after}
+use Rattle.core_paging.specs.core_commit.Rises.{EveryRise}
+use Rattle.core_paging.proofs.core_commit_lemmas.Controls.{le_most}
+use Rattle.core_paging.proofs.core_commit_lemmas.Copies.{at_place}
+use Rattle.core_paging.proofs.core_commit_lemmas.History.{page_at}
+use Rattle.core_paging.proofs.core_commit_lemmas.Invariants.{Inv, base_flushed}
+use Rattle.core_paging.proofs.core_commit_lemmas.Lists.{le_least}
+use Rattle.core_paging.proofs.core_commit_lemmas.Runs.{step_keeps}
 use Rattle.core_covers.specs.Lows.{EveryLow, EverySync, IsAllFlushed, raises_clock}
 use Rattle.core_covers.proofs.ChangeLemmas.{good, recorded, state_then}
 

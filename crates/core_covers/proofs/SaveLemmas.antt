@@ -2,13 +2,13 @@
 use Rattle.std.proofs.Common.{◌≡◌, inl, inr, ◌≤◌, ℕ, true, List, [], ◌∷◌, ◌++◌, refl, sym, ap, ◌∙◌, subst, arith}
 use Rattle.std.proofs.lemmas.Bool.{cases_Bool, cond-true, ltb-false}
 use Rattle.map_model.specs.Lists.{Has}
-use Rattle.core_state.specs.Openings.{Opening}
-use Rattle.core_state.specs.States.{Place, State, in_frame, start}
-use Rattle.core_state.specs.Events.{Event}
-use Rattle.core_state.specs.Needs.{is_dirty, may}
-use Rattle.core_state.specs.Steps.{AllMet, happens, run, state_after, step}
-use Rattle.core_state.proofs.Runs.{run_more}
-use Rattle.core_commit.proofs.Copies.{at_place}
+use Rattle.core_paging.specs.core_state.Openings.{Opening}
+use Rattle.core_paging.specs.core_state.States.{Place, State, in_frame, start}
+use Rattle.core_paging.specs.core_state.Events.{Event}
+use Rattle.core_paging.specs.core_state.Needs.{is_dirty, may}
+use Rattle.core_paging.specs.core_state.Steps.{AllMet, happens, run, state_after, step}
+use Rattle.core_paging.proofs.core_state_lemmas.Runs.{run_more}
+use Rattle.core_paging.proofs.core_commit_lemmas.Copies.{at_place}
 use Rattle.core_covers.specs.Changes.{EveryChange}
 use Rattle.core_covers.specs.Covers.{EveryIncrement, saves}
 

@@ -1,11 +1,11 @@
 -- Which contents of a page have its changes up to a number. Contents are known by their own number here, that of the last record that they have.
 use Rattle.std.specs.Prelude.{◌≡◌, ◌≤◌, ℕ, true, List, ◌++◌}
 use Rattle.map_model.specs.Lists.{Has}
-use Rattle.image_model.specs.Entries.{Entry, touches}
-use Rattle.core_state.specs.Openings.{Opening}
-use Rattle.core_state.specs.States.{State, flushed_by_all, is_cold}
-use Rattle.core_state.specs.Events.{Event}
-use Rattle.core_state.specs.Steps.{state_after}
+use Rattle.core_paging.specs.image_model.Entries.{Entry, touches}
+use Rattle.core_paging.specs.core_state.Openings.{Opening}
+use Rattle.core_paging.specs.core_state.States.{State, flushed_by_all, is_cold}
+use Rattle.core_paging.specs.core_state.Events.{Event}
+use Rattle.core_paging.specs.core_state.Steps.{state_after}
 
 -- contents of page p with the number n have its changes up to x
 abbrev pub HasChanges : State → (p x n : ℕ) → Type 0

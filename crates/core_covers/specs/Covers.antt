@@ -1,11 +1,11 @@
 -- What the covers of the shards know. Frames are dealt to eight shards; the cover of a shard is what was flushed everywhere when its pages were saved last.
 use Rattle.std.specs.Prelude.{◌≡◌, ◌<◌, ◌≤◌, ◌%◌, ◌++◌, ◌∷◌, ℕ, true, List, []}
 use Rattle.map_model.specs.Lists.{Has, upd}
-use Rattle.core_state.specs.Openings.{Opening}
-use Rattle.core_state.specs.States.{State, flushed_by_all, in_frame, start}
-use Rattle.core_state.specs.Events.{Event}
-use Rattle.core_state.specs.Needs.{is_dirty}
-use Rattle.core_state.specs.Steps.{AllMet, state_after}
+use Rattle.core_paging.specs.core_state.Openings.{Opening}
+use Rattle.core_paging.specs.core_state.States.{State, flushed_by_all, in_frame, start}
+use Rattle.core_paging.specs.core_state.Events.{Event}
+use Rattle.core_paging.specs.core_state.Needs.{is_dirty}
+use Rattle.core_paging.specs.core_state.Steps.{AllMet, state_after}
 use Rattle.core_covers.specs.Changes.{HasChanges}
 
 -- how many shards there are

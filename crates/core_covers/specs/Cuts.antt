@@ -1,10 +1,10 @@
 -- The number of a cut, and that its need is met.
 use Rattle.std.specs.Prelude.{◌≡◌, ◌<◌, ◌≤◌, ℕ, true, List}
-use Rattle.core_state.specs.Openings.{Opening}
-use Rattle.core_state.specs.States.{State, flushed_by_all}
-use Rattle.core_state.specs.Events.{Event}
-use Rattle.core_state.specs.Needs.{is_ripe_up_to, may}
-use Rattle.core_state.specs.Steps.{state_after}
+use Rattle.core_paging.specs.core_state.Openings.{Opening}
+use Rattle.core_paging.specs.core_state.States.{State, flushed_by_all}
+use Rattle.core_paging.specs.core_state.Events.{Event}
+use Rattle.core_paging.specs.core_state.Needs.{is_ripe_up_to, may}
+use Rattle.core_paging.specs.core_state.Steps.{state_after}
 use Rattle.core_covers.specs.Changes.{HasChanges}
 use Rattle.core_covers.specs.Covers.{AreCovers, IsCovered}
 use Rattle.core_covers.specs.Firsts.{IsBelowFirsts}

@@ -1,10 +1,10 @@
 -- How many pages are above what is flushed everywhere, so that they can't be saved before a sync.
 use Rattle.std.specs.Prelude.{◌≡◌, ◌≤◌, ◌+◌, ◌++◌, ℕ, Bool, ltb, List, [], ◌∷◌, length}
-use Rattle.core_state.specs.Lists.{count_below}
-use Rattle.core_state.specs.Openings.{Opening}
-use Rattle.core_state.specs.States.{State, flushed_by_all}
-use Rattle.core_state.specs.Events.{Event}
-use Rattle.core_state.specs.Steps.{state_after}
+use Rattle.core_paging.specs.core_state.Lists.{count_below}
+use Rattle.core_paging.specs.core_state.Openings.{Opening}
+use Rattle.core_paging.specs.core_state.States.{State, flushed_by_all}
+use Rattle.core_paging.specs.core_state.Events.{Event}
+use Rattle.core_paging.specs.core_state.Steps.{state_after}
 use Rattle.core_covers.specs.Lows.{IsAllFlushed}
 
 -- page p is

@@ -1,11 +1,11 @@
 -- Behind a sync no page is above what is flushed everywhere, and each may be saved.
 use Rattle.std.specs.Prelude.{◌≡◌, ◌<◌, ◌≤◌, ◌++◌, ℕ, Bool, true, false, List, [], ◌∷◌}
 use Rattle.map_model.specs.Lists.{any}
-use Rattle.core_state.specs.Openings.{Opening}
-use Rattle.core_state.specs.States.{State, flushed_by_all, is_cold}
-use Rattle.core_state.specs.Events.{Event}
-use Rattle.core_state.specs.Needs.{may}
-use Rattle.core_state.specs.Steps.{state_after}
+use Rattle.core_paging.specs.core_state.Openings.{Opening}
+use Rattle.core_paging.specs.core_state.States.{State, flushed_by_all, is_cold}
+use Rattle.core_paging.specs.core_state.Events.{Event}
+use Rattle.core_paging.specs.core_state.Needs.{may}
+use Rattle.core_paging.specs.core_state.Steps.{state_after}
 
 -- no worker's clock is above what is flushed everywhere, as a sync leaves it
 abbrev pub IsAllFlushed : Opening → State → Type 0

@@ -11,6 +11,8 @@ ghost use Rattle.core_covers.specs.Firsts.{EveryFirst, EveryFirstStep};
 ghost use Rattle.core_covers.specs.Highs.{EveryHigh};
 ghost use Rattle.core_covers.specs.Lows.{EveryLow, EverySync};
 
+use core_paging::core_commit;
+
 /// Which contents of a page have its changes up to a number, and that they have them from then on.
 pub fn every_change()
     ensures { EveryChange }

@@ -7,10 +7,10 @@ use Rattle.page_model.specs.Nodes.{Format, Node}
 use Rattle.page_model.specs.Tree.{IsTree, value_of}
 use Rattle.page_model.specs.Nodes.{holds}
 use Rattle.page_model.proofs.Check as page_check
-use Rattle.image_model.specs.Entries.{Entry}
-use Rattle.core_state.specs.States.{State, start}
-use Rattle.core_state.specs.Openings.{Opening, start_page, first_map}
-use Rattle.core_state.specs.Steps.{run}
+use Rattle.core_paging.specs.image_model.Entries.{Entry}
+use Rattle.core_paging.specs.core_state.States.{State, start}
+use Rattle.core_paging.specs.core_state.Openings.{Opening, start_page, first_map}
+use Rattle.core_paging.specs.core_state.Steps.{run}
 use Rattle.core_crash.specs.Crashes.{Leaves, IsPrefix, log_of, kept_in}
 use Rattle.core_crash.specs.Example.{events, logs_left, second, Example, image, WorkedExample}
 use Rattle.core_crash.proofs.Recovery.{every_crash}

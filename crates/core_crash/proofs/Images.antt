@@ -4,26 +4,26 @@ use Rattle.std.proofs.Common.{◌≡◌, ℕ, zero, suc, ◌≤◌, ◌<◌, max
 use Rattle.std.proofs.lemmas.Bool.{cases_eq, cases_lt, cases_order, eq-eqb, eqb-true, and_parts, or_cases, or_left, or_right, and_from, lt-ltb}
 use Rattle.map_model.specs.Lists.{any, keep, Has}
 use Rattle.rfa_model.specs.Reaches.{least}
-use Rattle.image_model.specs.Entries.{earlier, Entry, is_record, is_write, is_commit, same_txn, Contents}
+use Rattle.core_paging.specs.image_model.Entries.{earlier, Entry, is_record, is_write, is_commit, same_txn, Contents}
 use Rattle.core_crash.proofs.Words.{tested, found, is_cut, there, recovered, left, Crash, Stands, Done, journal, after, wins, kept, IsClosed, IsRipe}
 use Rattle.map_model.specs.Lists.{in_order, insert_by}
-use Rattle.image_model.specs.Ends.{greatest, reach, ends, ended}
-use Rattle.image_model.specs.Redo.{Redone, redo}
-use Rattle.image_model.specs.Undo.{undo, values, is_lost}
+use Rattle.core_paging.specs.image_model.Ends.{greatest, reach, ends, ended}
+use Rattle.core_paging.specs.image_model.Redo.{Redone, redo}
+use Rattle.core_paging.specs.image_model.Undo.{undo, values, is_lost}
 use Rattle.page_model.specs.Tree.{IsTree}
-use Rattle.core_state.specs.States.{State, start, flushed_by_all}
-use Rattle.core_state.specs.Openings.{Opening, first}
-use Rattle.core_state.specs.Events.{Event}
-use Rattle.core_state.specs.Steps.{run}
+use Rattle.core_paging.specs.core_state.States.{State, start, flushed_by_all}
+use Rattle.core_paging.specs.core_state.Openings.{Opening, first}
+use Rattle.core_paging.specs.core_state.Events.{Event}
+use Rattle.core_paging.specs.core_state.Steps.{run}
 use Rattle.core_crash.specs.Crashes.{log_of, IsPrefix, Leaves, from_head}
-use Rattle.image_model.specs.Images.{gathered}
-use Rattle.core_commit.proofs.Lists.{Within, Each, has_before, each_at}
+use Rattle.core_paging.specs.image_model.Images.{gathered}
+use Rattle.core_paging.proofs.core_commit_lemmas.Lists.{Within, Each, has_before, each_at}
 use Rattle.map_model.proofs.ListLemmas.{any_has, has_any, keep_has, has_keep, insert_has, order_has, has_order, has_cases, has_left, has_right}
-use Rattle.core_commit.proofs.History.{Recorded, IsRecorded}
+use Rattle.core_paging.proofs.core_commit_lemmas.History.{Recorded, IsRecorded}
 use Rattle.core_crash.proofs.Ends.{le_greatest, found_from, found_to}
 use Rattle.core_crash.proofs.Cuts.{keep_same, same_bool}
-use Rattle.core_commit.proofs.Invariants.{Inv}
-use Rattle.core_commit.proofs.Runs.{good_run, good_start}
+use Rattle.core_paging.proofs.core_commit_lemmas.Invariants.{Inv}
+use Rattle.core_paging.proofs.core_commit_lemmas.Runs.{good_run, good_start}
 use Rattle.core_crash.proofs.Main.{every_crash}
 use mathlib.Core.Path.{fun_ext}
 

@@ -2,17 +2,17 @@
 use Rattle.std.proofs.Common.{◌≡◌, ℕ, ◌≤◌, Bool, true, false, cond, ◌&&◌, if◌then◌else◌, not, leb, ◌==◌, List, [], ◌∷◌, ◌⊎◌, refl, sym, ap, ◌∙◌, subst, inl, inr, arith, true≢false}
 use Rattle.std.proofs.lemmas.Bool.{cases_Bool, cases_eq, eq-eqb, ne_eqb, and_parts, and_from, leb-true, le-leb, and_left, and_right, cond-true, cond-false, false_from_ne_true, not_from_false, not-true}
 use Rattle.map_model.specs.Lists.{upd, keep, any, Has}
-use Rattle.image_model.specs.Entries.{Entry, Kind, is_write, is_end, is_commit, same_txn}
-use Rattle.core_state.specs.Openings.{first, Opening}
+use Rattle.core_paging.specs.image_model.Entries.{Entry, Kind, is_write, is_end, is_commit, same_txn}
+use Rattle.core_paging.specs.core_state.Openings.{first, Opening}
 use Rattle.core_crash.proofs.Words.{found, Done, calls_of, committed, write_all, after, wins}
-use Rattle.core_commit.proofs.KindFacts.{write_claims, write_is_call, write_is_record, write_is_no_end}
-use Rattle.image_model.specs.Entries.Kind.{Change, Put_back, Split, Lift, Join, Drop, Purge, Read, Commit, Abort}
-use Rattle.core_commit.proofs.Lists.{Before, has_before, before_has, behind_has, each_at, pick, Newest, NoneOf, newest, newest_before, newest_holds, newest_first, newest_from, pick_newest, pick_none}
+use Rattle.core_paging.proofs.core_commit_lemmas.KindFacts.{write_claims, write_is_call, write_is_record, write_is_no_end}
+use Rattle.core_paging.specs.image_model.Entries.Kind.{Change, Put_back, Split, Lift, Join, Drop, Purge, Read, Commit, Abort}
+use Rattle.core_paging.proofs.core_commit_lemmas.Lists.{Before, has_before, before_has, behind_has, each_at, pick, Newest, NoneOf, newest, newest_before, newest_holds, newest_first, newest_from, pick_newest, pick_none}
 use Rattle.map_model.proofs.ListLemmas.{any_has, has_any, keep_has, has_keep, upd_same, upd_other}
 use Rattle.core_crash.proofs.Order.{fold_up}
-use Rattle.core_commit.proofs.History.{SameTxn, same_to, same_from, EndOf, Closes, Recorded, Entered, IsHistory, history_pick, history_value, not_by, without, before_trans, each_behind}
+use Rattle.core_paging.proofs.core_commit_lemmas.History.{SameTxn, same_to, same_from, EndOf, Closes, Recorded, Entered, IsHistory, history_pick, history_value, not_by, without, before_trans, each_behind}
 use Rattle.core_crash.proofs.Ends.{Cut, Ended, is_ended, ended_to, ended_from, ended_rows, behind_end, one_end}
-use Rattle.core_commit.proofs.Nodes.{key_parts, on_key}
+use Rattle.core_paging.proofs.core_commit_lemmas.Nodes.{key_parts, on_key}
 use Rattle.core_crash.proofs.Undo.{stays, lasting}
 
 pub commit_is_end : (k : Kind) → is_commit k ≡ true → is_end k ≡ true

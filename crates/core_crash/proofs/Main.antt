@@ -2,25 +2,25 @@
 use Rattle.std.proofs.Common.{◌≡◌, ℕ, ◌≤◌, true, List, [], ◌∷◌, refl, sym, ◌∙◌, subst, inl, inr, arith}
 use Rattle.std.proofs.lemmas.Bool.{leb-true}
 use Rattle.map_model.specs.Lists.{Has, keep}
-use Rattle.image_model.specs.Entries.{Entry, Contents}
-use Rattle.core_state.specs.States.{State, flushed_by_all, start}
-use Rattle.core_state.specs.Openings.{Opening}
+use Rattle.core_paging.specs.image_model.Entries.{Entry, Contents}
+use Rattle.core_paging.specs.core_state.States.{State, flushed_by_all, start}
+use Rattle.core_paging.specs.core_state.Openings.{Opening}
 use Rattle.map_model.specs.Maps.{MapAnswer}
-use Rattle.core_state.specs.Events.{Event}
-use Rattle.core_state.specs.Steps.{follows, happens, step, run, put_back}
+use Rattle.core_paging.specs.core_state.Events.{Event}
+use Rattle.core_paging.specs.core_state.Steps.{follows, happens, step, run, put_back}
 use Rattle.core_crash.proofs.Words.{found, is_cut, EveryCrash, Done, committed, done_earlier, journal, IsRipe}
-use Rattle.image_model.specs.Ends.{reach}
-use Rattle.core_commit.proofs.KindFacts.{end_is_record}
-use Rattle.core_commit.proofs.Lists.{Within, has_before, before_has, each_at}
-use Rattle.core_state.specs.Steps.{HasBeen}
+use Rattle.core_paging.specs.image_model.Ends.{reach}
+use Rattle.core_paging.proofs.core_commit_lemmas.KindFacts.{end_is_record}
+use Rattle.core_paging.proofs.core_commit_lemmas.Lists.{Within, has_before, before_has, each_at}
+use Rattle.core_paging.specs.core_state.Steps.{HasBeen}
 use Rattle.map_model.proofs.ListLemmas.{order_has}
-use Rattle.core_commit.proofs.History.{Recorded, page_at}
+use Rattle.core_paging.proofs.core_commit_lemmas.History.{Recorded, page_at}
 use Rattle.core_crash.proofs.Ends.{Cut, reach_all, F_reach, ended_from, found_from}
 use Rattle.core_crash.proofs.Redo.{Had}
 use Rattle.core_crash.proofs.Journal.{stood}
 use Rattle.core_crash.proofs.Cuts.{CutOff, stands_for, ripe_kept}
-use Rattle.core_commit.proofs.Invariants.{Inv}
-use Rattle.core_commit.proofs.Runs.{Good, step_keeps, good_step, good_run, good_start}
+use Rattle.core_paging.proofs.core_commit_lemmas.Invariants.{Inv}
+use Rattle.core_paging.proofs.core_commit_lemmas.Runs.{Good, step_keeps, good_step, good_run, good_start}
 
 had_now : (g : Opening) (h : List Entry) (p : ℕ) → Had g h p (page_at g h p)
 had_now g [] p = refl

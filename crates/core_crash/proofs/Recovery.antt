@@ -2,21 +2,21 @@
 use Rattle.map_model.specs.Lists.{Has, keep}
 use Rattle.map_model.specs.Journals as maps
 use Rattle.map_model.specs.Journals.{Txn}
-use Rattle.image_model.specs.Entries.{Entry, Contents, earlier, same_txn}
-use Rattle.image_model.specs.Redo.{redo, all_pass, passes, Redone}
-use Rattle.image_model.specs.Images.{Image, StandsFor, IsFalling, found, sorted, won_by}
+use Rattle.core_paging.specs.image_model.Entries.{Entry, Contents, earlier, same_txn}
+use Rattle.core_paging.specs.image_model.Redo.{redo, all_pass, passes, Redone}
+use Rattle.core_paging.specs.image_model.Images.{Image, StandsFor, IsFalling, found, sorted, won_by}
 use Rattle.page_model.specs.Redo.{is_some}
 use Rattle.page_model.specs.Tree.{entry}
 use Rattle.page_model.specs.Nodes.{Format}
-use Rattle.core_state.specs.States.{State, start, flushed_by_all}
-use Rattle.core_state.specs.Openings.{first, first_map}
-use Rattle.core_state.specs.Steps.{run}
-use Rattle.core_commit.proofs.Lists.{has_before, before_has}
+use Rattle.core_paging.specs.core_state.States.{State, start, flushed_by_all}
+use Rattle.core_paging.specs.core_state.Openings.{first, first_map}
+use Rattle.core_paging.specs.core_state.Steps.{run}
+use Rattle.core_paging.proofs.core_commit_lemmas.Lists.{has_before, before_has}
 use Rattle.map_model.proofs.ListLemmas.{keep_has, has_keep, order_has}
-use Rattle.core_commit.proofs.History.{SameTxn, same_from}
-use Rattle.core_commit.proofs.KindFacts.{write_claims, claims_call, call_is_no_end}
-use Rattle.core_commit.proofs.Invariants.{Inv}
-use Rattle.core_commit.proofs.Runs.{good_run, good_start}
+use Rattle.core_paging.proofs.core_commit_lemmas.History.{SameTxn, same_from}
+use Rattle.core_paging.proofs.core_commit_lemmas.KindFacts.{write_claims, claims_call, call_is_no_end}
+use Rattle.core_paging.proofs.core_commit_lemmas.Invariants.{Inv}
+use Rattle.core_paging.proofs.core_commit_lemmas.Runs.{good_run, good_start}
 use Rattle.core_crash.specs.Crashes.{Follows, from_head, image_of, journal_in, kept_in, IsRipe, EveryCrash, EveryStored, EverySerial}
 use Rattle.core_paging.proofs.Laws.{every_saved}
 use Rattle.core_crash.proofs.Words as words
@@ -36,7 +36,7 @@ all_pass_is f page (r ∷ z) = ap₂ (λ (a b : Bool). a && b) (all_pass_is f pa
   where
     done : (f : Format) (page : ℕ → Contents) (z : List Entry) → (tested f page z).done ≡ redo page z
     done f page [] = refl
-    done f page (r ∷ z) = ap (λ (d : Redone). Rattle.image_model.specs.Redo.redo_one d r) (done f page z)
+    done f page (r ∷ z) = ap (λ (d : Redone). Rattle.core_paging.specs.image_model.Redo.redo_one d r) (done f page z)
 
 falling : (l : List Entry) → Numbers l → IsFalling l
 falling [] n = tt
@@ -70,7 +70,7 @@ every_crash g f es logs page c = record { stands = stands; closed = closed; foll
     main = by_log.every_image g f es logs page c
 
     keeps : kept_in g s i ≡ txns g.format (kept g s.floor (found i) (journal s.entries))
-    keeps = ap (Rattle.image_model.specs.Ends.kept g.workers s.floor (found i)) (journal_as g.format s.entries) ∙ kept_as g s.floor (found i) (journal s.entries)
+    keeps = ap (Rattle.core_paging.specs.image_model.Ends.kept g.workers s.floor (found i)) (journal_as g.format s.entries) ∙ kept_as g s.floor (found i) (journal s.entries)
 
     rising : (w : ℕ) → 0 < w → w ≤ g.workers → IsFalling (from_head (s.head w) (logs w))
     rising w a b = falling_keep (λ r. not (leb r.number (s.head w))) (logs w) (falling (logs w) (numbers_behind (c.prefixes w a b).0 (logs w) (subst Numbers (sym (c.prefixes w a b).1) (log_numbers g (flushed_by_all g s) w s.entries inv.records))))
@@ -84,7 +84,7 @@ every_crash g f es logs page c = record { stands = stands; closed = closed; foll
         tree = main.0.tree;
         entries = λ r j l. some_of (entry g.format.pages (λ p. ((redo page (sorted i)).page p).node) r.key) (main.0.entries r (order_has earlier (found i) r j) l);
       };
-      map = λ k. ap (λ (l : List Txn). maps.after (first_map g) l k) keeps ∙ (sym (after_as g.format (first g) (first_map g) (kept g s.floor (found i) (journal s.entries)) (first_as g) k) ∙ ap (λ (w : ℕ). Rattle.image_model.specs.Histories.said g.format w) (sym (main.0.map k)));
+      map = λ k. ap (λ (l : List Txn). maps.after (first_map g) l k) keeps ∙ (sym (after_as g.format (first g) (first_map g) (kept g s.floor (found i) (journal s.entries)) (first_as g) k) ∙ ap (λ (w : ℕ). Rattle.core_paging.specs.image_model.Histories.said g.format w) (sym (main.0.map k)));
       won = refl;
     }
 

@@ -7,18 +7,18 @@ use Rattle.page_model.proofs.Needs as page_needs
 use Rattle.std.proofs.Common.{◌≡◌, ℕ, ◌≤◌, ◌<◌, ◌++◌, Bool, true, false, ◌&&◌, ◌||◌, not, if◌then◌else◌, ltb, leb, ◌+◌, length, ◌==◌, List, [], ◌∷◌, ◌⊎◌, None, refl, sym, ap, ◌∙◌, subst, inl, inr, arith, true≢false}
 use Rattle.std.proofs.lemmas.Bool.{cases_Bool, cases_eq, eq-eqb, ne_eqb, eqb-true, and_parts, and_from, or_left, or_right, or_from, leb-true, ltb-true, lt-ltb, le-leb, lt-leb, and_left, and_right, cond-true, cond-false, false_from_ne_true}
 use Rattle.map_model.specs.Lists.{upd, keep, any, all, Has}
-use Rattle.image_model.specs.Entries.{is_page, page_kind, Entry, is_write, is_record, applied_as, touches, Contents, written}
-use Rattle.image_model.specs.Redo.{passes, names_pages, is_sayable_as, Redone, mark, stands, at_prev, redo_one, redo}
+use Rattle.core_paging.specs.image_model.Entries.{is_page, page_kind, Entry, is_write, is_record, applied_as, touches, Contents, written}
+use Rattle.core_paging.specs.image_model.Redo.{passes, names_pages, is_sayable_as, Redone, mark, stands, at_prev, redo_one, redo}
 use Rattle.core_crash.proofs.Words.{found}
-use Rattle.image_model.specs.Undo.{values}
+use Rattle.core_paging.specs.image_model.Undo.{values}
 use Rattle.page_model.specs.Records.{Ref, Record}
-use Rattle.core_state.specs.Openings.{Opening, start_page}
+use Rattle.core_paging.specs.core_state.Openings.{Opening, start_page}
 use Rattle.page_model.specs.Nodes.{Format, Node}
 use Rattle.page_model.specs.Tree.{lookup, IsTree}
-use Rattle.core_commit.proofs.Lists.{Before, before_has, Each, each_map_has}
+use Rattle.core_paging.proofs.core_commit_lemmas.Lists.{Before, before_has, Each, each_map_has}
 use Rattle.map_model.proofs.ListLemmas.{any_has, has_any, upd_same, upd_other, all_to, all_of, all_same}
-use Rattle.core_commit.proofs.Nodes.{fits_entry, entry_stays, on_key, Fits, moved_on, fits_local, fits_parted, fits_on, fits_off, fits_before}
-use Rattle.core_commit.proofs.History.{EndOf, Recorded, IsRecorded, Entered, IsHistory, records_of, page_at, page_hit, page_miss, gsn_rises, nodes, touch_ref, ref_touch, history_parted}
+use Rattle.core_paging.proofs.core_commit_lemmas.Nodes.{fits_entry, entry_stays, on_key, Fits, moved_on, fits_local, fits_parted, fits_on, fits_off, fits_before}
+use Rattle.core_paging.proofs.core_commit_lemmas.History.{EndOf, Recorded, IsRecorded, Entered, IsHistory, records_of, page_at, page_hit, page_miss, gsn_rises, nodes, touch_ref, ref_touch, history_parted}
 use Rattle.core_crash.proofs.Ends.{whole, counting, whole_hit, whole_miss, whole_low}
 use mathlib.Core.Path.{fun_ext}
 

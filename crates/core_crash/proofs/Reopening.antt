@@ -3,19 +3,19 @@ use Rattle.map_model.specs.Lists.{Has}
 use Rattle.page_model.specs.Nodes.{Format}
 use Rattle.page_model.specs.Records as page_records
 use Rattle.page_model.proofs.Needs as page_needs
-use Rattle.image_model.specs.Entries.{Kind, Entry, is_write, is_page, is_record, page_kind}
-use Rattle.image_model.specs.Redo.{is_sayable_as}
-use Rattle.image_model.specs.Images.{Image, found, sorted, recovered_page}
-use Rattle.image_model.proofs.UndoLemmas.{every_undone}
-use Rattle.image_model.specs.Laws.{UndoneLaws}
-use Rattle.core_state.specs.States.{State, start, flushed_by_all}
-use Rattle.core_state.specs.Openings.{Opening}
-use Rattle.core_state.specs.Steps.{run}
-use Rattle.core_commit.proofs.Lists.{has_before, each_at}
+use Rattle.core_paging.specs.image_model.Entries.{Kind, Entry, is_write, is_page, is_record, page_kind}
+use Rattle.core_paging.specs.image_model.Redo.{is_sayable_as}
+use Rattle.core_paging.specs.image_model.Images.{Image, found, sorted, recovered_page}
+use Rattle.core_paging.proofs.image_model_lemmas.UndoLemmas.{every_undone}
+use Rattle.core_paging.specs.image_model.Laws.{UndoneLaws}
+use Rattle.core_paging.specs.core_state.States.{State, start, flushed_by_all}
+use Rattle.core_paging.specs.core_state.Openings.{Opening}
+use Rattle.core_paging.specs.core_state.Steps.{run}
+use Rattle.core_paging.proofs.core_commit_lemmas.Lists.{has_before, each_at}
 use Rattle.map_model.proofs.ListLemmas.{keep_has, order_has, has_right}
-use Rattle.core_commit.proofs.History.{Entered, IsHistory, page_at, nodes, history_parted, each_behind}
-use Rattle.core_commit.proofs.Invariants.{Inv}
-use Rattle.core_commit.proofs.Runs.{good_run, good_start}
+use Rattle.core_paging.proofs.core_commit_lemmas.History.{Entered, IsHistory, page_at, nodes, history_parted, each_behind}
+use Rattle.core_paging.proofs.core_commit_lemmas.Invariants.{Inv}
+use Rattle.core_paging.proofs.core_commit_lemmas.Runs.{good_run, good_start}
 use Rattle.core_crash.specs.Crashes.{from_head, image_of, EveryReopening}
 use Rattle.core_crash.proofs.Redo.{sayable}
 use Rattle.core_crash.proofs.Images.{gathered_has}
@@ -85,7 +85,7 @@ every_reopening g f es logs page c base low = record {
     -- what the image has happened
     happened : (r : Entry) → Has r (sorted i) → Has r s.entries
     happened r j =
-        let q = gathered_has (λ w. from_head (s.head w) (logs w)) g.workers r (order_has Rattle.image_model.specs.Entries.earlier (found i) r j) in
+        let q = gathered_has (λ w. from_head (s.head w) (logs w)) g.workers r (order_has Rattle.core_paging.specs.image_model.Entries.earlier (found i) r j) in
         let p = keep_has (λ r. not (leb r.number (s.head q.0))) (logs q.0) r q.2 in
         let x = c.prefixes q.0 q.1.0 q.1.1 in
         (keep_has (λ r. is_record r.kind && (r.log == q.0)) s.entries r (subst (λ (l : List Entry). Has r l) x.1 (has_right r x.0 (logs q.0) p.0))).0

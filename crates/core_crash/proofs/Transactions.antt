@@ -4,17 +4,17 @@ use Rattle.map_model.specs.Maps.{Map, MapCall, MapAnswer, IsLawful, writes_key, 
 use Rattle.map_model.specs.Histories.{Step, last_write, over, first_of, write_or}
 use Rattle.map_model.specs.Journals as maps
 use Rattle.map_model.specs.Journals.{Txn, is_earlier, Gives}
-use Rattle.image_model.specs.Histories as histories
-use Rattle.image_model.specs.Histories.{said, write_call, step_onto, steps_of, txn_of}
-use Rattle.image_model.specs.Ends as images
-use Rattle.image_model.specs.Ends.{reach}
-use Rattle.image_model.specs.Entries.{Kind, Entry, is_write, is_call, is_commit, same_txn}
+use Rattle.core_paging.specs.image_model.Histories as histories
+use Rattle.core_paging.specs.image_model.Histories.{said, write_call, step_onto, steps_of, txn_of}
+use Rattle.core_paging.specs.image_model.Ends as images
+use Rattle.core_paging.specs.image_model.Ends.{reach}
+use Rattle.core_paging.specs.image_model.Entries.{Kind, Entry, is_write, is_call, is_commit, same_txn}
 use Rattle.page_model.specs.Nodes.{Format}
 use Rattle.page_model.specs.Tree.{entry}
-use Rattle.core_state.specs.Openings.{Opening, first, first_map}
+use Rattle.core_paging.specs.core_state.Openings.{Opening, first, first_map}
 use Rattle.map_model.proofs.ListLemmas.{upd_same, upd_other}
-use Rattle.core_commit.proofs.History.{answer}
-use Rattle.core_commit.proofs.Says.{said_word, write_here, write_else}
+use Rattle.core_paging.proofs.core_commit_lemmas.History.{answer}
+use Rattle.core_paging.proofs.core_commit_lemmas.Says.{said_word, write_here, write_else}
 use Rattle.core_crash.proofs.Words.{Done, calls_of, committed, done_earlier, journal, write_all, after, kept, wins, Lawful, Serial}
 use Rattle.core_crash.proofs.Cuts.{keep_same}
 use Rattle.std.proofs.Common.{◌≡◌, ℕ, Bool, true, false, cond, ◌&&◌, ◌||◌, leb, ltb, ◌==◌, List, [], ◌∷◌, ◌⊎◌, Option, refl, sym, ap, ap₂, ◌∙◌, inl, inr, true≢false}

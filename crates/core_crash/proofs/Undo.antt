@@ -3,20 +3,20 @@ use Rattle.std.proofs.Common.{◌≡◌, ℕ, ◌≤◌, ◌<◌, Bool, true, fa
 use Rattle.std.proofs.lemmas.Bool.{cases_Bool, cases_eq, eq-eqb, eqb-true, and_parts, or_cases, and_from, ltb-true, and_left, and_right, cond-true, cond-false, false_from_ne_true}
 use Rattle.page_model.specs.Redo as page_redo
 use Rattle.map_model.specs.Lists.{all, upd, keep, Has}
-use Rattle.image_model.specs.Entries.{is_page, page_kind, earlier, Entry, is_write, touches, Contents, written}
+use Rattle.core_paging.specs.image_model.Entries.{is_page, page_kind, earlier, Entry, is_write, touches, Contents, written}
 use Rattle.page_model.specs.Records.{Ref}
-use Rattle.image_model.specs.Redo.{passes, names_pages, is_sayable_as, Redone, stands, at_prev, redo_one, redo}
+use Rattle.core_paging.specs.image_model.Redo.{passes, names_pages, is_sayable_as, Redone, stands, at_prev, redo_one, redo}
 use Rattle.core_crash.proofs.Words.{Tested, test_one, tested, found, recovered}
 use Rattle.map_model.specs.Lists.{in_order}
-use Rattle.image_model.specs.Ends.{reach, ended}
-use Rattle.image_model.specs.Undo.{undo_one, undo, values, is_lost}
-use Rattle.core_commit.proofs.KindFacts.{write_is_call, end_is_record, write_is_record, write_is_no_end}
-use Rattle.core_state.specs.Openings.{Opening, first}
-use Rattle.core_commit.proofs.Lists.{each_at, has_before, before_has, Each, Before, upd_comm, pick}
+use Rattle.core_paging.specs.image_model.Ends.{reach, ended}
+use Rattle.core_paging.specs.image_model.Undo.{undo_one, undo, values, is_lost}
+use Rattle.core_paging.proofs.core_commit_lemmas.KindFacts.{write_is_call, end_is_record, write_is_record, write_is_no_end}
+use Rattle.core_paging.specs.core_state.Openings.{Opening, first}
+use Rattle.core_paging.proofs.core_commit_lemmas.Lists.{each_at, has_before, before_has, Each, Before, upd_comm, pick}
 use Rattle.map_model.proofs.ListLemmas.{keep_has, upd_same, upd_other, all_same}
 use Rattle.core_crash.proofs.Order.{fold_up, fold_down, Swaps, Apart, fold_up_order, fold_down_order}
-use Rattle.core_commit.proofs.Nodes.{on_key}
-use Rattle.core_commit.proofs.History.{EndOf, Recorded, IsRecorded, IsHistory, number_le_gsn, ref_touch}
+use Rattle.core_paging.proofs.core_commit_lemmas.Nodes.{on_key}
+use Rattle.core_paging.proofs.core_commit_lemmas.History.{EndOf, Recorded, IsRecorded, IsHistory, number_le_gsn, ref_touch}
 use Rattle.core_crash.proofs.Ends.{behind_end, Cut, is_ended, ended_found, ended_counts, ended_before, counting, whole}
 use Rattle.core_crash.proofs.Redo.{redo_stays, at_prev_off, counts_here, counts_else, value, value_on, value_cut, value_key_off, value_before, redo_value, CountsAre, counts_are, Had}
 use mathlib.Core.Path.{fun_ext}

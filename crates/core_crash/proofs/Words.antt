@@ -1,18 +1,18 @@
 -- Words of the proof: a crash said by thresholds, and committed transactions by their entries.
 use Rattle.map_model.specs.Lists.{Has, any, keep, upd, in_order}
-use Rattle.image_model.specs.Entries.{Entry, Contents, is_write, is_call, is_commit, is_record, same_txn, earlier, touches}
-use Rattle.image_model.specs.Ends.{reach}
-use Rattle.image_model.specs.Redo.{Redone, redo_one, redo, passes}
-use Rattle.image_model.specs.Undo.{is_lost, undo, values}
+use Rattle.core_paging.specs.image_model.Entries.{Entry, Contents, is_write, is_call, is_commit, is_record, same_txn, earlier, touches}
+use Rattle.core_paging.specs.image_model.Ends.{reach}
+use Rattle.core_paging.specs.image_model.Redo.{Redone, redo_one, redo, passes}
+use Rattle.core_paging.specs.image_model.Undo.{is_lost, undo, values}
 use Rattle.page_model.specs.Nodes.{Format}
 use Rattle.page_model.specs.Tree.{IsTree, entry}
-use Rattle.core_state.specs.States.{State, start, flushed_by_all}
-use Rattle.core_state.specs.Openings.{Opening, first}
-use Rattle.core_state.specs.Events.{Event}
-use Rattle.core_state.specs.Steps.{claims, run}
-use Rattle.core_state.specs.Steps.{HasBeen}
-use Rattle.core_commit.proofs.Lists.{Within}
-use Rattle.core_commit.proofs.History.{answer}
+use Rattle.core_paging.specs.core_state.States.{State, start, flushed_by_all}
+use Rattle.core_paging.specs.core_state.Openings.{Opening, first}
+use Rattle.core_paging.specs.core_state.Events.{Event}
+use Rattle.core_paging.specs.core_state.Steps.{claims, run}
+use Rattle.core_paging.specs.core_state.Steps.{HasBeen}
+use Rattle.core_paging.proofs.core_commit_lemmas.Lists.{Within}
+use Rattle.core_paging.proofs.core_commit_lemmas.History.{answer}
 use Rattle.std.proofs.Common.{◌≡◌, ◌≤◌, ℕ, Bool, true, false, ◌&&◌, ◌||◌, not, leb, List, [], ◌∷◌, None, if◌then◌else◌}
 
 -- ## A crash

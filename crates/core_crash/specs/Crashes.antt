@@ -3,14 +3,14 @@
 use Rattle.std.specs.Prelude.{◌≡◌, ◌≤◌, ◌<◌, ℕ, true, ◌&&◌, not, leb, ◌==◌, List, ◌++◌, Some}
 use Rattle.map_model.specs.Lists.{Has, keep}
 use Rattle.map_model.specs.Journals.{Txn, Journal, is_earlier, Used, after, IsClosed, Serial}
-use Rattle.image_model.specs.Entries.{Entry, Contents, is_record, is_commit, touches}
-use Rattle.image_model.specs.Ends.{kept}
-use Rattle.image_model.specs.Images.{Image, StandsFor, found, won_by, recovered_page, map_of}
-use Rattle.image_model.specs.Histories.{journal}
-use Rattle.core_state.specs.States.{State, start, flushed_by_all}
-use Rattle.core_state.specs.Openings.{Opening, first_map}
-use Rattle.core_state.specs.Events.{Event}
-use Rattle.core_state.specs.Steps.{claims, run, HasBeen}
+use Rattle.core_paging.specs.image_model.Entries.{Entry, Contents, is_record, is_commit, touches}
+use Rattle.core_paging.specs.image_model.Ends.{kept}
+use Rattle.core_paging.specs.image_model.Images.{Image, StandsFor, found, won_by, recovered_page, map_of}
+use Rattle.core_paging.specs.image_model.Histories.{journal}
+use Rattle.core_paging.specs.core_state.States.{State, start, flushed_by_all}
+use Rattle.core_paging.specs.core_state.Openings.{Opening, first_map}
+use Rattle.core_paging.specs.core_state.Events.{Event}
+use Rattle.core_paging.specs.core_state.Steps.{claims, run, HasBeen}
 
 -- ## What a crash leaves
 

@@ -3,13 +3,13 @@
 use Rattle.std.specs.Prelude.{◌≡◌, ◌==◌, ℕ, Bool, true, false, List, [], ◌∷◌, Some, None, if◌then◌else◌}
 use Rattle.map_model.specs.Maps.{MapCall, MapAnswer}
 use Rattle.map_model.specs.Journals.{Txn}
-use Rattle.image_model.specs.Entries.{Entry}
-use Rattle.image_model.specs.Ends.{reach}
-use Rattle.image_model.specs.Images.{Image, found, map_of}
-use Rattle.core_state.specs.States.{State, start}
-use Rattle.core_state.specs.Openings.{Opening, start_page, first_map}
-use Rattle.core_state.specs.Events.{Event, Mode}
-use Rattle.core_state.specs.Steps.{run, AllMet}
+use Rattle.core_paging.specs.image_model.Entries.{Entry}
+use Rattle.core_paging.specs.image_model.Ends.{reach}
+use Rattle.core_paging.specs.image_model.Images.{Image, found, map_of}
+use Rattle.core_paging.specs.core_state.States.{State, start}
+use Rattle.core_paging.specs.core_state.Openings.{Opening, start_page, first_map}
+use Rattle.core_paging.specs.core_state.Events.{Event, Mode}
+use Rattle.core_paging.specs.core_state.Steps.{run, AllMet}
 use Rattle.core_crash.specs.Crashes.{log_of, Leaves, image_of, kept_in}
 
 -- the run

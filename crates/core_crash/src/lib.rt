@@ -6,6 +6,10 @@
 ghost use Rattle.core_crash.specs.Crashes.{EveryCrash, EveryStored, EveryReopening, EverySerial};
 ghost use Rattle.core_crash.specs.Example.{WorkedExample};
 
+// Passed on to the crates above.
+pub use core_paging;
+pub use core_paging::core_commit;
+
 /// Whatever happens and wherever a crash falls, no rule of an image is broken, and recovery gives the map after a closed
 /// set of committed transactions that holds each ripe one.
 pub fn every_crash()

@@ -7,25 +7,25 @@ use Rattle.map_model.specs.Maps.{MapAnswer}
 use Rattle.map_model.proofs.ListLemmas.{has_any, has_keep, has_left, has_right, keep_has, order_has}
 use Rattle.page_model.specs.Nodes.{Format}
 use Rattle.rfa_model.specs.Reaches.{least}
-use Rattle.image_model.specs.Entries.{Entry, Contents, is_commit, is_record, is_write}
-use Rattle.image_model.specs.Ends.{ended, greatest, losers, reach, winners, wins}
-use Rattle.image_model.specs.Histories.{committed, txn_of}
-use Rattle.image_model.specs.Images.{Image, IsSound, found, gathered, lost, lost_by, map_of, recovered_page, redone, sorted, won_by}
-use Rattle.image_model.specs.Redo.{Redone}
-use Rattle.image_model.specs.Undo.{undo, undo_node, values}
+use Rattle.core_crash.specs.image_model.Entries.{Entry, Contents, is_commit, is_record, is_write}
+use Rattle.core_crash.specs.image_model.Ends.{ended, greatest, losers, reach, winners, wins}
+use Rattle.core_crash.specs.image_model.Histories.{committed, txn_of}
+use Rattle.core_crash.specs.image_model.Images.{Image, IsSound, found, gathered, lost, lost_by, map_of, recovered_page, redone, sorted, won_by}
+use Rattle.core_crash.specs.image_model.Redo.{Redone}
+use Rattle.core_crash.specs.image_model.Undo.{undo, undo_node, values}
 use Rattle.page_model.specs.Tree.{value_of}
-use Rattle.core_state.specs.Openings.{Opening}
-use Rattle.core_state.specs.States.{State, flushed_by_all}
-use Rattle.core_state.specs.Events.{Event}
-use Rattle.core_state.specs.Needs.{may}
-use Rattle.core_state.specs.Steps.{follows, happens, put_back, state_after, step}
-use Rattle.core_commit.specs.Rises.{Rises}
-use Rattle.core_commit.proofs.History.{Recorded}
-use Rattle.core_commit.proofs.Invariants.{Inv}
-use Rattle.core_commit.proofs.KindFacts.{end_is_record}
-use Rattle.core_commit.proofs.Lists.{Within, each_at, has_before, le_least, least_le}
-use Rattle.core_commit.proofs.RiseLemmas.{every_rise}
-use Rattle.core_commit.proofs.Runs.{step_keeps}
+use Rattle.core_crash.specs.core_state.Openings.{Opening}
+use Rattle.core_crash.specs.core_state.States.{State, flushed_by_all}
+use Rattle.core_crash.specs.core_state.Events.{Event}
+use Rattle.core_crash.specs.core_state.Needs.{may}
+use Rattle.core_crash.specs.core_state.Steps.{follows, happens, put_back, state_after, step}
+use Rattle.core_crash.specs.core_commit.Rises.{Rises}
+use Rattle.core_crash.proofs.core_commit_lemmas.History.{Recorded}
+use Rattle.core_crash.proofs.core_commit_lemmas.Invariants.{Inv}
+use Rattle.core_crash.proofs.core_commit_lemmas.KindFacts.{end_is_record}
+use Rattle.core_crash.proofs.core_commit_lemmas.Lists.{Within, each_at, has_before, le_least, least_le}
+use Rattle.core_crash.proofs.core_commit_lemmas.RiseLemmas.{every_rise}
+use Rattle.core_crash.proofs.core_commit_lemmas.Runs.{step_keeps}
 use Rattle.core_crash.specs.Crashes.{Leaves, from_head, image_of, journal_in, log_of}
 use Rattle.core_crash.proofs.Cuts.{same_bool}
 use Rattle.core_crash.proofs.Ends.{le_greatest}

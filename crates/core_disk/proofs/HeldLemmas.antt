@@ -4,20 +4,20 @@ use Rattle.std.proofs.lemmas.Bool.{cases_lt}
 use Rattle.map_model.specs.Lists.{Has}
 use Rattle.map_model.specs.Journals.{Journal, IsClosed, after}
 use Rattle.page_model.specs.Nodes.{Format}
-use Rattle.image_model.specs.Entries.{Entry, Contents}
-use Rattle.image_model.specs.Ends.{is_kept, kept}
-use Rattle.image_model.specs.Images.{Image, StandsFor, found, gathered, won_by}
-use Rattle.core_state.specs.Openings.{Opening, first_map}
-use Rattle.core_state.specs.States.{State}
-use Rattle.core_state.specs.Events.{Event}
-use Rattle.core_paging.specs.Paging.{EverySaved}
+use Rattle.core_crash.specs.image_model.Entries.{Entry, Contents}
+use Rattle.core_crash.specs.image_model.Ends.{is_kept, kept}
+use Rattle.core_crash.specs.image_model.Images.{Image, StandsFor, found, gathered, won_by}
+use Rattle.core_crash.specs.core_state.Openings.{Opening, first_map}
+use Rattle.core_crash.specs.core_state.States.{State}
+use Rattle.core_crash.specs.core_state.Events.{Event}
+use Rattle.core_crash.specs.core_paging.Paging.{EverySaved}
 use Rattle.core_crash.proofs.Cuts.{keep_same}
 use Rattle.core_crash.specs.Crashes.{EveryCrash, Leaves, Recovers, image_of, journal_in, kept_in}
-use Rattle.disk_slots.specs.declared.master.Master.{Master}
+use Rattle.disk_image.specs.disk_slots.declared.master.Master.{Master}
 use Rattle.disk_image.specs.Laws.{Agree, Agreement, EveryAgreement}
 use Rattle.disk_image.specs.Runs.{AreReadable}
 use Rattle.disk_image.specs.Shown.{Areas, image_by, run_of}
-use Rattle.core_state.specs.Steps.{state_after}
+use Rattle.core_crash.specs.core_state.Steps.{state_after}
 use Rattle.core_disk.specs.FloorLaws.{ReachesAsFar, at_floor}
 use Rattle.core_disk.specs.Held.{base_in, HoldsPrefix, HoldsRun, IsVersion}
 use Rattle.core_disk.specs.Lives.{EveryHeld, Lives, kept_on}

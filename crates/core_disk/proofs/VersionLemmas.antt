@@ -3,23 +3,23 @@ use Rattle.std.proofs.Common.{◌≡◌, ◌⊎◌, inl, inr, ⊎_elim, ◌≤�
 use Rattle.std.proofs.lemmas.Bool.{and_parts, cases_lt}
 use Rattle.map_model.specs.Lists.{Has}
 use Rattle.map_model.specs.Maps.{MapAnswer}
-use Rattle.image_model.specs.Entries.{Kind, Entry, Contents, touches, word_in}
+use Rattle.core_crash.specs.image_model.Entries.{Kind, Entry, Contents, touches, word_in}
 use Rattle.page_model.specs.Records.{Record}
 use Rattle.page_model.specs.Needs as record_needs
 use Rattle.page_model.specs.Redo.{all_keys}
-use Rattle.core_state.specs.Openings.{Opening}
-use Rattle.core_state.specs.States.{State, start, flushed_by_all, nodes_of, gsns_of}
-use Rattle.core_state.specs.Events.{Event}
-use Rattle.core_state.specs.Needs.{are_hot, is_held_by, is_settled, may_put, may_put_back, may_split, may_lift, may_join, may_drop, may_purge, needs, pages_of}
-use Rattle.core_state.specs.Steps.{at_pages, page_entry, write_entry, moves, put_back, follows, happens, step, run, HasBeen, state_after, read_entry, end_entry}
-use Rattle.core_state.proofs.Runs.{run_more}
-use Rattle.core_commit.specs.Rises.{EveryRise, Rises}
-use Rattle.core_commit.proofs.Lists.{le_least, least_le}
-use Rattle.core_commit.proofs.History.{IsRecorded, gsn_rises, number_le_gsn, page_at}
-use Rattle.core_commit.proofs.Invariants.{Inv, stamp_flushed}
-use Rattle.core_commit.proofs.Events.{touched_all}
-use Rattle.core_commit.proofs.Runs.{Good, good_run, good_start, good_step, step_keeps}
-use Rattle.core_paging.specs.Paging.{EverySaved}
+use Rattle.core_crash.specs.core_state.Openings.{Opening}
+use Rattle.core_crash.specs.core_state.States.{State, start, flushed_by_all, nodes_of, gsns_of}
+use Rattle.core_crash.specs.core_state.Events.{Event}
+use Rattle.core_crash.specs.core_state.Needs.{are_hot, is_held_by, is_settled, may_put, may_put_back, may_split, may_lift, may_join, may_drop, may_purge, needs, pages_of}
+use Rattle.core_crash.specs.core_state.Steps.{at_pages, page_entry, write_entry, moves, put_back, follows, happens, step, run, HasBeen, state_after, read_entry, end_entry}
+use Rattle.core_crash.proofs.core_state_lemmas.Runs.{run_more}
+use Rattle.core_crash.specs.core_commit.Rises.{EveryRise, Rises}
+use Rattle.core_crash.proofs.core_commit_lemmas.Lists.{le_least, least_le}
+use Rattle.core_crash.proofs.core_commit_lemmas.History.{IsRecorded, gsn_rises, number_le_gsn, page_at}
+use Rattle.core_crash.proofs.core_commit_lemmas.Invariants.{Inv, stamp_flushed}
+use Rattle.core_crash.proofs.core_commit_lemmas.Events.{touched_all}
+use Rattle.core_crash.proofs.core_commit_lemmas.Runs.{Good, good_run, good_start, good_step, step_keeps}
+use Rattle.core_crash.specs.core_paging.Paging.{EverySaved}
 use Rattle.core_disk.specs.Held.{IsVersion}
 use Rattle.core_disk.specs.Versions.{EveryVersion, HasUpTo, VersionLaws, is_cut, then}
 

@@ -2,13 +2,13 @@
 use Rattle.std.specs.Prelude.{◌≡◌, ◌<◌, ◌≤◌, ℕ, false, List}
 use Rattle.map_model.specs.Lists.{Has}
 use Rattle.map_model.specs.Journals.{Txn}
-use Rattle.image_model.specs.Entries.{Entry, Contents}
-use Rattle.image_model.specs.Ends.{is_kept, reach}
-use Rattle.image_model.specs.Images.{Image, found}
-use Rattle.core_state.specs.Openings.{Opening}
-use Rattle.core_state.specs.States.{State, flushed_by_all}
-use Rattle.core_state.specs.Events.{Event}
-use Rattle.core_state.specs.Steps.{state_after}
+use Rattle.core_crash.specs.image_model.Entries.{Entry, Contents}
+use Rattle.core_crash.specs.image_model.Ends.{is_kept, reach}
+use Rattle.core_crash.specs.image_model.Images.{Image, found}
+use Rattle.core_crash.specs.core_state.Openings.{Opening}
+use Rattle.core_crash.specs.core_state.States.{State, flushed_by_all}
+use Rattle.core_crash.specs.core_state.Events.{Event}
+use Rattle.core_crash.specs.core_state.Steps.{state_after}
 use Rattle.core_crash.specs.Crashes.{Leaves, image_of, journal_in}
 use Rattle.core_disk.specs.MasterFloors.{IsFloorOf}
 use Rattle.core_disk.specs.Versions.{is_cut, then}

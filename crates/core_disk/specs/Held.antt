@@ -2,14 +2,14 @@
 -- is read by one master.
 use Rattle.std.specs.Prelude.{◌≡◌, ◌<◌, ◌≤◌, ℕ, suc, true, List, length, Option, Some}
 use Rattle.map_model.specs.Lists.{Has}
-use Rattle.image_model.specs.Entries.{Entry, Contents, touches}
-use Rattle.image_model.specs.Slots.{Slot, newer_page, valid}
-use Rattle.core_state.specs.Openings.{Opening}
-use Rattle.core_state.specs.States.{State, start, flushed_by_all}
-use Rattle.core_state.specs.Events.{Event}
-use Rattle.core_state.specs.Steps.{HasBeen, state_after}
+use Rattle.core_crash.specs.image_model.Entries.{Entry, Contents, touches}
+use Rattle.core_crash.specs.image_model.Slots.{Slot, newer_page, valid}
+use Rattle.core_crash.specs.core_state.Openings.{Opening}
+use Rattle.core_crash.specs.core_state.States.{State, start, flushed_by_all}
+use Rattle.core_crash.specs.core_state.Events.{Event}
+use Rattle.core_crash.specs.core_state.Steps.{HasBeen, state_after}
 use Rattle.core_crash.specs.Crashes.{log_of, from_head, IsPrefix}
-use Rattle.disk_slots.specs.declared.master.Master.{Master}
+use Rattle.disk_image.specs.disk_slots.declared.master.Master.{Master}
 use Rattle.disk_image.specs.Formats.{format_of}
 use Rattle.disk_image.specs.MasterSlots.{master_on}
 use Rattle.disk_image.specs.Runs.{AreReadable, entries_in, sealed_in}

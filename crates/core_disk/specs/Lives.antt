@@ -2,15 +2,15 @@
 use Rattle.std.specs.Prelude.{List}
 use Rattle.map_model.specs.Lists.{Has}
 use Rattle.map_model.specs.Journals.{Txn, Journal, IsClosed, after}
-use Rattle.image_model.specs.Ends.{kept}
-use Rattle.image_model.specs.Images.{found, won_by}
-use Rattle.core_state.specs.Openings.{Opening, first_map}
-use Rattle.core_state.specs.States.{State}
-use Rattle.core_state.specs.Events.{Event}
+use Rattle.core_crash.specs.image_model.Ends.{kept}
+use Rattle.core_crash.specs.image_model.Images.{found, won_by}
+use Rattle.core_crash.specs.core_state.Openings.{Opening, first_map}
+use Rattle.core_crash.specs.core_state.States.{State}
+use Rattle.core_crash.specs.core_state.Events.{Event}
 use Rattle.core_crash.specs.Crashes.{Follows, IsRipe, journal_in}
-use Rattle.disk_slots.specs.declared.master.Master.{Master}
+use Rattle.disk_image.specs.disk_slots.declared.master.Master.{Master}
 use Rattle.disk_image.specs.Shown.{Areas, DiskStandsFor, IsCleanDisk, image_by}
-use Rattle.core_state.specs.Steps.{state_after}
+use Rattle.core_crash.specs.core_state.Steps.{state_after}
 use Rattle.core_disk.specs.Held.{HoldsRun}
 
 -- the transactions that a disk keeps: up to its master's floor, and its winners

@@ -1,9 +1,9 @@
 -- The floor of a master, which may be below that of the state where the logs reach as far without it.
 use Rattle.std.specs.Prelude.{◌<◌, ◌≤◌, ℕ}
 use Rattle.map_model.specs.Lists.{Has}
-use Rattle.image_model.specs.Entries.{Entry}
-use Rattle.core_state.specs.Openings.{Opening}
-use Rattle.core_state.specs.States.{State}
+use Rattle.core_crash.specs.image_model.Entries.{Entry}
+use Rattle.core_crash.specs.core_state.Openings.{Opening}
+use Rattle.core_crash.specs.core_state.States.{State}
 use Rattle.core_crash.specs.Crashes.{log_of}
 
 -- log w has a flushed record that is not below n: whatever a crash leaves of it, it leaves that record

@@ -1,14 +1,14 @@
 -- Which crash of the core's state the bytes of a disk show.
 use Rattle.std.specs.Prelude.{ℕ, List}
-use Rattle.image_model.specs.Entries.{Entry, Contents}
-use Rattle.image_model.specs.Images.{found}
-use Rattle.core_state.specs.Openings.{Opening}
-use Rattle.core_state.specs.Events.{Event}
+use Rattle.core_crash.specs.image_model.Entries.{Entry, Contents}
+use Rattle.core_crash.specs.image_model.Images.{found}
+use Rattle.core_crash.specs.core_state.Openings.{Opening}
+use Rattle.core_crash.specs.core_state.Events.{Event}
 use Rattle.core_crash.specs.Crashes.{Leaves, image_of}
-use Rattle.disk_slots.specs.declared.master.Master.{Master}
+use Rattle.disk_image.specs.disk_slots.declared.master.Master.{Master}
 use Rattle.disk_image.specs.Laws.{Agree}
 use Rattle.disk_image.specs.Shown.{Areas, IsCleanDisk, image_by}
-use Rattle.core_state.specs.Steps.{state_after}
+use Rattle.core_crash.specs.core_state.Steps.{state_after}
 use Rattle.core_disk.specs.FloorLaws.{ReachesAsFar, at_floor}
 use Rattle.core_disk.specs.Held.{HoldsRun}
 

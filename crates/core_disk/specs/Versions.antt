@@ -1,11 +1,11 @@
 -- Which contents of a page a crash may leave, as a run goes on.
 use Rattle.std.specs.Prelude.{◌≡◌, ◌≤◌, ℕ, Bool, true, false, List, [], ◌∷◌, ◌++◌}
 use Rattle.map_model.specs.Lists.{Has}
-use Rattle.image_model.specs.Entries.{Entry, Contents, touches}
-use Rattle.core_state.specs.Openings.{Opening}
-use Rattle.core_state.specs.States.{flushed_by_all, start}
-use Rattle.core_state.specs.Events.{Event}
-use Rattle.core_state.specs.Steps.{HasBeen, state_after}
+use Rattle.core_crash.specs.image_model.Entries.{Entry, Contents, touches}
+use Rattle.core_crash.specs.core_state.Openings.{Opening}
+use Rattle.core_crash.specs.core_state.States.{flushed_by_all, start}
+use Rattle.core_crash.specs.core_state.Events.{Event}
+use Rattle.core_crash.specs.core_state.Steps.{HasBeen, state_after}
 use Rattle.core_disk.specs.Held.{IsVersion}
 
 -- a run and one event more

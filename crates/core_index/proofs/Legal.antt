@@ -10,13 +10,13 @@ use Rattle.page_model.specs.Needs as record_needs
 use Rattle.page_model.proofs.Pairs.{find_out}
 use Rattle.page_model.proofs.Entries.{holds_to, holds_from, entry_at, entry_beyond}
 use Rattle.page_model.proofs.Tree.{below_top}
-use Rattle.image_model.specs.Entries.{Kind, Entry, Contents, is_write}
-use Rattle.image_model.specs.Histories.{said}
-use Rattle.core_state.specs.States.{State, start, nodes_of, gsns_of, flushed_by_all}
-use Rattle.core_state.specs.Openings.{Opening}
-use Rattle.core_state.specs.Events.{Event}
-use Rattle.core_state.specs.Needs.{is_value, is_following, following, holds_answer, is_leaf_of, is_held_by, holds_row, value_in, may_put, may_put_back, may_read, pages_of, are_hot, may, needs}
-use Rattle.core_state.specs.Steps.{at_pages, page_entry, write_entry, read_entry, moves, put_back, follows, happens, step, run}
+use Rattle.core_commit.specs.image_model.Entries.{Kind, Entry, Contents, is_write}
+use Rattle.core_commit.specs.image_model.Histories.{said}
+use Rattle.core_commit.specs.core_state.States.{State, start, nodes_of, gsns_of, flushed_by_all}
+use Rattle.core_commit.specs.core_state.Openings.{Opening}
+use Rattle.core_commit.specs.core_state.Events.{Event}
+use Rattle.core_commit.specs.core_state.Needs.{is_value, is_following, following, holds_answer, is_leaf_of, is_held_by, holds_row, value_in, may_put, may_put_back, may_read, pages_of, are_hot, may, needs}
+use Rattle.core_commit.specs.core_state.Steps.{at_pages, page_entry, write_entry, read_entry, moves, put_back, follows, happens, step, run}
 use Rattle.core_commit.proofs.Nodes.{on_key}
 use Rattle.core_commit.proofs.History.{history_value, history_on, history_off}
 use Rattle.core_commit.proofs.Invariants.{IsTold, Inv}
@@ -233,14 +233,14 @@ tells_event g s h (Event.Read w p k a) inv i j m t =
     let r = and_parts (s.worker w).is_open (holds_row (s.row (g.row_of k)) w && is_leaf_of g (s.page p).node p k) q.0 in
     let l = and_parts (holds_row (s.row (g.row_of k)) w) (is_leaf_of g (s.page p).node p k) r.1 in
     tells_call g s (happens g s (Event.Read w p k a)) h (record { session = w; call = MapCall.Get k; answer = MapAnswer.Value a }) (λ n. refl) (lawful_get g s inv p k a l.1 q.1) t
-    (tells_entry g s (happens g s (Event.Read w p k a)) h (read_entry w (at_pages s w (s.worker w) (p ∷ [])) k (Rattle.image_model.specs.Entries.word_in g.format (s.page p).node k) (is_held_by (s.row (g.row_of k)).holder w)) i j refl refl t)
+    (tells_entry g s (happens g s (Event.Read w p k a)) h (read_entry w (at_pages s w (s.worker w) (p ∷ [])) k (Rattle.core_commit.specs.image_model.Entries.word_in g.format (s.page p).node k) (is_held_by (s.row (g.row_of k)).holder w)) i j refl refl t)
 tells_event g s h (Event.Peek w p k a) inv i j m t =
     let q = and_parts (is_leaf_of g (s.page p).node p k) (is_value a (value_in g.format (s.page p).node k)) m in
     tells_call g s s h (record { session = w; call = MapCall.Get k; answer = MapAnswer.Value a }) (λ n. refl) (lawful_get g s inv p k a q.0 q.1) t t
 tells_event g s h (Event.Next w p k a) inv i j m t = tells_call g s (happens g s (Event.Next w p k a)) h (record { session = w; call = MapCall.Next k; answer = a }) (λ n. refl) (lawful_next g s inv w p k a m) t (go a j)
   where
     go : (a : MapAnswer) → IsTold g (follows g s w p a) → Tells g (follows g s w p a) h
-    go (MapAnswer.Pair at word) j = tells_entry g s (follows g s w p (MapAnswer.Pair at word)) h (read_entry w (at_pages s w (s.worker w) (p ∷ [])) at (Rattle.image_model.specs.Entries.word_in g.format (s.page p).node at) (is_held_by (s.row (g.row_of at)).holder w)) i j refl refl t
+    go (MapAnswer.Pair at word) j = tells_entry g s (follows g s w p (MapAnswer.Pair at word)) h (read_entry w (at_pages s w (s.worker w) (p ∷ [])) at (Rattle.core_commit.specs.image_model.Entries.word_in g.format (s.page p).node at) (is_held_by (s.row (g.row_of at)).holder w)) i j refl refl t
     go (MapAnswer.Gap b) j = tells_same g s (follows g s w p (MapAnswer.Gap b)) h i j refl t
     go (MapAnswer.Value b) j = t
     go (MapAnswer.Was b) j = t
@@ -267,8 +267,8 @@ tells_event g s h (Event.Purge w p keys) inv i j m t = tells_moves g s h Kind.Pu
 tells_event g s h (Event.End w commit f) inv i j m t = go commit j
   where
     go : (b : Bool) → IsTold g (happens g s (Event.End w b f)) → Tells g (happens g s (Event.End w b f)) h
-    go true j = tells_entry g s (happens g s (Event.End w true f)) h (Rattle.core_state.specs.Steps.end_entry Kind.Commit w (s.worker w) f) i j refl refl t
-    go false j = tells_entry g s (happens g s (Event.End w false f)) h (Rattle.core_state.specs.Steps.end_entry Kind.Abort w (s.worker w) f) i j refl refl t
+    go true j = tells_entry g s (happens g s (Event.End w true f)) h (Rattle.core_commit.specs.core_state.Steps.end_entry Kind.Commit w (s.worker w) f) i j refl refl t
+    go false j = tells_entry g s (happens g s (Event.End w false f)) h (Rattle.core_commit.specs.core_state.Steps.end_entry Kind.Abort w (s.worker w) f) i j refl refl t
 tells_event g s h (Event.Enter w e) inv i j m t = tells_same g s (happens g s (Event.Enter w e)) h i j refl t
 tells_event g s h (Event.Leave w) inv i j m t = tells_same g s (happens g s (Event.Leave w)) h i j refl t
 tells_event g s h (Event.Begin w f) inv i j m t = tells_same g s (happens g s (Event.Begin w f)) h i j refl t

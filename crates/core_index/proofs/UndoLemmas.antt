@@ -1,7 +1,7 @@
 -- A change that its worker has still to put back keeps its entry.
 use Rattle.map_model.specs.Lists.{Has, upd}
 use Rattle.map_model.specs.Maps.{MapAnswer}
-use Rattle.image_model.specs.Entries.{Kind, Entry, is_write, is_purge, word_in}
+use Rattle.core_commit.specs.image_model.Entries.{Kind, Entry, is_write, is_purge, word_in}
 use Rattle.page_model.specs.Pairs as pairs
 use Rattle.page_model.specs.Nodes.{Node, holds}
 use Rattle.page_model.specs.Tree.{IsTree, entry}
@@ -11,12 +11,12 @@ use Rattle.page_model.specs.Needs as record_needs
 use Rattle.page_model.proofs.Pairs.{some_none}
 use Rattle.page_model.proofs.Tree.{leaf_of}
 use Rattle.page_model.proofs.Entries.{LeafWith, holds_from, entry_at, entry_beyond}
-use Rattle.core_state.specs.States.{State, Worker, start, nodes_of, gsns_of, flushed_by_all}
-use Rattle.core_state.specs.Openings.{Opening}
-use Rattle.core_state.specs.Events.{Event}
-use Rattle.core_state.specs.Lists.{is_empty}
-use Rattle.core_state.specs.Needs.{are_hot, pages_of, is_free, is_held_by, is_settled, may_put, may_purge, needs}
-use Rattle.core_state.specs.Steps.{reads, at_pages, at_row, begun, finished, page_entry, write_entry, read_entry, end_entry, moves, put_back, follows, happens, step, run}
+use Rattle.core_commit.specs.core_state.States.{State, Worker, start, nodes_of, gsns_of, flushed_by_all}
+use Rattle.core_commit.specs.core_state.Openings.{Opening}
+use Rattle.core_commit.specs.core_state.Events.{Event}
+use Rattle.core_commit.specs.core_state.Lists.{is_empty}
+use Rattle.core_commit.specs.core_state.Needs.{are_hot, pages_of, is_free, is_held_by, is_settled, may_put, may_purge, needs}
+use Rattle.core_commit.specs.core_state.Steps.{reads, at_pages, at_row, begun, finished, page_entry, write_entry, read_entry, end_entry, moves, put_back, follows, happens, step, run}
 use Rattle.core_commit.proofs.Nodes.{moved_on, Fits, fits_entry, entry_stays}
 use Rattle.core_commit.proofs.History.{IsHistory, page_at, nodes, history_step}
 use Rattle.core_commit.proofs.Invariants.{IsTold, Inv}

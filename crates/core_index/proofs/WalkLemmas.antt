@@ -4,7 +4,7 @@ use Rattle.map_model.specs.Maps.{MapAnswer}
 use Rattle.page_model.specs.Pairs.{Pair, Rising, find}
 use Rattle.page_model.specs.Nodes.{Format}
 use Rattle.page_model.proofs.Pairs.{some_none, found_in}
-use Rattle.core_state.specs.Needs.{following}
+use Rattle.core_commit.specs.core_state.Needs.{following}
 use Rattle.core_commit.proofs.Nexts.{following_at}
 use Rattle.core_index.specs.Walks.{met_keys, IsUpTo, IsMetIn, EveryWalk}
 use Rattle.std.proofs.Common.{◌≡◌, ◌≤◌, ◌<◌, ◌⊎◌, ◌==◌, ℕ, suc, Bool, true, false, cond, ◌&&◌, leb, ltb, List, [], ◌∷◌, Option, Some, None, inl, inr, refl, sym, ap, ◌∙◌, arith, true≢false}

@@ -2,13 +2,13 @@
 use Rattle.map_model.specs.Maps.{Map, MapCall, MapAnswer, IsMap}
 use Rattle.map_model.specs.Histories.{Step, last_write, over, IsLegal}
 use Rattle.page_model.specs.Tree.{IsTree, value}
-use Rattle.image_model.specs.Entries.{Entry}
-use Rattle.image_model.specs.Histories.{write_call}
-use Rattle.core_state.specs.States.{State, start, nodes_of}
-use Rattle.core_state.specs.Openings.{Opening}
-use Rattle.core_state.specs.Events.{Event}
-use Rattle.core_state.specs.Needs.{value_in, may}
-use Rattle.core_state.specs.Steps.{step, run}
+use Rattle.core_commit.specs.image_model.Entries.{Entry}
+use Rattle.core_commit.specs.image_model.Histories.{write_call}
+use Rattle.core_commit.specs.core_state.States.{State, start, nodes_of}
+use Rattle.core_commit.specs.core_state.Openings.{Opening}
+use Rattle.core_commit.specs.core_state.Events.{Event}
+use Rattle.core_commit.specs.core_state.Needs.{value_in, may}
+use Rattle.core_commit.specs.core_state.Steps.{step, run}
 use Rattle.std.specs.Prelude.{◌≡◌, ℕ, true, List, [], ◌∷◌, if◌then◌else◌}
 
 -- a write is answered the value before it

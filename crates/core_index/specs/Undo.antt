@@ -1,13 +1,13 @@
 -- What a worker has still to put back is there.
 use Rattle.map_model.specs.Lists.{Has}
-use Rattle.image_model.specs.Entries.{Entry}
+use Rattle.core_commit.specs.image_model.Entries.{Entry}
 use Rattle.page_model.specs.Nodes.{holds}
 use Rattle.page_model.specs.Redo.{has_key}
-use Rattle.core_state.specs.States.{State, start}
-use Rattle.core_state.specs.Openings.{Opening}
-use Rattle.core_state.specs.Events.{Event}
-use Rattle.core_state.specs.Needs.{is_held_by}
-use Rattle.core_state.specs.Steps.{run}
+use Rattle.core_commit.specs.core_state.States.{State, start}
+use Rattle.core_commit.specs.core_state.Openings.{Opening}
+use Rattle.core_commit.specs.core_state.Events.{Event}
+use Rattle.core_commit.specs.core_state.Needs.{is_held_by}
+use Rattle.core_commit.specs.core_state.Steps.{run}
 use Rattle.std.specs.Prelude.{◌≡◌, ◌<◌, ◌≤◌, ℕ, true, List}
 
 -- The key of the change has an entry in its leaf.

@@ -3,7 +3,7 @@ use Rattle.map_model.specs.Lists.{Has}
 use Rattle.map_model.specs.Maps.{MapAnswer}
 use Rattle.page_model.specs.Pairs.{Pair, Rising, find}
 use Rattle.page_model.specs.Nodes.{Format}
-use Rattle.core_state.specs.Needs.{following}
+use Rattle.core_commit.specs.core_state.Needs.{following}
 use Rattle.std.specs.Prelude.{◌≡◌, ◌≤◌, ◌↔◌, ℕ, leb, ltb, List, [], ◌∷◌, None, if◌then◌else◌}
 
 -- The keys, in their order, of the tombstones from the key on up to the first live pair, and of this pair.

@@ -8,7 +8,7 @@ use Rattle.page_model.specs.Nodes.{holds}
 use Rattle.page_model.specs.Records.{Record}
 use Rattle.page_model.specs.Redo.{all_keys}
 use Rattle.page_model.specs.Needs as record_needs
-use Rattle.image_model.specs.Entries.{Contents, Entry, Kind, touches, written}
+use Rattle.core_state.specs.image_model.Entries.{Contents, Entry, Kind, touches, written}
 use Rattle.core_state.specs.Events.{Event, Mode}
 use Rattle.core_state.specs.Lists.{is_empty, most}
 use Rattle.core_state.specs.Needs.{are_hot, holds_row, is_behind, is_held_by, is_leaf_of, is_following, following, holds_answer, is_settled, is_value, is_worker, may, may_drop, may_hold, may_join, may_lift, may_purge, may_put, may_put_back, may_read, may_split, needs, pages_of, value_in}

@@ -2,7 +2,7 @@
 use Rattle.page_model.specs.Nodes.{Format, Node, free}
 use Rattle.page_model.specs.Tree.{IsTree}
 use Rattle.page_model.proofs.Check as page_check
-use Rattle.core_state.specs.Openings.{Opening}
+use Rattle.core_commit.specs.core_state.Openings.{Opening}
 use Rattle.core_paging.specs.Example.{WorkedExample}
 use Rattle.std.proofs.Common.{◌^◌, ◌-◌, ℕ, zero, suc, true, [], refl, arith}
 

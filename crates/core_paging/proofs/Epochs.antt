@@ -1,14 +1,14 @@
 -- A frame that a worker could have seen keeps its page until the worker leaves.
 use Rattle.map_model.specs.Lists.{upd, any}
 use Rattle.map_model.specs.Maps.{MapAnswer}
-use Rattle.image_model.specs.Entries.{Entry}
-use Rattle.core_state.specs.Lists.{all_below}
-use Rattle.core_state.specs.States.{Place, State, is_hot, is_cooling, is_cold, in_frame, frame_of, epoch_of, waits_for, left_by}
-use Rattle.core_state.specs.Openings.{Opening}
-use Rattle.core_state.specs.States.Place.{Hot, Cooling, Cold}
-use Rattle.core_state.specs.Events.{Event}
-use Rattle.core_state.specs.Needs.{are_hot, pages_of, is_worker, is_inside, has_hot_parent, is_empty_frame, is_dirty, needs}
-use Rattle.core_state.specs.Steps.{put_back, follows, happens, step, run}
+use Rattle.core_commit.specs.image_model.Entries.{Entry}
+use Rattle.core_commit.specs.core_state.Lists.{all_below}
+use Rattle.core_commit.specs.core_state.States.{Place, State, is_hot, is_cooling, is_cold, in_frame, frame_of, epoch_of, waits_for, left_by}
+use Rattle.core_commit.specs.core_state.Openings.{Opening}
+use Rattle.core_commit.specs.core_state.States.Place.{Hot, Cooling, Cold}
+use Rattle.core_commit.specs.core_state.Events.{Event}
+use Rattle.core_commit.specs.core_state.Needs.{are_hot, pages_of, is_worker, is_inside, has_hot_parent, is_empty_frame, is_dirty, needs}
+use Rattle.core_commit.specs.core_state.Steps.{put_back, follows, happens, step, run}
 use Rattle.map_model.proofs.ListLemmas.{upd_same, upd_other}
 use Rattle.core_commit.proofs.Copies.{at_place as at_upd}
 use Rattle.core_commit.proofs.Controls.{worker_to}

@@ -1,12 +1,12 @@
 -- Every run keeps all of it.
 use Rattle.page_model.specs.Check.{names_page}
 use Rattle.page_model.proofs.Tree.{ok}
-use Rattle.core_state.specs.States.{Place, State, start, nodes_of, is_hot, in_frame, waits_for}
-use Rattle.core_state.specs.Openings.{Opening}
-use Rattle.core_state.specs.States.Place.{Hot, Cold}
-use Rattle.core_state.specs.Events.{Event}
-use Rattle.core_state.specs.Needs.{are_hot, pages_of, is_worker, is_inside, may, needs}
-use Rattle.core_state.specs.Steps.{happens, step, run}
+use Rattle.core_commit.specs.core_state.States.{Place, State, start, nodes_of, is_hot, in_frame, waits_for}
+use Rattle.core_commit.specs.core_state.Openings.{Opening}
+use Rattle.core_commit.specs.core_state.States.Place.{Hot, Cold}
+use Rattle.core_commit.specs.core_state.Events.{Event}
+use Rattle.core_commit.specs.core_state.Needs.{are_hot, pages_of, is_worker, is_inside, may, needs}
+use Rattle.core_commit.specs.core_state.Steps.{happens, step, run}
 use Rattle.map_model.proofs.ListLemmas.{upd_same}
 use Rattle.core_commit.proofs.Controls.{worker_to}
 use Rattle.core_commit.proofs.Copies.{at_place}

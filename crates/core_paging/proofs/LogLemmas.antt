@@ -1,14 +1,14 @@
 -- Each page's last log is one of the workers' or what opening gives: only an open worker writes.
 use Rattle.map_model.specs.Maps.{MapAnswer}
-use Rattle.image_model.specs.Entries.{Kind, Entry, touches, written}
+use Rattle.core_commit.specs.image_model.Entries.{Kind, Entry, touches, written}
 use Rattle.page_model.specs.Records.{Record}
 use Rattle.page_model.specs.Needs as record_needs
 use Rattle.page_model.specs.Redo.{all_keys}
-use Rattle.core_state.specs.States.{State, start, nodes_of, gsns_of}
-use Rattle.core_state.specs.Openings.{Opening}
-use Rattle.core_state.specs.Events.{Event}
-use Rattle.core_state.specs.Needs.{are_hot, pages_of, is_held_by, is_settled, may_put, may_put_back, may_split, may_lift, may_join, may_drop, may_purge, needs}
-use Rattle.core_state.specs.Steps.{at_pages, page_entry, write_entry, moves, put_back, follows, happens, step, run, with_pairs}
+use Rattle.core_commit.specs.core_state.States.{State, start, nodes_of, gsns_of}
+use Rattle.core_commit.specs.core_state.Openings.{Opening}
+use Rattle.core_commit.specs.core_state.Events.{Event}
+use Rattle.core_commit.specs.core_state.Needs.{are_hot, pages_of, is_held_by, is_settled, may_put, may_put_back, may_split, may_lift, may_join, may_drop, may_purge, needs}
+use Rattle.core_commit.specs.core_state.Steps.{at_pages, page_entry, write_entry, moves, put_back, follows, happens, step, run, with_pairs}
 use Rattle.map_model.proofs.ListLemmas.{at_upd}
 use Rattle.core_commit.proofs.Invariants.{Inv}
 use Rattle.core_commit.proofs.Runs.{Good, step_keeps, good_step, good_start}

@@ -1,9 +1,9 @@
 -- Facts on lists and places.
 use Rattle.core_paging.specs.Paging.{one_if}
 use Rattle.map_model.specs.Lists.{all, Has}
-use Rattle.core_state.specs.Lists.{all_below, times, without, at_end}
-use Rattle.core_state.specs.States.{Place, is_hot, is_cooling, is_cold, in_frame, frame_of, waits_for, left_by}
-use Rattle.core_state.specs.States.Place.{Hot, Cooling, Cold}
+use Rattle.core_commit.specs.core_state.Lists.{all_below, times, without, at_end}
+use Rattle.core_commit.specs.core_state.States.{Place, is_hot, is_cooling, is_cold, in_frame, frame_of, waits_for, left_by}
+use Rattle.core_commit.specs.core_state.States.Place.{Hot, Cooling, Cold}
 use Rattle.map_model.proofs.ListLemmas.{upd_same, upd_other}
 use Rattle.std.proofs.Common.{◌≡◌, ◌<◌, ◌+◌, ℕ, zero, suc, Bool, true, false, cond, ◌||◌, ◌==◌, List, [], ◌∷◌, refl, sym, ap, ◌∙◌, inl, inr, arith, true≢false}
 use Rattle.std.proofs.lemmas.Bool.{cases_eq, eq-eqb, ne_eqb, eqb-true, and_parts, cond-false}

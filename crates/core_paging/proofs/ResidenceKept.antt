@@ -1,7 +1,7 @@
 -- Each event keeps pages where they may be.
 use Rattle.map_model.specs.Lists.{upd}
 use Rattle.map_model.specs.Maps.{MapAnswer}
-use Rattle.image_model.specs.Entries.{Kind, Entry, Contents, touches, written}
+use Rattle.core_commit.specs.image_model.Entries.{Kind, Entry, Contents, touches, written}
 use Rattle.page_model.specs.Pairs.{Pair}
 use Rattle.page_model.specs.Nodes.{Node}
 use Rattle.page_model.specs.Tree.{IsTree}
@@ -9,13 +9,13 @@ use Rattle.page_model.specs.Records.{Record}
 use Rattle.page_model.specs.Check.{names_page}
 use Rattle.page_model.specs.Needs as record_needs
 use Rattle.page_model.proofs.Tree.{child_page}
-use Rattle.core_state.specs.Lists.{all_below, times, without, at_end}
-use Rattle.core_state.specs.States.{Place, State, start, nodes_of, gsns_of, is_hot, is_cooling, is_cold, in_frame, frame_of, waits_for, left_by}
-use Rattle.core_state.specs.Openings.{Opening}
-use Rattle.core_state.specs.States.Place.{Hot, Cooling, Cold}
-use Rattle.core_state.specs.Events.{Event}
-use Rattle.core_state.specs.Needs.{are_hot, pages_of, has_hot_parent, has_hot_child, is_empty_frame, is_dirty, is_inside, needs}
-use Rattle.core_state.specs.Steps.{at_pages, page_entry, write_entry, moves, put_back, follows, happens}
+use Rattle.core_commit.specs.core_state.Lists.{all_below, times, without, at_end}
+use Rattle.core_commit.specs.core_state.States.{Place, State, start, nodes_of, gsns_of, is_hot, is_cooling, is_cold, in_frame, frame_of, waits_for, left_by}
+use Rattle.core_commit.specs.core_state.Openings.{Opening}
+use Rattle.core_commit.specs.core_state.States.Place.{Hot, Cooling, Cold}
+use Rattle.core_commit.specs.core_state.Events.{Event}
+use Rattle.core_commit.specs.core_state.Needs.{are_hot, pages_of, has_hot_parent, has_hot_child, is_empty_frame, is_dirty, is_inside, needs}
+use Rattle.core_commit.specs.core_state.Steps.{at_pages, page_entry, write_entry, moves, put_back, follows, happens}
 use Rattle.map_model.proofs.ListLemmas.{upd_other}
 use Rattle.core_commit.proofs.Events.{names_to}
 use Rattle.core_commit.proofs.Copies.{at_place as at_upd, loaded, above_pages}

@@ -1,15 +1,15 @@
 -- What is known of saved contents.
 use Rattle.map_model.specs.Lists.{upd, all, Has}
 use Rattle.map_model.specs.Maps.{MapAnswer}
-use Rattle.image_model.specs.Entries.{Kind, Entry, Contents, touches}
+use Rattle.core_commit.specs.image_model.Entries.{Kind, Entry, Contents, touches}
 use Rattle.page_model.specs.Records.{Record}
 use Rattle.page_model.specs.Needs as record_needs
-use Rattle.core_state.specs.Lists.{most}
-use Rattle.core_state.specs.States.{State, start, flushed_by_all, nodes_of, gsns_of, is_cold}
-use Rattle.core_state.specs.Openings.{Opening}
-use Rattle.core_state.specs.Events.{Event}
-use Rattle.core_state.specs.Needs.{is_held_by, is_settled, may_put, may_put_back, may_split, may_lift, may_join, may_drop, may_purge, is_behind, is_ripe_up_to, is_saved_up_to, needs}
-use Rattle.core_state.specs.Steps.{at_pages, page_entry, write_entry, moves, put_back, follows, happens, step, run, HasBeen, with_pairs}
+use Rattle.core_commit.specs.core_state.Lists.{most}
+use Rattle.core_commit.specs.core_state.States.{State, start, flushed_by_all, nodes_of, gsns_of, is_cold}
+use Rattle.core_commit.specs.core_state.Openings.{Opening}
+use Rattle.core_commit.specs.core_state.Events.{Event}
+use Rattle.core_commit.specs.core_state.Needs.{is_held_by, is_settled, may_put, may_put_back, may_split, may_lift, may_join, may_drop, may_purge, is_behind, is_ripe_up_to, is_saved_up_to, needs}
+use Rattle.core_commit.specs.core_state.Steps.{at_pages, page_entry, write_entry, moves, put_back, follows, happens, step, run, HasBeen, with_pairs}
 use Rattle.page_model.specs.Redo.{all_keys}
 use Rattle.core_commit.proofs.Lists.{le_least, least_le}
 use Rattle.map_model.proofs.ListLemmas.{upd_same, upd_other}
@@ -50,7 +50,7 @@ saves_quiet g s k x n p r (inr h) t l = k.held p r h t l
 
 flush_rises : (g : Opening) (s : State) (w n : ℕ) → needs g s (Event.Flush w n) ≡ true → flushed_by_all g s ≤ flushed_by_all g (happens g s (Event.Flush w n))
 flush_rises g s w n m =
-    let p = and_parts (leb (s.flushed w) n) (Rattle.map_model.specs.Lists.any (λ r. Rattle.image_model.specs.Entries.is_record r.kind && ((r.log == w) && (r.number == n))) s.entries) m in
+    let p = and_parts (leb (s.flushed w) n) (Rattle.map_model.specs.Lists.any (λ r. Rattle.core_commit.specs.image_model.Entries.is_record r.kind && ((r.log == w) && (r.number == n))) s.entries) m in
     least_mono s.flushed (upd s.flushed w n) g.workers g.some_worker (upd_rises s.flushed w n (leb-true (s.flushed w) n p.0))
 
 sync_rises : (g : Opening) (s : State) → Inv g s → (n : ℕ) → needs g s (Event.Sync n) ≡ true → flushed_by_all g s ≤ flushed_by_all g (happens g s (Event.Sync n))

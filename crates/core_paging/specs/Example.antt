@@ -1,10 +1,10 @@
 -- A run by hand that meets each kind of need on pages and frames: a leaf of two entries is lifted, split, saved, cooled,
 -- evicted and loaded again; then the leaves are joined and the root is dropped; a tombstone is purged, and the log is cut.
 use Rattle.map_model.specs.Maps.{MapAnswer}
-use Rattle.core_state.specs.States.{start, nodes_of, is_cold}
-use Rattle.core_state.specs.Openings.{Opening}
-use Rattle.core_state.specs.Events.{Event, Mode}
-use Rattle.core_state.specs.Steps.{run, AllMet}
+use Rattle.core_commit.specs.core_state.States.{start, nodes_of, is_cold}
+use Rattle.core_commit.specs.core_state.Openings.{Opening}
+use Rattle.core_commit.specs.core_state.Events.{Event, Mode}
+use Rattle.core_commit.specs.core_state.Steps.{run, AllMet}
 use Rattle.std.specs.Prelude.{◌≡◌, ◌^◌, true, List, [], ◌∷◌, Some}
 
 -- the first two entries, and room for them

@@ -1,8 +1,8 @@
 -- The log that a page names as its last one.
-use Rattle.core_state.specs.States.{State, start}
-use Rattle.core_state.specs.Openings.{Opening}
-use Rattle.core_state.specs.Events.{Event}
-use Rattle.core_state.specs.Steps.{run}
+use Rattle.core_commit.specs.core_state.States.{State, start}
+use Rattle.core_commit.specs.core_state.Openings.{Opening}
+use Rattle.core_commit.specs.core_state.Events.{Event}
+use Rattle.core_commit.specs.core_state.Steps.{run}
 use Rattle.std.specs.Prelude.{◌≤◌, ℕ, List}
 
 -- each page's last log, and that of its saved contents, is at most this

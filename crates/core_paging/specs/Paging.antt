@@ -1,14 +1,14 @@
 -- Where pages are: one page for each frame, hot parents, a queue of the cooling pages; what is saved of each; and that
 -- no frame which a worker could have seen is filled with another page before the worker leaves.
 use Rattle.map_model.specs.Lists.{Has, any}
-use Rattle.image_model.specs.Entries.{Entry, touches}
+use Rattle.core_commit.specs.image_model.Entries.{Entry, touches}
 use Rattle.page_model.specs.Check.{names_page}
-use Rattle.core_state.specs.Lists.{times}
-use Rattle.core_state.specs.States.{Place, State, start, flushed_by_all, nodes_of, is_hot, is_cooling, is_cold, in_frame, epoch_of, waits_for}
-use Rattle.core_state.specs.Openings.{Opening}
-use Rattle.core_state.specs.Events.{Event}
-use Rattle.core_state.specs.Needs.{may}
-use Rattle.core_state.specs.Steps.{step, run, HasBeen}
+use Rattle.core_commit.specs.core_state.Lists.{times}
+use Rattle.core_commit.specs.core_state.States.{Place, State, start, flushed_by_all, nodes_of, is_hot, is_cooling, is_cold, in_frame, epoch_of, waits_for}
+use Rattle.core_commit.specs.core_state.Openings.{Opening}
+use Rattle.core_commit.specs.core_state.Events.{Event}
+use Rattle.core_commit.specs.core_state.Needs.{may}
+use Rattle.core_commit.specs.core_state.Steps.{step, run, HasBeen}
 use Rattle.std.specs.Prelude.{◌≡◌, ◌<◌, ◌≤◌, ℕ, Bool, true, false, ◌==◌, List, [], ◌∷◌, Some}
 
 -- ## Frames

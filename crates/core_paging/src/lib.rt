@@ -5,6 +5,10 @@ ghost use Rattle.core_paging.specs.Paging.{EveryResidence, EverySaved, EpochRule
 ghost use Rattle.core_paging.specs.Logs.{EveryLastLog};
 ghost use Rattle.core_paging.specs.Example.{WorkedExample};
 
+// Passed on to the crates above.
+pub use core_commit;
+pub use core_commit::image_model;
+
 /// A frame has one page and a page one frame; page 0 and the parent of each hot page are hot; the queue has each cooling
 /// page once; a cold page is as it was saved.
 pub fn every_residence()

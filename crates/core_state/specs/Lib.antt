@@ -6,3 +6,5 @@ pub mod Events
 pub mod Needs
 pub mod Steps
 pub mod Local
+-- Passed on to the crates above.
+pub use Rattle.image_model.specs as image_model

@@ -5,6 +5,9 @@
 
 ghost use Rattle.core_state.specs.Local.{EveryLocal};
 
+// Passed on to the crates above.
+pub use image_model;
+
 /// An event changes no lock row and no page but those that it publishes, and of the workers its own alone; a sync changes
 /// all workers.
 pub fn every_local()

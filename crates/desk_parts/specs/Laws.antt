@@ -5,8 +5,8 @@ use Rattle.engine_trait.specs.Calls as resident
 use Rattle.page_calls.specs.declared.slots.Slot.{Slot}
 use Rattle.page_provider.specs.Moves.{Moved}
 use Rattle.page_provider.specs.Providers.{Provider}
-use Rattle.row_words.specs.Moments.{events_of}
-use Rattle.row_words.specs.Openings.{opening}
+use Rattle.rows_trait.specs.row_words.Moments.{events_of}
+use Rattle.rows_trait.specs.row_words.Openings.{opening}
 use Rattle.rows_trait.specs.declared.view.View.{View}
 use Rattle.rows_trait.specs.Views.{Shape}
 use Rattle.session_desks.specs.Syncs.{SyncFails, SyncGoes, SyncMade}

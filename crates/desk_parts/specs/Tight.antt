@@ -1,12 +1,12 @@
 -- Where syncs stand among the events of a call that brings pages in.
 use Rattle.std.specs.Prelude.{◌≡◌, ◌++◌, ℕ, true, false, List}
 use Rattle.map_model.specs.Lists.{all}
-use Rattle.core_state.specs.Events.{Event}
-use Rattle.core_state.specs.Openings.{Opening}
+use Rattle.rows_trait.specs.core_state.Events.{Event}
+use Rattle.rows_trait.specs.core_state.Openings.{Opening}
 use Rattle.core_calls.specs.Fronts.{Done}
 use Rattle.core_calls.specs.LogEvents.{IsSync, IsTight, IsTightSomewhere, SyncsWhere}
 use Rattle.engine_calls.specs.Parts.{behind_first}
-use Rattle.row_words.specs.Openings.{opening}
+use Rattle.rows_trait.specs.row_words.Openings.{opening}
 use Rattle.rows_trait.specs.declared.view.View.{View}
 use Rattle.rows_trait.specs.Views.{state}
 use Rattle.session_state.specs.Ties.{Behind}

@@ -2,7 +2,7 @@
 use Rattle.std.proofs.Common.{◌≡◌, inl, inr, ⊎_elim, ◌<◌, ◌≤◌, ◌+◌, ◌-◌, ℕ, zero, suc, List, [], ◌∷◌, ◌++◌, length, take, drop, replicate, refl, sym, ◌∙◌, ap, subst, arith}
 use Rattle.std.proofs.lemmas.Bool.{cases_eq}
 use Rattle.std.proofs.lemmas.List.{take_at, drop_at}
-use Rattle.image_model.specs.Fair.{piece}
+use Rattle.master_store.specs.image_model.Fair.{piece}
 use Rattle.lean_disk.specs.Area.{Area, Leaves, put_over, synced, written}
 use Rattle.lean_disk.specs.Moments.{AsAt, LeavesOnly, Framed, CrashIn, OnlyReads}
 use Rattle.lean_disk.specs.Story.{Crash, Story, Tells}

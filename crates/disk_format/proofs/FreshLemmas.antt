@@ -3,14 +3,14 @@ use Rattle.std.proofs.Common.{◌≡◌, ◌+◌, ◌-◌, ◌==◌, ◌^◌, �
 use Rattle.std.proofs.lemmas.List.{length-replicate}
 use Rattle.page_model.specs.Nodes.{free}
 use Rattle.page_model.specs.Page.{Page, empty_leaf, new_page}
-use Rattle.btree_node.specs.Words.{words_of}
+use Rattle.master_store.specs.btree_node.Words.{words_of}
 use Rattle.lean_bytes.specs.Numbers.{words_bytes}
 use Rattle.lean_bytes.specs.Seals.{seal_of}
 use Rattle.lean_bytes.proofs.NumberLemmas.{length-words_bytes}
 use Rattle.lean_bytes.proofs.SealLemmas.{length-seal_of}
-use Rattle.disk_slots.specs.Masters.{master_slot, master_words}
-use Rattle.disk_slots.specs.Pages.{page_slot}
-use Rattle.disk_slots.specs.Slots.{slot_of}
+use Rattle.master_store.specs.disk_slots.Masters.{master_slot, master_words}
+use Rattle.master_store.specs.disk_slots.Pages.{page_slot}
+use Rattle.master_store.specs.disk_slots.Slots.{slot_of}
 use Rattle.disk_format.specs.Fresh.{first_master, first_slot, fresh_node, fresh_page}
 use Rattle.disk_format.specs.declared.shape.Shape.{Shape}
 

@@ -3,31 +3,31 @@ use Rattle.std.proofs.Common.{◌≡◌, ⊎_elim, ◌<◌, ◌≤◌, ◌+◌, 
 use Rattle.std.proofs.lemmas.List.{take_at, drop_at, drop-drop, take-append-drop, length-replicate}
 use Rattle.std.proofs.lemmas.Bool.{cases_Bool, and_from, lt-ltb, le-ltb, cond-true, cond-false}
 use Rattle.std.proofs.lemmas.Nat.{mod_below}
-use Rattle.image_model.specs.Fair.{piece}
-use Rattle.image_model.specs.Slots.{Shown, Slot, base_of, image_of, newer_page, valid}
+use Rattle.master_store.specs.image_model.Fair.{piece}
+use Rattle.master_store.specs.image_model.Slots.{Shown, Slot, base_of, image_of, newer_page, valid}
 use Rattle.image_laws.specs.Formatted.{IsFormatted as IsFormattedImage, FormattedLaws, formatted_page}
 use Rattle.image_laws.proofs.FormattedLemmas.{every_formatted}
 use Rattle.page_model.specs.Nodes.{free}
 use Rattle.page_model.specs.Page.{empty_leaf, new_page}
-use Rattle.btree_node.specs.Words.{words_of, Fits}
-use Rattle.log_block.specs.Block.{generation_of}
-use Rattle.disk_slots.specs.Masters.{IsMaster as HoldsMaster, IsMasterSlot}
-use Rattle.disk_slots.specs.Pages.{IsPage, IsPageSlot, IsStorable, page_slot}
-use Rattle.disk_slots.specs.declared.master.Master.{Master}
-use Rattle.disk_slots.proofs.LawLemmas.{every_master, every_page}
-use Rattle.disk_image.specs.Blocks.{belongs, is_sealed}
-use Rattle.disk_image.specs.Laws.{Agree, Agreement}
-use Rattle.disk_image.specs.MasterSlots.{master_in, master_on, newer}
-use Rattle.disk_image.specs.PageSlots.{page_in}
-use Rattle.disk_image.specs.Runs.{Block, AreReadable, block_at, entries_in, logged_onto, run_in, sealed_in}
-use Rattle.disk_image.specs.Shown.{IsReadable, run_of, shown_by, slot_of}
-use Rattle.disk_image.specs.Words.{are_words}
-use Rattle.disk_image.proofs.AgreementLemmas.{every_agreement}
-use Rattle.disk_image.proofs.BlockInLemmas.{every_belongs, every_sealed}
-use Rattle.disk_image.proofs.MasterSlotLemmas.{every_master_in}
-use Rattle.disk_image.proofs.PageSlotLemmas.{every_page_in}
-use Rattle.disk_image.proofs.TestLemmas.{none_some, some_is}
-use Rattle.disk_image.proofs.WordLemmas.{are_words_to}
+use Rattle.master_store.specs.btree_node.Words.{words_of, Fits}
+use Rattle.master_store.specs.log_block.Block.{generation_of}
+use Rattle.master_store.specs.disk_slots.Masters.{IsMaster as HoldsMaster, IsMasterSlot}
+use Rattle.master_store.specs.disk_slots.Pages.{IsPage, IsPageSlot, IsStorable, page_slot}
+use Rattle.master_store.specs.disk_slots.declared.master.Master.{Master}
+use Rattle.master_store.proofs.disk_slots_lemmas.LawLemmas.{every_master, every_page}
+use Rattle.master_store.specs.disk_image.Blocks.{belongs, is_sealed}
+use Rattle.master_store.specs.disk_image.Laws.{Agree, Agreement}
+use Rattle.master_store.specs.disk_image.MasterSlots.{master_in, master_on, newer}
+use Rattle.master_store.specs.disk_image.PageSlots.{page_in}
+use Rattle.master_store.specs.disk_image.Runs.{Block, AreReadable, block_at, entries_in, logged_onto, run_in, sealed_in}
+use Rattle.master_store.specs.disk_image.Shown.{IsReadable, run_of, shown_by, slot_of}
+use Rattle.master_store.specs.disk_image.Words.{are_words}
+use Rattle.master_store.proofs.disk_image_lemmas.AgreementLemmas.{every_agreement}
+use Rattle.master_store.proofs.disk_image_lemmas.BlockInLemmas.{every_belongs, every_sealed}
+use Rattle.master_store.proofs.disk_image_lemmas.MasterSlotLemmas.{every_master_in}
+use Rattle.master_store.proofs.disk_image_lemmas.PageSlotLemmas.{every_page_in}
+use Rattle.master_store.proofs.disk_image_lemmas.TestLemmas.{none_some, some_is}
+use Rattle.master_store.proofs.disk_image_lemmas.WordLemmas.{are_words_to}
 use Rattle.disk_format.specs.Formatted.{HasPages, IsFormatted}
 use Rattle.disk_format.specs.Fresh.{first_master, fresh_node, fresh_page}
 use Rattle.disk_format.specs.Laws.{EveryNewDisk, HasNoBlock, IsNew, IsShape}

@@ -1,11 +1,11 @@
 -- A disk as `format` leaves it, and what a crash in `format` may leave.
 use Rattle.std.specs.Prelude.{◌≡◌, ◌⊎◌, ◌*◌, ◌-◌, ◌<◌, ◌≤◌, ℕ, List, take, length, [], codes}
-use Rattle.image_model.specs.Fair.{piece, IsFair}
+use Rattle.master_store.specs.image_model.Fair.{piece, IsFair}
 use Rattle.lean_disk.specs.Area.{Area, Leaves, Write}
 use Rattle.lean_disk.specs.Story.{Crash, Story, Tells}
-use Rattle.disk_slots.specs.Masters.{IsMasterSlot}
-use Rattle.disk_slots.specs.Slots.{IsSealed}
-use Rattle.disk_slots.specs.declared.master.Master.{Master}
+use Rattle.master_store.specs.disk_slots.Masters.{IsMasterSlot}
+use Rattle.master_store.specs.disk_slots.Slots.{IsSealed}
+use Rattle.master_store.specs.disk_slots.declared.master.Master.{Master}
 use Rattle.disk_format.specs.Fresh.{first_slot, fresh_page}
 use Rattle.disk_format.specs.Pieces.{pages_from}
 use Rattle.disk_format.specs.declared.shape.Shape.{Shape}

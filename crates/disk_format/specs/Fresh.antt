@@ -2,9 +2,9 @@
 use Rattle.std.specs.Prelude.{ℕ, ◌^◌, ◌-◌, ◌==◌, List, ◌++◌, replicate, if◌then◌else◌}
 use Rattle.page_model.specs.Nodes.{Node, free}
 use Rattle.page_model.specs.Page.{empty_leaf, new_page}
-use Rattle.disk_slots.specs.Masters.{master_slot}
-use Rattle.disk_slots.specs.Pages.{page_slot}
-use Rattle.disk_slots.specs.declared.master.Master.{Master}
+use Rattle.master_store.specs.disk_slots.Masters.{master_slot}
+use Rattle.master_store.specs.disk_slots.Pages.{page_slot}
+use Rattle.master_store.specs.disk_slots.declared.master.Master.{Master}
 use Rattle.disk_format.specs.declared.shape.Shape.{Shape}
 
 -- page 0 is a leaf without entries that all keys are in, every other page is free

@@ -1,8 +1,8 @@
 -- What a new disk is: clean, and of the empty map.
 use Rattle.std.specs.Prelude.{◌≤◌, ◌<◌, ℕ, suc, List, [], None}
-use Rattle.image_model.specs.Fair.{piece}
-use Rattle.log_block.specs.Block.{IsSealed}
-use Rattle.disk_image.specs.Shown.{DiskStandsFor, IsCleanDisk}
+use Rattle.master_store.specs.image_model.Fair.{piece}
+use Rattle.master_store.specs.log_block.Block.{IsSealed}
+use Rattle.master_store.specs.disk_image.Shown.{DiskStandsFor, IsCleanDisk}
 use Rattle.disk_format.specs.Formatted.{IsFormatted}
 use Rattle.disk_format.specs.Fresh.{first_master}
 use Rattle.disk_format.specs.declared.shape.Shape.{Shape}

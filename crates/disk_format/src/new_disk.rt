@@ -5,14 +5,14 @@ ghost use Rattle.lean_disk.specs.Faults.{HasCause};
 ghost use Rattle.lean_disk.specs.Moments.{CrashIn, Framed, LeavesOnly, OnlyReads};
 ghost use Rattle.lean_disk.specs.Story.{Tells};
 ghost use Rattle.disk_format.specs.Formatted.{Anything, FormatLeaves, HasMaster, HasSyncedPages, IsNewDisk, IsUntouched, Keeps};
-ghost use Rattle.disk_image.specs.MasterSlots.{master_on};
+ghost use Rattle.master_store.specs.disk_image.MasterSlots.{master_on};
 ghost use Rattle.master_store.specs.Masters.{WritesOnce};
 ghost use Rattle.disk_format.specs.Fresh.{first_slot};
 
 use crate::parts::{first_master, lay_pages};
 use crate::shape::Shape;
-use disk_slots::Master;
 use lean_disk::{AreaOf, Did, Disk};
+use master_store::disk_slots::Master;
 use master_store::{DiskFault, choose, write_next};
 
 /// What `format` did.

@@ -4,16 +4,16 @@ ghost use Rattle.lean_disk.specs.Calls.{Wrote};
 ghost use Rattle.lean_disk.specs.Faults.{HasCause};
 ghost use Rattle.lean_disk.specs.Moments.{CrashIn, Framed, LeavesOnly};
 ghost use Rattle.lean_disk.specs.Story.{Tells};
-ghost use Rattle.disk_slots.specs.Pages.{page_slot};
+ghost use Rattle.master_store.specs.disk_slots.Pages.{page_slot};
 ghost use Rattle.page_model.specs.Page.{new_page};
 ghost use Rattle.disk_format.specs.Formatted.{Anything, HasPages, HasSyncedPages};
 ghost use Rattle.disk_format.specs.Fresh.{first_master, fresh_node, fresh_page};
 ghost use Rattle.disk_format.specs.Pieces.{pages_from};
 
 use crate::shape::Shape;
-use btree_node::Node;
-use disk_slots::{Heads, Master, page_bytes};
 use lean_disk::{Did, Part};
+use master_store::btree_node::Node;
+use master_store::disk_slots::{Heads, Master, page_bytes};
 
 /// Pages in a piece of 64 KiB: larger ones make later writes dear on some file systems.
 pub const PIECE: u32 = 32;

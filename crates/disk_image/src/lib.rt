@@ -3,6 +3,13 @@
 
 ghost use Rattle.disk_image.specs.Laws.{EveryAgreement, EveryBelongs, EveryBlockIn, EveryBreak, EveryMasterIn, EveryPageIn, EverySealed};
 
+// Passed on to the crates above.
+pub use btree_node;
+pub use disk_slots;
+pub use image_model;
+pub use log_block;
+pub use log_record;
+
 /// A slot holds the page that the grammar says, or none.
 pub fn every_page_in()
     ensures { EveryPageIn }

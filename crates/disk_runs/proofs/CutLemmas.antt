@@ -4,19 +4,19 @@ use Rattle.std.proofs.lemmas.List.{take-append-drop}
 use Rattle.std.proofs.lemmas.Bool.{cond-true, le-leb, lt-leb, cond-false, leb-true}
 use Rattle.map_model.specs.Lists.{Has, keep}
 use Rattle.page_model.specs.Page.{Page}
-use Rattle.image_model.specs.Entries.{Entry}
-use Rattle.core_state.specs.Openings.{Opening}
-use Rattle.core_state.specs.States.{State}
-use Rattle.core_state.specs.Events.{Event}
-use Rattle.core_state.specs.Needs.{may}
-use Rattle.core_state.specs.Steps.{happens, state_after}
-use Rattle.core_crash.specs.Crashes.{from_head, log_of}
+use Rattle.master_store.specs.image_model.Entries.{Entry}
+use Rattle.core_disk.specs.core_state.Openings.{Opening}
+use Rattle.core_disk.specs.core_state.States.{State}
+use Rattle.core_disk.specs.core_state.Events.{Event}
+use Rattle.core_disk.specs.core_state.Needs.{may}
+use Rattle.core_disk.specs.core_state.Steps.{happens, state_after}
+use Rattle.core_disk.specs.core_crash.Crashes.{from_head, log_of}
 use Rattle.lean_disk.specs.Story.{Crash, Story}
-use Rattle.log_record.specs.declared.record.Record.{Record}
-use Rattle.disk_slots.specs.declared.master.Master.{Master}
-use Rattle.disk_image.specs.Records.{entry_of}
-use Rattle.disk_image.specs.Runs.{sealed_in}
-use Rattle.page_store.specs.Bases.{image_page}
+use Rattle.master_store.specs.log_record.declared.record.Record.{Record}
+use Rattle.master_store.specs.disk_slots.declared.master.Master.{Master}
+use Rattle.master_store.specs.disk_image.Records.{entry_of}
+use Rattle.master_store.specs.disk_image.Runs.{sealed_in}
+use Rattle.master_store.specs.page_store.Bases.{image_page}
 use Rattle.worker_log.specs.Accounts.{joined, records_of}
 use Rattle.worker_log.specs.Kept.{cut}
 use Rattle.worker_log.specs.Calls.{cut_log}
@@ -34,7 +34,7 @@ use Rattle.disk_runs.specs.Pages.{IsNoOlder}
 use Rattle.disk_runs.specs.Stands.{Known, Stands}
 use Rattle.disk_runs.proofs.NextLemmas.{same_pages}
 use Rattle.disk_runs.proofs.PageLemmas.{pages_then}
-use Rattle.disk_image.specs.Formats.{format_of}
+use Rattle.master_store.specs.disk_image.Formats.{format_of}
 
 -- ## Lists
 

@@ -3,19 +3,19 @@ use Rattle.std.proofs.Common.{◌≡◌, ◌-◌, ◌^◌, ℕ, suc, List, [], �
 use Rattle.page_model.specs.Needs.{split_record, lift_record, join_record, drop_record, purge_record}
 use Rattle.page_model.specs.Pairs.{Pair}
 use Rattle.page_model.specs.Records as records
-use Rattle.image_model.specs.Entries.{Kind, word_in}
+use Rattle.master_store.specs.image_model.Entries.{Kind, word_in}
 use Rattle.rfa_model.specs.Stamps.{need_of}
-use Rattle.core_state.specs.Openings.{Opening}
-use Rattle.core_state.specs.States.{State, Worker, gsns_of, nodes_of}
-use Rattle.core_state.specs.Steps.{end_entry, page_entry, write_entry}
-use Rattle.log_record.specs.Model.{model_keys, model_pairs}
-use Rattle.log_record.specs.declared.record.Keys.{Keys}
-use Rattle.log_record.specs.declared.record.PageRef.{PageRef}
-use Rattle.log_record.specs.declared.record.Pairs.{Pairs}
-use Rattle.log_record.specs.declared.record.Record.{Record}
-use Rattle.log_record.specs.declared.record.Body.{Body}
-use Rattle.log_record.specs.declared.record.Body.TheVariants as body
-use Rattle.disk_image.specs.Records.{entry_of}
+use Rattle.core_disk.specs.core_state.Openings.{Opening}
+use Rattle.core_disk.specs.core_state.States.{State, Worker, gsns_of, nodes_of}
+use Rattle.core_disk.specs.core_state.Steps.{end_entry, page_entry, write_entry}
+use Rattle.master_store.specs.log_record.Model.{model_keys, model_pairs}
+use Rattle.master_store.specs.log_record.declared.record.Keys.{Keys}
+use Rattle.master_store.specs.log_record.declared.record.PageRef.{PageRef}
+use Rattle.master_store.specs.log_record.declared.record.Pairs.{Pairs}
+use Rattle.master_store.specs.log_record.declared.record.Record.{Record}
+use Rattle.master_store.specs.log_record.declared.record.Body.{Body}
+use Rattle.master_store.specs.log_record.declared.record.Body.TheVariants as body
+use Rattle.master_store.specs.disk_image.Records.{entry_of}
 
 -- page p, and its number
 abbrev pub page_ref : State → ℕ → PageRef

@@ -2,10 +2,10 @@
 use Rattle.std.proofs.Common.{◌≡◌, inl, inr, ◌≤◌, ℕ, Bool, true, false, cond, leb, not, List, [], ◌∷◌, ◌++◌, refl, sym, ap, ap₂, ◌∙◌, subst, arith, true≢false}
 use Rattle.std.proofs.lemmas.Bool.{leb-true, le-leb}
 use Rattle.map_model.specs.Lists.{Has, keep}
-use Rattle.image_model.specs.Entries.{Entry}
+use Rattle.master_store.specs.image_model.Entries.{Entry}
 use Rattle.map_model.proofs.ListLemmas.{has_right, keep_has}
-use Rattle.core_crash.proofs.Images.{Numbers}
-use Rattle.core_crash.specs.Crashes.{from_head}
+use Rattle.core_disk.proofs.core_crash_lemmas.Images.{Numbers}
+use Rattle.core_disk.specs.core_crash.Crashes.{from_head}
 use Rattle.std.proofs.lemmas.List.{append-nil}
 
 -- the records up to the head

@@ -3,17 +3,17 @@ use Rattle.std.proofs.Common.{◌≡◌, inr, ⊎_elim, Bool, true, false, cond,
 use Rattle.map_model.specs.Lists.{Has}
 use Rattle.map_model.specs.Journals.{Txn, is_earlier, journal_of}
 use Rattle.page_model.specs.Nodes.{Format}
-use Rattle.image_model.specs.Entries.{Entry, is_commit}
-use Rattle.image_model.specs.Histories.{committed, txn_of}
-use Rattle.core_state.specs.Openings.{Opening}
-use Rattle.core_state.specs.States.{State, flushed_by_all, start}
-use Rattle.core_state.specs.Events.{Event}
-use Rattle.core_state.specs.Steps.{run, step, state_after}
-use Rattle.core_state.proofs.Runs.{run_more}
-use Rattle.core_commit.specs.Rises.{EveryRise, Rises}
-use Rattle.core_commit.proofs.History.{Recorded}
-use Rattle.core_commit.proofs.Lists.{each_at, has_before}
-use Rattle.core_crash.specs.Crashes.{IsRipe, journal_in}
+use Rattle.master_store.specs.image_model.Entries.{Entry, is_commit}
+use Rattle.master_store.specs.image_model.Histories.{committed, txn_of}
+use Rattle.core_disk.specs.core_state.Openings.{Opening}
+use Rattle.core_disk.specs.core_state.States.{State, flushed_by_all, start}
+use Rattle.core_disk.specs.core_state.Events.{Event}
+use Rattle.core_disk.specs.core_state.Steps.{run, step, state_after}
+use Rattle.core_disk.proofs.core_state_lemmas.Runs.{run_more}
+use Rattle.core_disk.specs.core_commit.Rises.{EveryRise, Rises}
+use Rattle.core_disk.proofs.core_commit_lemmas.History.{Recorded}
+use Rattle.core_disk.proofs.core_commit_lemmas.Lists.{each_at, has_before}
+use Rattle.core_disk.specs.core_crash.Crashes.{IsRipe, journal_in}
 use Rattle.map_model.proofs.ListLemmas.{has_order, has_right, order_has}
 use Rattle.core_disk.proofs.VersionLemmas.{good, more_step}
 use Rattle.disk_runs.specs.Moments.{EveryLasting, Lasts}

@@ -1,14 +1,14 @@
 -- The masters of one run, and fairness since a story.
 use Rattle.std.proofs.Common.{◌≡◌, ◌≤◌, inl, inr, ⊎_elim, ◌+◌, ◌++◌, ℕ, suc, Bool, true, false, cond, List, [], ◌∷◌, length, codes, refl, sym, ap, ◌∙◌, subst, arith}
 use Rattle.map_model.specs.Lists.{keep}
-use Rattle.image_model.specs.Fair.{IsFair}
-use Rattle.core_state.specs.Events.{Event}
+use Rattle.master_store.specs.image_model.Fair.{IsFair}
+use Rattle.core_disk.specs.core_state.Events.{Event}
 use Rattle.lean_disk.specs.Area.{Write}
 use Rattle.lean_disk.specs.Story.{Crash, Story}
-use Rattle.disk_slots.specs.declared.master.Master.{Master}
-use Rattle.disk_slots.specs.Slots.{IsSealed}
-use Rattle.log_block.specs.Block as blocks
-use Rattle.disk_image.specs.Fair.{IsFairCrash}
+use Rattle.master_store.specs.disk_slots.declared.master.Master.{Master}
+use Rattle.master_store.specs.disk_slots.Slots.{IsSealed}
+use Rattle.master_store.specs.log_block.Block as blocks
+use Rattle.master_store.specs.disk_image.Fair.{IsFairCrash}
 use Rattle.disk_runs.specs.Fair.{EveryFair, IsAsRead, IsFairFrom}
 use Rattle.disk_runs.specs.Masters.{EveryMasterCount, EveryMasterLine, IsNextOf, IsNoEarlier, IsOfRunBy, is_master, masters}
 

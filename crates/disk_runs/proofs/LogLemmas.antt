@@ -2,35 +2,35 @@
 use Rattle.std.proofs.Common.{◌≡◌, ⊎_elim, ◌≤◌, ◌*◌, ℕ, List, [], ◌++◌, sym, ap, ◌∙◌, subst, arith, append_assoc}
 use Rattle.map_model.specs.Lists.{Has}
 use Rattle.map_model.proofs.ListLemmas.{has_cases, has_left, has_right}
-use Rattle.image_model.specs.Entries.{Entry}
-use Rattle.image_model.specs.Fair.{piece, IsFair}
-use Rattle.image_model.proofs.FairLemmas.{narrow}
-use Rattle.core_state.specs.Openings.{Opening}
-use Rattle.core_state.specs.States.{State, flushed_by_all}
-use Rattle.core_state.specs.Events.{Event}
-use Rattle.core_crash.specs.Crashes.{IsPrefix, from_head, log_of}
-use Rattle.core_crash.proofs.Images.{Numbers, log_numbers}
+use Rattle.master_store.specs.image_model.Entries.{Entry}
+use Rattle.master_store.specs.image_model.Fair.{piece, IsFair}
+use Rattle.master_store.proofs.image_model_lemmas.FairLemmas.{narrow}
+use Rattle.core_disk.specs.core_state.Openings.{Opening}
+use Rattle.core_disk.specs.core_state.States.{State, flushed_by_all}
+use Rattle.core_disk.specs.core_state.Events.{Event}
+use Rattle.core_disk.specs.core_crash.Crashes.{IsPrefix, from_head, log_of}
+use Rattle.core_disk.proofs.core_crash_lemmas.Images.{Numbers, log_numbers}
 use Rattle.lean_disk.specs.Area.{Area, Leaves, Write}
-use Rattle.log_record.specs.declared.record.Record.{Record}
-use Rattle.log_block.specs.Block.{IsSealed, generation_of}
-use Rattle.disk_slots.specs.declared.master.Master.{Master}
-use Rattle.disk_image.specs.Blocks.{is_sealed}
-use Rattle.disk_image.specs.Laws.{EverySealed}
-use Rattle.disk_image.specs.Runs as runs
-use Rattle.disk_image.specs.Runs.{AreReadable, entries_in, logged_onto, sealed_in}
-use Rattle.disk_image.specs.Shown as shown
-use Rattle.disk_image.specs.Shown.{head_of, logged_in}
+use Rattle.master_store.specs.log_record.declared.record.Record.{Record}
+use Rattle.master_store.specs.log_block.Block.{IsSealed, generation_of}
+use Rattle.master_store.specs.disk_slots.declared.master.Master.{Master}
+use Rattle.master_store.specs.disk_image.Blocks.{is_sealed}
+use Rattle.master_store.specs.disk_image.Laws.{EverySealed}
+use Rattle.master_store.specs.disk_image.Runs as runs
+use Rattle.master_store.specs.disk_image.Runs.{AreReadable, entries_in, logged_onto, sealed_in}
+use Rattle.master_store.specs.disk_image.Shown as shown
+use Rattle.master_store.specs.disk_image.Shown.{head_of, logged_in}
 use Rattle.worker_log.specs.Accounts.{Account, joined, records_of}
 use Rattle.worker_log.specs.Logs.{Log}
 use Rattle.worker_log.specs.Kept.{LeavesBlocks}
 use Rattle.worker_log.specs.Laws.{EveryPrefix, EveryKept, Reads, ReadsPrefix, entries_onto}
-use Rattle.core_state.specs.Steps.{state_after}
+use Rattle.core_disk.specs.core_state.Steps.{state_after}
 use Rattle.core_disk.specs.Held.{HoldsLog}
 use Rattle.core_disk.proofs.VersionLemmas.{good}
 use Rattle.disk_runs.specs.Fair.{IsFairLog}
 use Rattle.disk_runs.specs.Logs.{Accounts, BeganAt, IsLogOf, LogStands}
 use Rattle.disk_runs.proofs.HeadLemmas.{from_prefix, split_at, up_to_head}
-use Rattle.disk_image.proofs.SealedLemmas.{listed, lists}
+use Rattle.master_store.proofs.disk_image_lemmas.SealedLemmas.{listed, lists}
 
 module _ (prefixes : EveryPrefix) (seals : EverySealed) (g : Opening) (es : List Event) (n : Master) (first : List ℕ) (older : List Write) (w : ℕ) (x : Account) (log : Log)
     (is : IsLogOf n w log) (accounts : Accounts (state_after g es) w x log) (began : BeganAt n first older x)

@@ -1,16 +1,16 @@
 -- What a crash leaves of the masters of a run.
 use Rattle.std.proofs.Common.{◌≡◌, ◌⊎◌, inl, inr, ⊎_elim, ◌≤◌, ◌<◌, ◌+◌, ◌-◌, ◌*◌, ◌%◌, ℕ, zero, suc, ltb, List, ◌∷◌, length, Option, Some, None, codes, refl, sym, ap, ◌∙◌, subst, arith}
 use Rattle.std.proofs.lemmas.Bool.{cases_lt, lt-ltb, le-ltb, cond-true, cond-false}
-use Rattle.image_model.specs.Fair.{piece, IsFair}
+use Rattle.master_store.specs.image_model.Fair.{piece, IsFair}
 use Rattle.map_model.specs.Lists.{Has}
 use Rattle.lean_disk.specs.Area.{Area, IsApart, Leaves, Write, put_over, synced, torn, written}
-use Rattle.disk_slots.specs.Masters.{IsMaster, IsMasterSlot, master_slot}
-use Rattle.disk_slots.specs.Slots.{IsSealed}
-use Rattle.disk_slots.specs.declared.master.Master.{Master}
-use Rattle.disk_slots.proofs.LawLemmas.{every_master}
-use Rattle.disk_image.specs.MasterSlots.{master_in, master_on, newer}
-use Rattle.disk_image.proofs.MasterSlotLemmas.{every_master_in}
-use Rattle.page_store.proofs.PieceLemmas.{piece_within, same_piece, write_here, write_other, write_size}
+use Rattle.master_store.specs.disk_slots.Masters.{IsMaster, IsMasterSlot, master_slot}
+use Rattle.master_store.specs.disk_slots.Slots.{IsSealed}
+use Rattle.master_store.specs.disk_slots.declared.master.Master.{Master}
+use Rattle.master_store.proofs.disk_slots_lemmas.LawLemmas.{every_master}
+use Rattle.master_store.specs.disk_image.MasterSlots.{master_in, master_on, newer}
+use Rattle.master_store.proofs.disk_image_lemmas.MasterSlotLemmas.{every_master_in}
+use Rattle.master_store.proofs.page_store_lemmas.PieceLemmas.{piece_within, same_piece, write_here, write_other, write_size}
 use Rattle.master_store.proofs.SlotLemmas.{alone, in_slot, master_is}
 use Rattle.worker_log.proofs.RingLemmas.{apart}
 use Rattle.disk_runs.specs.Fair.{IsSlotWrite}

@@ -4,26 +4,26 @@ use Rattle.std.proofs.lemmas.Bool.{cond-true}
 use Rattle.std.proofs.lemmas.List.{drop_all}
 use Rattle.map_model.specs.Lists.{Has}
 use Rattle.page_model.specs.Page.{Page}
-use Rattle.image_model.specs.Fair.{IsFair}
-use Rattle.core_state.specs.Openings.{Opening}
-use Rattle.core_state.specs.States.{State}
-use Rattle.core_state.specs.Events.{Event}
-use Rattle.core_state.specs.Needs.{may}
-use Rattle.core_state.specs.Steps.{happens, state_after}
-use Rattle.core_crash.specs.Crashes.{from_head, log_of}
+use Rattle.master_store.specs.image_model.Fair.{IsFair}
+use Rattle.core_disk.specs.core_state.Openings.{Opening}
+use Rattle.core_disk.specs.core_state.States.{State}
+use Rattle.core_disk.specs.core_state.Events.{Event}
+use Rattle.core_disk.specs.core_state.Needs.{may}
+use Rattle.core_disk.specs.core_state.Steps.{happens, state_after}
+use Rattle.core_disk.specs.core_crash.Crashes.{from_head, log_of}
 use Rattle.lean_disk.specs.Area.{Area, Leaves, Write, synced, torn}
 use Rattle.lean_disk.specs.Calls.{Synced, Wrote}
 use Rattle.lean_disk.specs.Moments.{CrashIn, LeavesOnly}
 use Rattle.lean_disk.specs.Story.{Crash, IsLawful, LeavesNow, Story, Tells}
 use Rattle.lean_disk.specs.declared.disk.Did.{Did}
 use Rattle.lean_disk.proofs.MomentLemmas.{goes_on, started, weaker}
-use Rattle.log_record.specs.declared.record.Record.{Record}
-use Rattle.disk_slots.specs.Masters.{master_slot}
-use Rattle.disk_slots.specs.Slots.{IsSealed}
-use Rattle.disk_slots.specs.declared.master.Master.{Master}
-use Rattle.disk_image.specs.Laws.{EverySealed}
-use Rattle.disk_image.specs.MasterSlots.{master_on}
-use Rattle.disk_image.specs.Runs.{sealed_in}
+use Rattle.master_store.specs.log_record.declared.record.Record.{Record}
+use Rattle.master_store.specs.disk_slots.Masters.{master_slot}
+use Rattle.master_store.specs.disk_slots.Slots.{IsSealed}
+use Rattle.master_store.specs.disk_slots.declared.master.Master.{Master}
+use Rattle.master_store.specs.disk_image.Laws.{EverySealed}
+use Rattle.master_store.specs.disk_image.MasterSlots.{master_on}
+use Rattle.master_store.specs.disk_image.Runs.{sealed_in}
 use Rattle.master_store.specs.Masters.{WritesOnce}
 use Rattle.worker_log.specs.Accounts.{joined, records_of}
 use Rattle.worker_log.specs.Kept.{EndsAt, RiseFrom}
@@ -42,7 +42,7 @@ use Rattle.disk_runs.proofs.MasterLemmas.{counts_either, next_stands}
 use Rattle.disk_runs.proofs.SlotLemmas.{one_more}
 use Rattle.disk_runs.proofs.PageLemmas.{holds_page}
 use Rattle.disk_runs.proofs.StandLemmas.{every_rest, log_part, page_part, still_pages}
-use Rattle.disk_image.specs.Formats.{format_of}
+use Rattle.master_store.specs.disk_image.Formats.{format_of}
 
 module _ (keeps : EveryKept) (prefixes : EveryPrefix) (seals : EverySealed) (s0 : Crash) (old : Story) (g : Opening) (es : List Event) (e : Event) (x y : Known) (stands : Stands g es s0 x old)
     (later : StandsNext g es e s0 x y old) where

@@ -2,13 +2,13 @@
 use Rattle.std.proofs.Common.{◌≡◌, inl, inr, ⊎_elim, ◌≤◌, ◌<◌, ℕ, suc, [], refl, sym, subst, arith}
 use Rattle.map_model.specs.Lists.{Has}
 use Rattle.page_model.specs.Page.{Page}
-use Rattle.image_model.specs.Entries as entries
-use Rattle.core_state.specs.Openings.{Opening, start_page}
-use Rattle.core_state.specs.States.{start}
+use Rattle.master_store.specs.image_model.Entries as entries
+use Rattle.core_disk.specs.core_state.Openings.{Opening, start_page}
+use Rattle.core_disk.specs.core_state.States.{start}
 use Rattle.lean_disk.specs.Story.{Crash, Story}
-use Rattle.disk_slots.specs.declared.master.Master.{Master}
-use Rattle.page_store.specs.Bases.{image_page}
-use Rattle.page_store.proofs.PieceLemmas.{every_whole}
+use Rattle.master_store.specs.disk_slots.declared.master.Master.{Master}
+use Rattle.master_store.specs.page_store.Bases.{image_page}
+use Rattle.master_store.proofs.page_store_lemmas.PieceLemmas.{every_whole}
 use Rattle.worker_log.specs.Logs.{Log}
 use Rattle.core_disk.specs.Held.{IsVersion}
 use Rattle.core_disk.specs.Versions.{EveryVersion}

@@ -3,19 +3,19 @@ use Rattle.std.proofs.Common.{◌≡◌, ◌⊎◌, inl, inr, ⊎_elim, ◌≤�
 use Rattle.std.proofs.lemmas.Bool.{cases_Bool, cases_lt, cases_eq, cond-true, cond-false, or_cases, or_left, or_right, and_parts, and_from, lt-ltb, ltb-true, eq-eqb, eqb-true, le-leb}
 use Rattle.map_model.specs.Lists.{Has}
 use Rattle.page_model.specs.Page.{Page}
-use Rattle.image_model.specs.Entries as entries
-use Rattle.image_model.specs.Fair.{piece, IsFair}
-use Rattle.image_model.specs.Slots.{Slot, is_older, newer_page, valid}
+use Rattle.master_store.specs.image_model.Entries as entries
+use Rattle.master_store.specs.image_model.Fair.{piece, IsFair}
+use Rattle.master_store.specs.image_model.Slots.{Slot, is_older, newer_page, valid}
 use Rattle.lean_disk.specs.Area.{Area, IsApart, Leaves, Write}
-use Rattle.core_state.specs.Openings.{Opening}
-use Rattle.core_state.specs.Events.{Event}
-use Rattle.disk_slots.specs.Slots.{IsSealed}
-use Rattle.disk_slots.specs.declared.master.Master.{Master}
-use Rattle.disk_image.specs.PageSlots.{page_in}
-use Rattle.disk_image.specs.Shown.{page_slot_in, slot_of}
-use Rattle.page_store.specs.Bases.{image_page}
-use Rattle.page_store.specs.Saved.{place_of}
-use Rattle.page_store.proofs.PieceLemmas.{every_whole, page_sealed, place_is, same_piece}
+use Rattle.core_disk.specs.core_state.Openings.{Opening}
+use Rattle.core_disk.specs.core_state.Events.{Event}
+use Rattle.master_store.specs.disk_slots.Slots.{IsSealed}
+use Rattle.master_store.specs.disk_slots.declared.master.Master.{Master}
+use Rattle.master_store.specs.disk_image.PageSlots.{page_in}
+use Rattle.master_store.specs.disk_image.Shown.{page_slot_in, slot_of}
+use Rattle.master_store.specs.page_store.Bases.{image_page}
+use Rattle.master_store.specs.page_store.Saved.{place_of}
+use Rattle.master_store.proofs.page_store_lemmas.PieceLemmas.{every_whole, page_sealed, place_is, same_piece}
 use Rattle.worker_log.proofs.RingLemmas.{apart}
 use Rattle.core_disk.specs.Held.{HoldsPage, IsVersion}
 use Rattle.disk_runs.proofs.SlotLemmas as slots

@@ -2,14 +2,14 @@
 use Rattle.std.proofs.Common.{◌≡◌, true, false, refl, sym, subst, true≢false}
 use Rattle.std.proofs.lemmas.Bool.{and_parts}
 use Rattle.map_model.specs.Maps.{MapAnswer}
-use Rattle.core_state.specs.Openings.{Opening}
-use Rattle.core_state.specs.States.{State, start}
-use Rattle.core_state.specs.Needs.{are_hot, needs, pages_of}
-use Rattle.core_state.specs.Events.{Event}
-use Rattle.core_state.specs.Steps.{follows, happens, state_after}
-use Rattle.core_commit.proofs.Copies.{Copied}
-use Rattle.core_commit.proofs.Fetched.{fetch_same}
-use Rattle.core_commit.proofs.Runs.{good_run, good_start, step_keeps}
+use Rattle.core_disk.specs.core_state.Openings.{Opening}
+use Rattle.core_disk.specs.core_state.States.{State, start}
+use Rattle.core_disk.specs.core_state.Needs.{are_hot, needs, pages_of}
+use Rattle.core_disk.specs.core_state.Events.{Event}
+use Rattle.core_disk.specs.core_state.Steps.{follows, happens, state_after}
+use Rattle.core_disk.proofs.core_commit_lemmas.Copies.{Copied}
+use Rattle.core_disk.proofs.core_commit_lemmas.Fetched.{fetch_same}
+use Rattle.core_disk.proofs.core_commit_lemmas.Runs.{good_run, good_start, step_keeps}
 use Rattle.core_disk.specs.Versions.{is_cut}
 use Rattle.core_disk.proofs.VersionLemmas.{state_then}
 use Rattle.disk_runs.specs.Logs.{SameDisk}

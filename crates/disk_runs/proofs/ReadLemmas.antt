@@ -2,18 +2,18 @@
 use Rattle.std.proofs.Common.{◌≡◌, ◌<◌, ◌≤◌, ℕ, suc, List, ◌++◌, Option, Some, None, refl, sym, ap, ◌∙◌, subst, arith}
 use Rattle.std.proofs.lemmas.List.{append_cancel_right}
 use Rattle.page_model.specs.Page.{Page}
-use Rattle.image_model.specs.Fair.{IsFair}
-use Rattle.image_model.specs.Slots.{Slot}
-use Rattle.core_state.specs.Openings.{Opening}
-use Rattle.core_state.specs.Events.{Event}
+use Rattle.master_store.specs.image_model.Fair.{IsFair}
+use Rattle.master_store.specs.image_model.Slots.{Slot}
+use Rattle.core_disk.specs.core_state.Openings.{Opening}
+use Rattle.core_disk.specs.core_state.Events.{Event}
 use Rattle.lean_disk.specs.Area.{Write}
 use Rattle.lean_disk.specs.Story.{Crash, IsLawful, Story}
-use Rattle.log_block.specs.Block.{IsSealed}
-use Rattle.disk_image.specs.Laws.{EverySealed}
-use Rattle.disk_image.specs.Shown.{page_slot_in, slot_of}
-use Rattle.page_store.specs.Bases.{image_page}
+use Rattle.master_store.specs.log_block.Block.{IsSealed}
+use Rattle.master_store.specs.disk_image.Laws.{EverySealed}
+use Rattle.master_store.specs.disk_image.Shown.{page_slot_in, slot_of}
+use Rattle.master_store.specs.page_store.Bases.{image_page}
 use Rattle.worker_log.specs.Laws.{EveryPrefix, EveryKept}
-use Rattle.core_state.specs.Steps.{state_after}
+use Rattle.core_disk.specs.core_state.Steps.{state_after}
 use Rattle.core_disk.specs.Held.{HoldsLog, HoldsPage, HoldsRun}
 use Rattle.disk_runs.specs.Fair.{IsFairLog}
 use Rattle.disk_runs.specs.Laws.{EveryRead}

@@ -1,12 +1,12 @@
 -- What the definitions refuse.
 use Rattle.std.proofs.Common.{◌≡◌, inl, ◌<◌, ◌-◌, ◌*◌, ℕ, List, length, Option, refl, ap, arith}
 use Rattle.page_model.specs.Page as memory
-use Rattle.core_state.specs.Openings.{Opening}
-use Rattle.core_state.specs.Events.{Event}
+use Rattle.core_disk.specs.core_state.Openings.{Opening}
+use Rattle.core_disk.specs.core_state.Events.{Event}
 use Rattle.lean_disk.specs.Area.{Area, Write, torn}
-use Rattle.disk_slots.specs.declared.master.Master.{Master}
-use Rattle.page_store.specs.Saved.{place_of}
-use Rattle.page_store.proofs.PieceLemmas.{same_page}
+use Rattle.master_store.specs.disk_slots.declared.master.Master.{Master}
+use Rattle.master_store.specs.page_store.Saved.{place_of}
+use Rattle.master_store.proofs.page_store_lemmas.PieceLemmas.{same_page}
 use Rattle.disk_runs.specs.Masters.{MasterStands, slot_of}
 use Rattle.disk_runs.specs.Pages.{Firm, PagesStand}
 use Rattle.disk_runs.specs.Refusals.{Refusals}

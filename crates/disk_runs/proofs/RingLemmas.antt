@@ -3,25 +3,25 @@ use Rattle.std.proofs.Common.{◌≡◌, inl, inr, ⊎_elim, ◌≤◌, ◌<◌,
 use Rattle.std.proofs.lemmas.Bool.{and_parts, cases_lt, cond-true, leb-true, not-true, le-leb}
 use Rattle.map_model.specs.Lists.{Has, keep}
 use Rattle.map_model.proofs.ListLemmas.{has_left, has_right, has_cases, keep_has}
-use Rattle.image_model.specs.Entries.{Entry}
+use Rattle.master_store.specs.image_model.Entries.{Entry}
 use Rattle.page_model.specs.Page.{Page}
-use Rattle.core_commit.proofs.Lists.{least_le}
-use Rattle.core_crash.specs.Crashes.{from_head, log_of}
-use Rattle.core_state.specs.Openings.{Opening}
-use Rattle.core_state.specs.States.{State, flushed_by_all}
-use Rattle.core_state.specs.Events.{Event}
-use Rattle.core_state.specs.Needs.{are_hot, may, needs, is_ripe_up_to, is_saved_up_to}
-use Rattle.core_state.specs.Steps.{happens, state_after}
+use Rattle.core_disk.proofs.core_commit_lemmas.Lists.{least_le}
+use Rattle.core_disk.specs.core_crash.Crashes.{from_head, log_of}
+use Rattle.core_disk.specs.core_state.Openings.{Opening}
+use Rattle.core_disk.specs.core_state.States.{State, flushed_by_all}
+use Rattle.core_disk.specs.core_state.Events.{Event}
+use Rattle.core_disk.specs.core_state.Needs.{are_hot, may, needs, is_ripe_up_to, is_saved_up_to}
+use Rattle.core_disk.specs.core_state.Steps.{happens, state_after}
 use Rattle.core_disk.specs.Held.{IsVersion}
 use Rattle.core_disk.specs.Versions.{EveryVersion, then}
 use Rattle.core_disk.proofs.FloorLemmas.{every_floor_step, floor_low}
 use Rattle.core_disk.proofs.VersionLemmas.{state_then}
-use Rattle.disk_image.specs.Records.{entry_of}
-use Rattle.disk_image.specs.Shown.{head_of}
-use Rattle.disk_slots.specs.declared.master.Master.{Master}
+use Rattle.master_store.specs.disk_image.Records.{entry_of}
+use Rattle.master_store.specs.disk_image.Shown.{head_of}
+use Rattle.master_store.specs.disk_slots.declared.master.Master.{Master}
 use Rattle.lean_disk.specs.Story.{Crash, Story}
-use Rattle.log_record.specs.declared.record.Record.{Record}
-use Rattle.page_store.specs.Bases.{image_page}
+use Rattle.master_store.specs.log_record.declared.record.Record.{Record}
+use Rattle.master_store.specs.page_store.Bases.{image_page}
 use Rattle.worker_log.specs.Accounts.{Account, joined, records_of}
 use Rattle.worker_log.specs.Kept.{cut}
 use Rattle.worker_log.specs.Laws.{EveryPassed, PassesUpTo, entries_onto}

@@ -3,20 +3,20 @@ use Rattle.std.proofs.Common.{◌≡◌, ◌⊎◌, inl, inr, ⊎_elim, ◌≤�
 use Rattle.std.proofs.lemmas.Bool.{cases_eq, cases_lt}
 use Rattle.map_model.specs.Lists.{Has, upd}
 use Rattle.page_model.specs.Page.{Page}
-use Rattle.image_model.specs.Entries as entries
-use Rattle.image_model.specs.Fair.{piece}
-use Rattle.image_model.specs.Slots.{newer_page, valid}
+use Rattle.master_store.specs.image_model.Entries as entries
+use Rattle.master_store.specs.image_model.Fair.{piece}
+use Rattle.master_store.specs.image_model.Slots.{newer_page, valid}
 use Rattle.lean_disk.specs.Area.{Area, Write, put_over, synced, torn, written}
 use Rattle.map_model.proofs.ListLemmas.{upd_same, upd_other}
-use Rattle.core_state.specs.Openings.{Opening}
-use Rattle.core_state.specs.Events.{Event}
-use Rattle.disk_slots.specs.Pages.{IsPage, page_slot}
-use Rattle.disk_image.specs.PageSlots.{page_in}
-use Rattle.disk_image.specs.Shown.{page_slot_in, slot_of}
-use Rattle.disk_image.proofs.PageSlotLemmas.{every_page_in}
-use Rattle.page_store.specs.Bases.{image_page}
-use Rattle.page_store.specs.Saved.{place_of}
-use Rattle.page_store.proofs.PieceLemmas.{every_whole, page_there, place_is, same_page, slot_size, write_here, write_other}
+use Rattle.core_disk.specs.core_state.Openings.{Opening}
+use Rattle.core_disk.specs.core_state.Events.{Event}
+use Rattle.master_store.specs.disk_slots.Pages.{IsPage, page_slot}
+use Rattle.master_store.specs.disk_image.PageSlots.{page_in}
+use Rattle.master_store.specs.disk_image.Shown.{page_slot_in, slot_of}
+use Rattle.master_store.proofs.disk_image_lemmas.PageSlotLemmas.{every_page_in}
+use Rattle.master_store.specs.page_store.Bases.{image_page}
+use Rattle.master_store.specs.page_store.Saved.{place_of}
+use Rattle.master_store.proofs.page_store_lemmas.PieceLemmas.{every_whole, page_there, place_is, same_page, slot_size, write_here, write_other}
 use Rattle.core_disk.specs.Held.{IsVersion}
 use Rattle.disk_runs.specs.Fair.{IsSlotWrite}
 use Rattle.disk_runs.proofs.SlotLemmas.{own_more}

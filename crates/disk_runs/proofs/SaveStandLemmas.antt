@@ -3,24 +3,24 @@ use Rattle.std.proofs.Common.{◌≡◌, ⊎_elim, ◌≤◌, ◌<◌, ◌-◌, 
 use Rattle.std.proofs.lemmas.Bool.{and_parts, cases_eq, leb-true, cond-true}
 use Rattle.map_model.specs.Lists.{upd}
 use Rattle.page_model.specs.Page.{Page}
-use Rattle.image_model.specs.Entries as entries
-use Rattle.image_model.specs.Fair.{IsFair}
-use Rattle.core_state.specs.Openings.{Opening}
-use Rattle.core_state.specs.States.{State, flushed_by_all, is_cold}
-use Rattle.core_state.specs.Events.{Event}
-use Rattle.core_state.specs.Needs.{are_hot, may, needs, pages_of}
-use Rattle.core_state.specs.Steps.{happens, state_after}
+use Rattle.master_store.specs.image_model.Entries as entries
+use Rattle.master_store.specs.image_model.Fair.{IsFair}
+use Rattle.core_disk.specs.core_state.Openings.{Opening}
+use Rattle.core_disk.specs.core_state.States.{State, flushed_by_all, is_cold}
+use Rattle.core_disk.specs.core_state.Events.{Event}
+use Rattle.core_disk.specs.core_state.Needs.{are_hot, may, needs, pages_of}
+use Rattle.core_disk.specs.core_state.Steps.{happens, state_after}
 use Rattle.map_model.proofs.ListLemmas.{upd_same, upd_other}
 use Rattle.lean_disk.specs.Area.{Area, Leaves, Write, torn}
 use Rattle.lean_disk.specs.Calls.{Synced, Wrote}
 use Rattle.lean_disk.specs.Story.{Crash, Elapses, Elsewhere, IsLawful, LeavesNow, Story, Tells}
 use Rattle.lean_disk.specs.declared.disk.Did.{Did}
 use Rattle.lean_disk.proofs.MomentLemmas.{goes_on, started}
-use Rattle.disk_slots.specs.Pages.{page_slot}
-use Rattle.disk_slots.specs.Slots.{IsSealed}
-use Rattle.disk_image.specs.Laws.{EverySealed}
-use Rattle.page_store.specs.Bases.{image_page}
-use Rattle.page_store.specs.Saved.{place_of}
+use Rattle.master_store.specs.disk_slots.Pages.{page_slot}
+use Rattle.master_store.specs.disk_slots.Slots.{IsSealed}
+use Rattle.master_store.specs.disk_image.Laws.{EverySealed}
+use Rattle.master_store.specs.page_store.Bases.{image_page}
+use Rattle.master_store.specs.page_store.Saved.{place_of}
 use Rattle.worker_log.specs.Laws.{EveryPrefix, EveryKept}
 use Rattle.core_disk.specs.Held.{HoldsPage, HoldsRun, IsVersion}
 use Rattle.core_disk.specs.Versions.{EveryVersion, then}
@@ -35,7 +35,7 @@ use Rattle.disk_runs.proofs.SlotLemmas as slots
 use Rattle.disk_runs.proofs.PageLemmas.{holds_page}
 use Rattle.disk_runs.proofs.SaveLemmas.{base_read, synced_stands, torn_since, torn_stands, written_stands}
 use Rattle.disk_runs.proofs.StandLemmas.{every_rest, log_part, master_part, same_stands, still_master, still_pages, SameLog}
-use Rattle.disk_slots.specs.declared.master.Master.{Master}
+use Rattle.master_store.specs.disk_slots.declared.master.Master.{Master}
 
 -- a crash now, after a call on the pages' area: all else is as it was
 module _ (keeps : EveryKept) (prefixes : EveryPrefix) (seals : EverySealed) (g : Opening) (es : List Event) (s0 : Crash) (x : Known) (old new : Story) (stands : Stands g es s0 x old)

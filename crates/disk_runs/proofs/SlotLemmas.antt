@@ -1,13 +1,13 @@
 -- What a fair image holds where each write was of one slot.
 use Rattle.std.proofs.Common.{◌≡◌, ◌⊎◌, inl, inr, ⊎_elim, ◌+◌, ◌*◌, ℕ, List, ◌∷◌, length, map, [], ◌%◌, refl, ap, ◌∙◌, arith}
 use Rattle.map_model.specs.Lists.{Has}
-use Rattle.image_model.specs.Fair.{IsFair, piece}
-use Rattle.image_model.proofs.FairLemmas.{among_more, narrow}
+use Rattle.master_store.specs.image_model.Fair.{IsFair, piece}
+use Rattle.master_store.proofs.image_model_lemmas.FairLemmas.{among_more, narrow}
 use Rattle.lean_disk.specs.Area.{Write}
-use Rattle.disk_slots.specs.Masters.{master_slot}
-use Rattle.disk_slots.specs.declared.master.Master.{Master}
-use Rattle.page_store.specs.Saved.{AreSaves, Save, write_of}
-use Rattle.page_store.proofs.PieceLemmas.{place_is, slot_size}
+use Rattle.master_store.specs.disk_slots.Masters.{master_slot}
+use Rattle.master_store.specs.disk_slots.declared.master.Master.{Master}
+use Rattle.master_store.specs.page_store.Saved.{AreSaves, Save, write_of}
+use Rattle.master_store.proofs.page_store_lemmas.PieceLemmas.{place_is, slot_size}
 use Rattle.master_store.specs.Masters.{IsOfSlot}
 use Rattle.master_store.proofs.SlotLemmas.{own_long}
 use Rattle.disk_runs.specs.Fair.{IsSlotWrite}

@@ -2,29 +2,29 @@
 use Rattle.std.proofs.Common.{◌≡◌, ⊎_elim, ◌≤◌, ◌<◌, ◌+◌, ℕ, suc, Bool, true, false, ◌&&◌, not, leb, ◌==◌, List, [], ◌∷◌, length, refl, sym, ap, ap₂, ◌∙◌, subst, arith}
 use Rattle.std.proofs.lemmas.Bool.{cases_eq, cases_lt, cond-true, cond-false, and_from, eq-eqb, ne_eqb, lt-leb}
 use Rattle.map_model.specs.Lists.{upd}
-use Rattle.image_model.specs.Entries.{Entry, is_record}
-use Rattle.core_state.specs.Openings.{Opening}
-use Rattle.core_state.specs.States.{State}
-use Rattle.core_state.specs.Events.{Event}
+use Rattle.master_store.specs.image_model.Entries.{Entry, is_record}
+use Rattle.core_disk.specs.core_state.Openings.{Opening}
+use Rattle.core_disk.specs.core_state.States.{State}
+use Rattle.core_disk.specs.core_state.Events.{Event}
 use Rattle.map_model.proofs.ListLemmas.{upd_same, upd_other}
-use Rattle.core_commit.proofs.Invariants.{Inv}
-use Rattle.core_crash.specs.Crashes.{from_head, log_of}
+use Rattle.core_disk.proofs.core_commit_lemmas.Invariants.{Inv}
+use Rattle.core_disk.specs.core_crash.Crashes.{from_head, log_of}
 use Rattle.lean_disk.specs.Area.{Area, Leaves, Write}
 use Rattle.lean_disk.specs.Moments.{CrashIn, Framed}
 use Rattle.lean_disk.specs.Story.{Crash, Story}
 use Rattle.lean_disk.proofs.MomentLemmas.{weaker}
-use Rattle.log_record.specs.declared.record.Record.{Record}
-use Rattle.log_block.specs.Block.{records_text}
-use Rattle.disk_slots.specs.declared.master.Master.{Master}
-use Rattle.disk_image.specs.Laws.{EverySealed}
-use Rattle.disk_image.specs.MasterSlots.{master_on}
-use Rattle.disk_image.specs.Records.{entry_of}
+use Rattle.master_store.specs.log_record.declared.record.Record.{Record}
+use Rattle.master_store.specs.log_block.Block.{records_text}
+use Rattle.master_store.specs.disk_slots.declared.master.Master.{Master}
+use Rattle.master_store.specs.disk_image.Laws.{EverySealed}
+use Rattle.master_store.specs.disk_image.MasterSlots.{master_on}
+use Rattle.master_store.specs.disk_image.Records.{entry_of}
 use Rattle.worker_log.specs.Accounts.{Account, records_of}
 use Rattle.worker_log.specs.Logs.{Log}
 use Rattle.worker_log.specs.Calls.{After}
 use Rattle.worker_log.specs.Kept.{LeavesBlocks, StagesTo, flushed}
 use Rattle.worker_log.specs.Laws.{EveryFlushed, EveryPrefix, EveryKept, EveryStaged, StagesOnce, entries_onto}
-use Rattle.core_state.specs.Steps.{state_after}
+use Rattle.core_disk.specs.core_state.Steps.{state_after}
 use Rattle.core_disk.specs.Held.{HoldsLog, HoldsPage, IsMasterOf}
 use Rattle.core_disk.specs.Versions.{EveryVersion, is_cut, then}
 use Rattle.core_disk.proofs.FloorLemmas.{every_floor_step}
@@ -38,7 +38,7 @@ use Rattle.disk_runs.specs.Stands.{Known, LeavesRun, Stands}
 use Rattle.disk_runs.proofs.LogLemmas.{holds_log, rests_log}
 use Rattle.disk_runs.proofs.PageLemmas.{holds_page, pages_then}
 use Rattle.disk_runs.proofs.MasterLemmas.{holds_master}
-use Rattle.page_store.specs.Bases.{image_page}
+use Rattle.master_store.specs.page_store.Bases.{image_page}
 use Rattle.std.specs.Prelude.{Some}
 
 -- ## What a crash leaves

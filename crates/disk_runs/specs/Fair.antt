@@ -1,11 +1,11 @@
 -- Crashes that leave fair images of a disk with so many logs.
 use Rattle.std.specs.Prelude.{◌≡◌, ◌↔◌, ◌<◌, ◌≤◌, ◌*◌, ◌++◌, ℕ, suc, List, length, codes}
-use Rattle.image_model.specs.Fair.{IsFair}
+use Rattle.master_store.specs.image_model.Fair.{IsFair}
 use Rattle.lean_disk.specs.Area.{Write}
 use Rattle.lean_disk.specs.Story.{Crash, Story, Tells}
-use Rattle.disk_slots.specs.Slots.{IsSealed}
-use Rattle.log_block.specs.Block as blocks
-use Rattle.disk_image.specs.Fair.{IsFairCrash}
+use Rattle.master_store.specs.disk_slots.Slots.{IsSealed}
+use Rattle.master_store.specs.log_block.Block as blocks
+use Rattle.master_store.specs.disk_image.Fair.{IsFairCrash}
 
 -- each slot whose seal fits holds the bytes that stood there after one of the writes since, or at first
 abbrev pub IsFairMaster : (first : List ℕ) (older writes : List Write) (bytes : List ℕ) → Type 0

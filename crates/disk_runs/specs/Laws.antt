@@ -2,17 +2,17 @@
 -- read gave it when the run began, old and new what it tells before a call and after it.
 use Rattle.std.specs.Prelude.{◌≡◌, ◌<◌, ◌≤◌, ℕ, suc, false, List}
 use Rattle.map_model.specs.Lists.{upd}
-use Rattle.core_state.specs.Openings.{Opening}
-use Rattle.core_state.specs.Events.{Event}
+use Rattle.core_disk.specs.core_state.Openings.{Opening}
+use Rattle.core_disk.specs.core_state.Events.{Event}
 use Rattle.lean_disk.specs.Moments.{CrashIn, Framed, LeavesOnly}
 use Rattle.lean_disk.specs.Story.{Crash, IsLawful, LeavesNow, Story}
-use Rattle.log_record.specs.declared.record.Record.{Record}
-use Rattle.disk_image.specs.Records.{entry_of}
+use Rattle.master_store.specs.log_record.declared.record.Record.{Record}
+use Rattle.master_store.specs.disk_image.Records.{entry_of}
 use Rattle.worker_log.specs.Accounts.{Account}
 use Rattle.worker_log.specs.Kept.{IsInRange, IsKept, LeavesBlocks, StagesTo, flushed}
 use Rattle.worker_log.specs.Logs.{Log}
 use Rattle.worker_log.specs.Calls.{After, flushed_log}
-use Rattle.core_state.specs.Steps.{state_after}
+use Rattle.core_disk.specs.core_state.Steps.{state_after}
 use Rattle.core_disk.specs.Held.{HoldsRun}
 use Rattle.core_disk.specs.Versions.{is_cut, then}
 use Rattle.disk_runs.specs.Fair.{TellsAll}

@@ -1,13 +1,13 @@
 -- One log of a run: what its account has in common with the state of the core.
 use Rattle.std.specs.Prelude.{◌≡◌, ◌≤◌, ℕ, true, List, [], ◌∷◌}
 use Rattle.map_model.specs.Lists.{Has}
-use Rattle.image_model.specs.Entries.{Entry, is_record}
-use Rattle.core_state.specs.States.{State}
-use Rattle.core_crash.specs.Crashes.{from_head, log_of}
+use Rattle.master_store.specs.image_model.Entries.{Entry, is_record}
+use Rattle.core_disk.specs.core_state.States.{State}
+use Rattle.core_disk.specs.core_crash.Crashes.{from_head, log_of}
 use Rattle.lean_disk.specs.Area.{Area, Write}
-use Rattle.disk_slots.specs.declared.master.Master.{Master}
-use Rattle.disk_image.specs.Runs.{sealed_in}
-use Rattle.disk_image.specs.Shown.{head_of}
+use Rattle.master_store.specs.disk_slots.declared.master.Master.{Master}
+use Rattle.master_store.specs.disk_image.Runs.{sealed_in}
+use Rattle.master_store.specs.disk_image.Shown.{head_of}
 use Rattle.worker_log.specs.Accounts.{Account, records_of}
 use Rattle.worker_log.specs.Kept.{IsInRange, IsKept}
 use Rattle.worker_log.specs.Logs.{Log}

@@ -2,27 +2,27 @@
 -- and new what it tells before the calls and after them.
 use Rattle.std.specs.Prelude.{◌≡◌, ◌⊎◌, ◌<◌, ◌≤◌, ◌+◌, ◌*◌, ◌^◌, ℕ, suc, true, List, [], length, take}
 use Rattle.map_model.specs.Lists.{Has}
-use Rattle.core_state.specs.Openings.{Opening}
-use Rattle.core_state.specs.Events.{Event}
-use Rattle.core_state.specs.Needs.{may}
-use Rattle.core_state.specs.States.{flushed_by_all}
+use Rattle.core_disk.specs.core_state.Openings.{Opening}
+use Rattle.core_disk.specs.core_state.Events.{Event}
+use Rattle.core_disk.specs.core_state.Needs.{may}
+use Rattle.core_disk.specs.core_state.States.{flushed_by_all}
 use Rattle.lean_disk.specs.Calls.{Synced, Wrote}
 use Rattle.lean_disk.specs.Area.{synced, written}
 use Rattle.lean_disk.specs.Moments.{CrashIn, Framed, LeavesOnly}
 use Rattle.lean_disk.specs.Story.{Crash, IsLawful, Story, Tells}
 use Rattle.lean_disk.specs.declared.disk.Did.{Did}
 use Rattle.lean_disk.specs.declared.disk.Did.TheVariants as did
-use Rattle.disk_slots.specs.Masters.{IsMaster, master_slot}
-use Rattle.disk_slots.specs.declared.master.Master.{Master}
+use Rattle.master_store.specs.disk_slots.Masters.{IsMaster, master_slot}
+use Rattle.master_store.specs.disk_slots.declared.master.Master.{Master}
 use Rattle.master_store.specs.Masters.{WritesOnce}
-use Rattle.page_store.specs.Bases.{image_page}
-use Rattle.log_record.specs.declared.record.Record.{Record}
-use Rattle.disk_image.specs.Shown.{head_of}
+use Rattle.master_store.specs.page_store.Bases.{image_page}
+use Rattle.master_store.specs.log_record.declared.record.Record.{Record}
+use Rattle.master_store.specs.disk_image.Shown.{head_of}
 use Rattle.worker_log.specs.Accounts.{Account, joined, records_of}
 use Rattle.worker_log.specs.Logs.{Log}
 use Rattle.worker_log.specs.Kept.{cut}
 use Rattle.worker_log.specs.Calls.{cut_log}
-use Rattle.core_state.specs.Steps.{state_after}
+use Rattle.core_disk.specs.core_state.Steps.{state_after}
 use Rattle.core_disk.specs.Held.{HoldsRun, IsMasterOf}
 use Rattle.core_disk.specs.Versions.{HasUpTo, then}
 use Rattle.disk_runs.specs.Fair.{IsFairFrom}

@@ -1,13 +1,13 @@
 -- The master of a run: what stands in its two slots, and what a crash may leave there.
 use Rattle.std.specs.Prelude.{◌≡◌, ◌<◌, ◌≤◌, ◌+◌, ◌-◌, ◌*◌, ◌%◌, ◌||◌, ℕ, Bool, true, List, [], ◌∷◌, ◌++◌, length, Some}
 use Rattle.map_model.specs.Lists.{Has, keep}
-use Rattle.core_state.specs.Events.{Event}
-use Rattle.core_state.specs.Local.{is_sync}
-use Rattle.image_model.specs.Fair.{piece}
+use Rattle.core_disk.specs.core_state.Events.{Event}
+use Rattle.core_disk.specs.core_state.Local.{is_sync}
+use Rattle.master_store.specs.image_model.Fair.{piece}
 use Rattle.lean_disk.specs.Area.{Area, Write}
-use Rattle.disk_slots.specs.declared.master.Master.{Master}
-use Rattle.disk_image.specs.MasterSlots.{master_in}
-use Rattle.disk_image.specs.Masters.{IsOfRun}
+use Rattle.master_store.specs.disk_slots.declared.master.Master.{Master}
+use Rattle.master_store.specs.disk_image.MasterSlots.{master_in}
+use Rattle.master_store.specs.disk_image.Masters.{IsOfRun}
 use Rattle.core_disk.specs.Versions.{is_cut}
 use Rattle.disk_runs.specs.Fair.{IsSlotWrite}
 

@@ -2,16 +2,16 @@
 use Rattle.std.specs.Prelude.{◌≡◌, ◌⊎◌, ◌<◌, ◌≤◌, ◌-◌, ◌++◌, ℕ, suc, true, List, [], length, Some, None}
 use Rattle.map_model.specs.Lists.{Has}
 use Rattle.page_model.specs.Page.{Page}
-use Rattle.core_state.specs.Openings.{Opening, start_page}
+use Rattle.core_disk.specs.core_state.Openings.{Opening, start_page}
 use Rattle.lean_disk.specs.Area.{Area, Write}
 use Rattle.lean_disk.specs.Story.{Crash, Story}
-use Rattle.disk_slots.specs.declared.master.Master.{Master}
-use Rattle.disk_image.specs.Formats.{format_of}
-use Rattle.disk_image.specs.PageSlots.{page_in}
-use Rattle.disk_image.specs.Runs.{sealed_in}
-use Rattle.disk_image.specs.Shown.{head_of, page_slot_in}
-use Rattle.page_store.specs.Bases.{image_page}
-use Rattle.page_store.specs.Saved.{IsSynced, place_of}
+use Rattle.master_store.specs.disk_slots.declared.master.Master.{Master}
+use Rattle.master_store.specs.disk_image.Formats.{format_of}
+use Rattle.master_store.specs.disk_image.PageSlots.{page_in}
+use Rattle.master_store.specs.disk_image.Runs.{sealed_in}
+use Rattle.master_store.specs.disk_image.Shown.{head_of, page_slot_in}
+use Rattle.master_store.specs.page_store.Bases.{image_page}
+use Rattle.master_store.specs.page_store.Saved.{IsSynced, place_of}
 use Rattle.worker_log.specs.Kept.{IsInRange, IsKept, fresh_account}
 use Rattle.worker_log.specs.Logs.{Log}
 use Rattle.disk_runs.specs.Fair.{IsSlotWrite, TellsAll}

@@ -3,18 +3,18 @@
 use Rattle.std.specs.Prelude.{◌≡◌, ◌<◌, ◌-◌, ℕ, true, List, Some, None}
 use Rattle.map_model.specs.Lists.{upd}
 use Rattle.page_model.specs.Page.{Page}
-use Rattle.core_state.specs.Openings.{Opening}
-use Rattle.core_state.specs.Events.{Event}
-use Rattle.core_state.specs.Needs.{may}
+use Rattle.core_disk.specs.core_state.Openings.{Opening}
+use Rattle.core_disk.specs.core_state.Events.{Event}
+use Rattle.core_disk.specs.core_state.Needs.{may}
 use Rattle.lean_disk.specs.Calls.{Synced, Wrote}
 use Rattle.lean_disk.specs.Moments.{LeavesOnly}
 use Rattle.lean_disk.specs.Story.{Crash, IsLawful, Story}
 use Rattle.lean_disk.specs.declared.disk.Did.{Did}
 use Rattle.lean_disk.specs.declared.disk.Did.TheVariants as did
-use Rattle.disk_slots.specs.Pages.{IsPage, page_slot}
-use Rattle.page_store.specs.Bases.{image_page}
-use Rattle.page_store.specs.Saved.{place_of}
-use Rattle.core_state.specs.Steps.{state_after}
+use Rattle.master_store.specs.disk_slots.Pages.{IsPage, page_slot}
+use Rattle.master_store.specs.page_store.Bases.{image_page}
+use Rattle.master_store.specs.page_store.Saved.{place_of}
+use Rattle.core_disk.specs.core_state.Steps.{state_after}
 use Rattle.core_disk.specs.Held.{base_in}
 use Rattle.core_disk.specs.Versions.{then}
 use Rattle.disk_runs.specs.Pages.{IsBehind, settled}

@@ -3,12 +3,12 @@ use Rattle.std.specs.Prelude.{◌≡◌, ◌⊎◌, ◌<◌, ◌≤◌, ◌+◌,
 use Rattle.map_model.specs.Lists.{Has}
 use Rattle.page_model.specs.Page.{Page}
 use Rattle.lean_disk.specs.Area.{Area, Write}
-use Rattle.core_state.specs.Openings.{Opening}
-use Rattle.core_state.specs.Events.{Event}
-use Rattle.disk_image.specs.PageSlots.{page_in}
-use Rattle.disk_image.specs.Shown.{page_slot_in}
-use Rattle.page_store.specs.Bases.{image_page}
-use Rattle.page_store.specs.Saved.{place_of}
+use Rattle.core_disk.specs.core_state.Openings.{Opening}
+use Rattle.core_disk.specs.core_state.Events.{Event}
+use Rattle.master_store.specs.disk_image.PageSlots.{page_in}
+use Rattle.master_store.specs.disk_image.Shown.{page_slot_in}
+use Rattle.master_store.specs.page_store.Bases.{image_page}
+use Rattle.master_store.specs.page_store.Saved.{place_of}
 use Rattle.core_disk.specs.Held.{IsVersion}
 use Rattle.disk_runs.specs.Fair.{IsSlotWrite}
 

@@ -1,8 +1,8 @@
 -- Events that a disk does not see.
 use Rattle.std.specs.Prelude.{◌≡◌, Bool, true, false, List}
-use Rattle.core_state.specs.Openings.{Opening}
-use Rattle.core_state.specs.Events.{Event}
-use Rattle.core_state.specs.Steps.{state_after}
+use Rattle.core_disk.specs.core_state.Openings.{Opening}
+use Rattle.core_disk.specs.core_state.Events.{Event}
+use Rattle.core_disk.specs.core_state.Steps.{state_after}
 use Rattle.core_disk.specs.Versions.{is_cut, then}
 use Rattle.disk_runs.specs.Logs.{SameDisk}
 

@@ -2,16 +2,16 @@
 use Rattle.std.specs.Prelude.{◌≡◌, ◌<◌, ◌≤◌, ◌*◌, ℕ, true, List, Option}
 use Rattle.map_model.specs.Lists.{Has}
 use Rattle.page_model.specs.Page as memory
-use Rattle.image_model.specs.Entries.{Entry, Contents, touches}
-use Rattle.core_state.specs.Openings.{Opening}
-use Rattle.core_state.specs.States.{State, flushed_by_all}
-use Rattle.core_state.specs.Events.{Event}
+use Rattle.master_store.specs.image_model.Entries.{Entry, Contents, touches}
+use Rattle.core_disk.specs.core_state.Openings.{Opening}
+use Rattle.core_disk.specs.core_state.States.{State, flushed_by_all}
+use Rattle.core_disk.specs.core_state.Events.{Event}
 use Rattle.lean_disk.specs.Area.{Area, Write, torn}
-use Rattle.disk_slots.specs.declared.master.Master.{Master}
-use Rattle.page_store.specs.Saved.{place_of}
+use Rattle.master_store.specs.disk_slots.declared.master.Master.{Master}
+use Rattle.master_store.specs.page_store.Saved.{place_of}
 use Rattle.worker_log.specs.Accounts.{Account}
 use Rattle.worker_log.specs.Logs.{Log}
-use Rattle.core_state.specs.Steps.{state_after}
+use Rattle.core_disk.specs.core_state.Steps.{state_after}
 use Rattle.core_disk.specs.Held.{IsVersion}
 use Rattle.disk_runs.specs.Logs.{Accounts}
 use Rattle.disk_runs.specs.Masters.{MasterStands, slot_of}

@@ -1,16 +1,16 @@
 -- A cut of all logs at a number: the head of each passes the blocks that have no record above it, and their places may be written again.
 use Rattle.std.specs.Prelude.{◌≡◌, ◌<◌, ◌≤◌, ◌+◌, ℕ, true, List}
-use Rattle.core_state.specs.Openings.{Opening}
-use Rattle.core_state.specs.Events.{Event}
-use Rattle.core_state.specs.Needs.{may}
-use Rattle.core_state.specs.States.{flushed_by_all}
-use Rattle.core_state.specs.Steps.{state_after}
+use Rattle.core_disk.specs.core_state.Openings.{Opening}
+use Rattle.core_disk.specs.core_state.Events.{Event}
+use Rattle.core_disk.specs.core_state.Needs.{may}
+use Rattle.core_disk.specs.core_state.States.{flushed_by_all}
+use Rattle.core_disk.specs.core_state.Steps.{state_after}
 use Rattle.core_disk.specs.Versions.{HasUpTo, then}
-use Rattle.disk_image.specs.Shown.{head_of}
-use Rattle.disk_slots.specs.Masters.{IsMaster}
-use Rattle.disk_slots.specs.declared.master.Master.{Master}
+use Rattle.master_store.specs.disk_image.Shown.{head_of}
+use Rattle.master_store.specs.disk_slots.Masters.{IsMaster}
+use Rattle.master_store.specs.disk_slots.declared.master.Master.{Master}
 use Rattle.lean_disk.specs.Story.{Crash, Story}
-use Rattle.page_store.specs.Bases.{image_page}
+use Rattle.master_store.specs.page_store.Bases.{image_page}
 use Rattle.worker_log.specs.Logs.{passed_by, passed_end}
 use Rattle.disk_runs.specs.MasterLaws.{IsCut}
 use Rattle.disk_runs.specs.Masters.{IsNextOf, slot_of}

@@ -1,14 +1,14 @@
 -- What a disk is while a run of the core goes on over it.
 use Rattle.std.specs.Prelude.{◌≡◌, ◌<◌, ◌≤◌, ℕ, suc, List, Option}
 use Rattle.page_model.specs.Page.{Page}
-use Rattle.core_state.specs.Openings.{Opening}
-use Rattle.core_state.specs.Events.{Event}
+use Rattle.core_disk.specs.core_state.Openings.{Opening}
+use Rattle.core_disk.specs.core_state.Events.{Event}
 use Rattle.lean_disk.specs.Story.{Crash, Story}
-use Rattle.disk_slots.specs.declared.master.Master.{Master}
+use Rattle.master_store.specs.disk_slots.declared.master.Master.{Master}
 use Rattle.worker_log.specs.Accounts.{Account}
 use Rattle.worker_log.specs.Logs.{Log}
-use Rattle.page_store.specs.Bases.{image_page}
-use Rattle.core_state.specs.Steps.{state_after}
+use Rattle.master_store.specs.page_store.Bases.{image_page}
+use Rattle.core_disk.specs.core_state.Steps.{state_after}
 use Rattle.core_disk.specs.Held.{HoldsRun, IsMasterOf}
 use Rattle.disk_runs.specs.Fair.{IsFairFrom, TellsAll}
 use Rattle.disk_runs.specs.Logs.{LogStands}

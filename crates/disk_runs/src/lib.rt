@@ -15,7 +15,15 @@ ghost use Rattle.disk_runs.specs.Quiet.{EveryQuiet};
 ghost use Rattle.disk_runs.specs.Refusals.{Refusals};
 ghost use Rattle.disk_runs.specs.Rings.{EveryRing, EveryStillCut};
 
+use core_disk::core_crash;
 use lean_disk::Disk;
+
+// Passed on to the crates above.
+pub use core_disk;
+pub use core_disk::{core_commit, core_paging};
+pub use master_store;
+pub use master_store::{btree_node, disk_image, disk_slots, image_model, log_record, page_store};
+pub use worker_log;
 
 /// Fairness since a story is fairness since what a read gave there.
 pub fn every_fair<D: Disk>(now: &D)

@@ -4,18 +4,18 @@ use Rattle.std.proofs.lemmas.List.{append-nil}
 use Rattle.map_model.specs.declared.call.Call.{Call}
 use Rattle.map_model.specs.Histories.{Step}
 use Rattle.map_model.specs.Lists.{keep}
-use Rattle.image_model.specs.Entries.{Entry, is_record}
-use Rattle.core_state.specs.Openings.{Opening}
-use Rattle.core_state.specs.States.{State, start}
-use Rattle.core_state.specs.Events.{Event}
-use Rattle.core_state.specs.Local.{is_of}
-use Rattle.core_state.specs.Needs.{holds_row, may}
-use Rattle.core_state.specs.Steps.{AllMet, happens, run, state_after, step}
-use Rattle.core_state.proofs.Runs.{met_more, run_more}
+use Rattle.disk_runs.specs.image_model.Entries.{Entry, is_record}
+use Rattle.disk_runs.specs.core_state.Openings.{Opening}
+use Rattle.disk_runs.specs.core_state.States.{State, start}
+use Rattle.disk_runs.specs.core_state.Events.{Event}
+use Rattle.disk_runs.specs.core_state.Local.{is_of}
+use Rattle.disk_runs.specs.core_state.Needs.{holds_row, may}
+use Rattle.disk_runs.specs.core_state.Steps.{AllMet, happens, run, state_after, step}
+use Rattle.disk_runs.proofs.core_state_lemmas.Runs.{met_more, run_more}
 use Rattle.lean_disk.specs.Story.{Crash, Story}
-use Rattle.log_record.specs.declared.record.Record.{Record}
-use Rattle.disk_image.specs.Records.{entry_of}
-use Rattle.core_disk.specs.Versions.{EveryVersion}
+use Rattle.disk_runs.specs.log_record.declared.record.Record.{Record}
+use Rattle.disk_runs.specs.disk_image.Records.{entry_of}
+use Rattle.disk_runs.specs.core_disk.Versions.{EveryVersion}
 use Rattle.core_calls.specs.Deeds.{commits, put_backs}
 use Rattle.core_calls.specs.Fronts.{AreFresh, Done, IsFresh, front}
 use Rattle.core_calls.specs.LogEvents.{IsTightSomewhere}

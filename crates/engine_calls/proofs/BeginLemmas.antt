@@ -2,14 +2,14 @@
 use Rattle.std.proofs.Common.{◌≡◌, ℕ, suc, Bool, true, false, cond, ◌==◌, List, [], ◌∷◌, ◌++◌, refl, sym, ap, ◌∙◌, subst, true≢false}
 use Rattle.std.proofs.lemmas.List.{append-nil}
 use Rattle.map_model.specs.Lists.{any, keep}
-use Rattle.core_state.specs.Openings.{Opening}
-use Rattle.core_state.specs.States.{State}
-use Rattle.core_state.specs.Events.{Event}
-use Rattle.core_state.specs.Needs.{may}
-use Rattle.core_state.specs.Steps.{state_after}
-use Rattle.core_state.proofs.Runs.{met_more}
+use Rattle.disk_runs.specs.core_state.Openings.{Opening}
+use Rattle.disk_runs.specs.core_state.States.{State}
+use Rattle.disk_runs.specs.core_state.Events.{Event}
+use Rattle.disk_runs.specs.core_state.Needs.{may}
+use Rattle.disk_runs.specs.core_state.Steps.{state_after}
+use Rattle.disk_runs.proofs.core_state_lemmas.Runs.{met_more}
 use Rattle.lean_disk.specs.Story.{Story}
-use Rattle.core_disk.specs.Versions.{EveryVersion}
+use Rattle.disk_runs.specs.core_disk.Versions.{EveryVersion}
 use Rattle.core_calls.specs.Fronts.{Done, front, outcomes}
 use Rattle.core_calls.specs.LogEvents.{Prepares, is_log}
 use Rattle.core_calls.specs.Marks.{Began, marks}

@@ -4,21 +4,21 @@ use Rattle.std.proofs.lemmas.Bool.{lt-ltb, le-leb, eq-eqb}
 use Rattle.std.proofs.lemmas.List.{append-nil}
 use Rattle.map_model.specs.Lists.{any, keep}
 use Rattle.map_model.proofs.ListLemmas.{upd_other, upd_same}
-use Rattle.image_model.specs.Entries.{Entry, Kind, is_commit, is_record}
-use Rattle.core_state.specs.Openings.{Opening}
-use Rattle.core_state.specs.States.{Row, State, start}
-use Rattle.core_state.specs.Events.{Event}
-use Rattle.core_state.specs.Needs.{holds_row, may}
-use Rattle.core_state.specs.Steps.{AllMet, end_entry, ends, happens, run, state_after, step}
-use Rattle.core_state.proofs.Runs.{met_more, run_more}
+use Rattle.disk_runs.specs.image_model.Entries.{Entry, Kind, is_commit, is_record}
+use Rattle.disk_runs.specs.core_state.Openings.{Opening}
+use Rattle.disk_runs.specs.core_state.States.{Row, State, start}
+use Rattle.disk_runs.specs.core_state.Events.{Event}
+use Rattle.disk_runs.specs.core_state.Needs.{holds_row, may}
+use Rattle.disk_runs.specs.core_state.Steps.{AllMet, end_entry, ends, happens, run, state_after, step}
+use Rattle.disk_runs.proofs.core_state_lemmas.Runs.{met_more, run_more}
 use Rattle.lean_disk.specs.Moments.{LeavesOnly}
 use Rattle.lean_disk.specs.Story.{Crash, Story}
-use Rattle.log_record.specs.declared.record.Record.{Record}
-use Rattle.disk_image.specs.Records.{entry_of}
-use Rattle.worker_log.specs.Accounts.{Account}
-use Rattle.worker_log.specs.Kept.{flushed}
-use Rattle.worker_log.specs.Logs.{Log}
-use Rattle.core_disk.specs.Versions.{EveryVersion}
+use Rattle.disk_runs.specs.log_record.declared.record.Record.{Record}
+use Rattle.disk_runs.specs.disk_image.Records.{entry_of}
+use Rattle.disk_runs.specs.worker_log.Accounts.{Account}
+use Rattle.disk_runs.specs.worker_log.Kept.{flushed}
+use Rattle.disk_runs.specs.worker_log.Logs.{Log}
+use Rattle.disk_runs.specs.core_disk.Versions.{EveryVersion}
 use Rattle.core_calls.specs.Deeds.{commits}
 use Rattle.core_calls.specs.Fronts.{AreFresh, Done, front, outcomes}
 use Rattle.core_calls.specs.LogEvents.{Flushes, behind, is_log}

@@ -2,14 +2,14 @@
 use Rattle.std.proofs.Common.{◌≡◌, ℕ, Bool, true, false, cond, ◌==◌, List, [], ◌∷◌, ◌++◌, Option, None, refl, sym, ap, ◌∙◌, true≢false}
 use Rattle.map_model.specs.Lists.{any, keep}
 use Rattle.map_model.specs.Maps.{MapCall, MapAnswer}
-use Rattle.core_state.specs.Openings.{Opening}
-use Rattle.core_state.specs.States.{State}
-use Rattle.core_state.specs.Events.{Event, Mode}
-use Rattle.core_state.specs.Needs.{may, value_in}
-use Rattle.core_state.specs.Steps.{state_after}
-use Rattle.core_state.proofs.Runs.{met_more}
+use Rattle.disk_runs.specs.core_state.Openings.{Opening}
+use Rattle.disk_runs.specs.core_state.States.{State}
+use Rattle.disk_runs.specs.core_state.Events.{Event, Mode}
+use Rattle.disk_runs.specs.core_state.Needs.{may, value_in}
+use Rattle.disk_runs.specs.core_state.Steps.{state_after}
+use Rattle.disk_runs.proofs.core_state_lemmas.Runs.{met_more}
 use Rattle.lean_disk.specs.Story.{Story}
-use Rattle.core_disk.specs.Versions.{EveryVersion}
+use Rattle.disk_runs.specs.core_disk.Versions.{EveryVersion}
 use Rattle.core_calls.specs.Deeds.{Absent, Got}
 use Rattle.core_calls.specs.Fronts.{AreFresh, Done, front, outcomes}
 use Rattle.core_calls.specs.LogEvents.{IsTight}

@@ -5,9 +5,9 @@ use Rattle.map_model.specs.declared.call.Call.{Call}
 use Rattle.map_model.specs.declared.call.Call.TheVariants as call
 use Rattle.map_model.specs.declared.call.Refusal.TheVariants.{RowSpent}
 use Rattle.map_model.specs.Lists.{keep}
-use Rattle.core_state.specs.Openings.{Opening}
-use Rattle.core_state.specs.Events.{Event}
-use Rattle.core_state.specs.Steps.{state_after}
+use Rattle.disk_runs.specs.core_state.Openings.{Opening}
+use Rattle.disk_runs.specs.core_state.Events.{Event}
+use Rattle.disk_runs.specs.core_state.Steps.{state_after}
 use Rattle.lean_disk.specs.Story.{Story}
 use Rattle.core_calls.specs.Deeds.{put_backs}
 use Rattle.core_calls.specs.Fronts.{AreFresh, Done, front, outcomes}

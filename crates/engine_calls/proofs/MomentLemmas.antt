@@ -1,14 +1,14 @@
 -- Moments of a call, and what stands behind it.
 use Rattle.std.proofs.Common.{◌≡◌, ℕ, List, ◌++◌, ◌∙◌}
-use Rattle.core_state.specs.Openings.{Opening}
-use Rattle.core_state.specs.Events.{Event}
+use Rattle.disk_runs.specs.core_state.Openings.{Opening}
+use Rattle.disk_runs.specs.core_state.Events.{Event}
 use Rattle.lean_disk.specs.Moments.{LeavesOnly}
 use Rattle.lean_disk.specs.Story.{Crash, IsLawful, Story}
 use Rattle.lean_disk.proofs.MomentLemmas.{started, weaker}
-use Rattle.disk_slots.specs.declared.master.Master.{Master}
-use Rattle.disk_image.specs.Laws.{EverySealed}
-use Rattle.worker_log.specs.Laws.{EveryKept, EveryPrefix}
-use Rattle.core_disk.specs.Versions.{EveryVersion, then}
+use Rattle.disk_runs.specs.disk_slots.declared.master.Master.{Master}
+use Rattle.disk_runs.specs.disk_image.Laws.{EverySealed}
+use Rattle.disk_runs.specs.worker_log.Laws.{EveryKept, EveryPrefix}
+use Rattle.disk_runs.specs.core_disk.Versions.{EveryVersion, then}
 use Rattle.core_calls.specs.Fronts.{Done, front}
 use Rattle.disk_runs.specs.Quiet.{is_quiet}
 use Rattle.disk_runs.specs.Stands.{Known, LeavesRun, Stands}

@@ -3,21 +3,21 @@ use Rattle.std.proofs.Common.{◌≡◌, ◌≤◌, ◌<◌, ◌-◌, ℕ, true,
 use Rattle.std.proofs.lemmas.List.{append-nil}
 use Rattle.map_model.specs.Lists.{all}
 use Rattle.page_model.specs.Page.{Page}
-use Rattle.core_state.specs.Openings.{Opening}
-use Rattle.core_state.specs.Events.{Event}
+use Rattle.disk_runs.specs.core_state.Openings.{Opening}
+use Rattle.disk_runs.specs.core_state.Events.{Event}
 use Rattle.lean_disk.specs.Calls.{Synced, Wrote}
 use Rattle.lean_disk.specs.Moments.{LeavesOnly}
 use Rattle.lean_disk.specs.Story.{Crash, IsLawful, Story}
 use Rattle.lean_disk.specs.declared.disk.Did.TheVariants as did
 use Rattle.lean_disk.proofs.MomentLemmas.{goes_on, started, weaker}
 use Rattle.lean_disk.proofs.MomentLemmas as moments
-use Rattle.disk_image.specs.Laws.{EverySealed}
-use Rattle.disk_slots.specs.declared.master.Master.{Master}
-use Rattle.disk_slots.specs.Pages.{page_slot}
-use Rattle.page_store.specs.Saved.{place_of}
-use Rattle.worker_log.specs.Laws.{EveryKept, EveryPrefix}
-use Rattle.worker_log.specs.Logs.{Log}
-use Rattle.core_disk.specs.Versions.{EveryVersion}
+use Rattle.disk_runs.specs.disk_image.Laws.{EverySealed}
+use Rattle.disk_runs.specs.disk_slots.declared.master.Master.{Master}
+use Rattle.disk_runs.specs.disk_slots.Pages.{page_slot}
+use Rattle.disk_runs.specs.page_store.Saved.{place_of}
+use Rattle.disk_runs.specs.worker_log.Laws.{EveryKept, EveryPrefix}
+use Rattle.disk_runs.specs.worker_log.Logs.{Log}
+use Rattle.disk_runs.specs.core_disk.Versions.{EveryVersion}
 use Rattle.core_calls.specs.Fronts.{Done, front}
 use Rattle.disk_runs.specs.MasterLaws.{IsSync, LeavesEither, with_sync}
 use Rattle.disk_runs.specs.Masters.{IsNoEarlier}

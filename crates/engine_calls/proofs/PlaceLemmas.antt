@@ -2,15 +2,15 @@
 use Rattle.std.proofs.Common.{◌≡◌, ℕ, Bool, true, false, List, [], ◌++◌, refl, sym, ap, ◌∙◌, subst, inl, inr, append_assoc, true≢false}
 use Rattle.std.proofs.lemmas.Bool.{cases_Bool}
 use Rattle.std.proofs.lemmas.List.{append-nil}
-use Rattle.core_state.specs.Openings.{Opening}
-use Rattle.core_state.specs.Events.{Event}
+use Rattle.disk_runs.specs.core_state.Openings.{Opening}
+use Rattle.disk_runs.specs.core_state.Events.{Event}
 use Rattle.lean_disk.specs.Moments.{LeavesOnly}
 use Rattle.lean_disk.specs.Story.{Crash, IsLawful, Story}
 use Rattle.lean_disk.proofs.MomentLemmas.{started, weaker}
 use Rattle.lean_disk.proofs.MomentLemmas as moments
-use Rattle.disk_image.specs.Laws.{EverySealed}
-use Rattle.worker_log.specs.Laws.{EveryKept, EveryPrefix}
-use Rattle.worker_log.specs.Logs.{Log}
+use Rattle.disk_runs.specs.disk_image.Laws.{EverySealed}
+use Rattle.disk_runs.specs.worker_log.Laws.{EveryKept, EveryPrefix}
+use Rattle.disk_runs.specs.worker_log.Logs.{Log}
 use Rattle.disk_runs.specs.Stands.{Known}
 use Rattle.disk_runs.proofs.LineLemmas.{further, same}
 use Rattle.disk_runs.proofs.MomentLemmas.{none_yet, some_laws}

@@ -3,17 +3,17 @@ use Rattle.std.proofs.Common.{◌≡◌, ℕ, Bool, true, false, cond, ◌==◌,
 use Rattle.std.proofs.lemmas.Bool.{lt-ltb, le-ltb}
 use Rattle.map_model.specs.Lists.{keep}
 use Rattle.map_model.specs.Maps.{MapCall, MapAnswer}
-use Rattle.image_model.specs.Entries.{Entry, is_record}
-use Rattle.image_model.specs.Histories.{write_call}
-use Rattle.core_state.specs.Openings.{Opening}
-use Rattle.core_state.specs.States.{State, start}
-use Rattle.core_state.specs.Events.{Event, Mode}
-use Rattle.core_state.specs.Needs.{may, value_in}
-use Rattle.core_state.specs.Steps.{happens, state_after}
-use Rattle.core_state.proofs.Runs.{met_more, run_more}
+use Rattle.disk_runs.specs.image_model.Entries.{Entry, is_record}
+use Rattle.disk_runs.specs.image_model.Histories.{write_call}
+use Rattle.disk_runs.specs.core_state.Openings.{Opening}
+use Rattle.disk_runs.specs.core_state.States.{State, start}
+use Rattle.disk_runs.specs.core_state.Events.{Event, Mode}
+use Rattle.disk_runs.specs.core_state.Needs.{may, value_in}
+use Rattle.disk_runs.specs.core_state.Steps.{happens, state_after}
+use Rattle.disk_runs.proofs.core_state_lemmas.Runs.{met_more, run_more}
 use Rattle.lean_disk.specs.Story.{Crash, Story}
-use Rattle.log_record.specs.declared.record.Record.{Record}
-use Rattle.disk_image.specs.Records.{entry_of}
+use Rattle.disk_runs.specs.log_record.declared.record.Record.{Record}
+use Rattle.disk_runs.specs.disk_image.Records.{entry_of}
 use Rattle.core_calls.specs.Deeds.{Changed, Deleted}
 use Rattle.core_calls.specs.Fronts.{AreFresh, Done, front, outcomes}
 use Rattle.core_calls.specs.Marks.{Called, marks}

@@ -1,8 +1,8 @@
 -- The rows by hand, computed.
 use Rattle.std.proofs.Common.{◌≡◌, ℕ, Bool, true, false, List, [], ◌∷◌, None, refl, arith}
 use Rattle.map_model.specs.declared.call.Call.TheVariants as call
-use Rattle.core_crash.proofs.ByHand.{opening}
-use Rattle.core_state.specs.Events.{Event}
+use Rattle.disk_runs.proofs.core_crash_lemmas.ByHand.{opening}
+use Rattle.disk_runs.specs.core_state.Events.{Event}
 use Rattle.core_calls.specs.Fronts.{Done, front, outcomes}
 use Rattle.core_calls.proofs.HandLemmas.{free_all, limits}
 use Rattle.core_calls.specs.Refusals.{Limits}

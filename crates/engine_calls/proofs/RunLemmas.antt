@@ -1,16 +1,16 @@
 -- A whole run.
 use Rattle.std.proofs.Common.{◌≡◌, ℕ, List, [], ◌∷◌, suc, arith}
-use Rattle.core_state.specs.Openings.{Opening}
+use Rattle.disk_runs.specs.core_state.Openings.{Opening}
 use Rattle.lean_disk.specs.Moments.{LeavesOnly}
 use Rattle.lean_disk.specs.Area.{Leaves}
 use Rattle.lean_disk.specs.Story.{Crash, Story, Tells}
 use Rattle.lean_disk.proofs.MomentLemmas.{weaker}
-use Rattle.disk_slots.specs.declared.master.Master.{Master}
-use Rattle.disk_image.specs.Laws.{EveryAgreement, EverySealed}
-use Rattle.worker_log.specs.Laws.{EveryKept, EveryPrefix}
-use Rattle.core_state.specs.Events.{Event}
-use Rattle.core_disk.specs.Held.{HoldsRun}
-use Rattle.core_disk.specs.Shows.{EveryShown}
+use Rattle.disk_runs.specs.disk_slots.declared.master.Master.{Master}
+use Rattle.disk_runs.specs.disk_image.Laws.{EveryAgreement, EverySealed}
+use Rattle.disk_runs.specs.worker_log.Laws.{EveryKept, EveryPrefix}
+use Rattle.disk_runs.specs.core_state.Events.{Event}
+use Rattle.disk_runs.specs.core_disk.Held.{HoldsRun}
+use Rattle.disk_runs.specs.core_disk.Shows.{EveryShown}
 use Rattle.core_calls.specs.Crashes.{EveryRunCrash}
 use Rattle.core_calls.specs.Fronts.{Done, front}
 use Rattle.core_calls.specs.Refusals.{Limits}

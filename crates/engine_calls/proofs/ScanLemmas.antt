@@ -2,14 +2,14 @@
 use Rattle.std.proofs.Common.{◌≡◌, ◌≤◌, ◌<◌, ℕ, suc, Bool, true, false, cond, ◌==◌, ◌||◌, List, [], ◌∷◌, ◌++◌, Option, Some, refl, sym, ap, ◌∙◌, subst, true≢false}
 use Rattle.map_model.specs.Lists.{any, keep}
 use Rattle.map_model.specs.Maps.{MapCall, MapAnswer}
-use Rattle.core_state.specs.Openings.{Opening}
-use Rattle.core_state.specs.States.{State}
-use Rattle.core_state.specs.Events.{Event, Mode}
-use Rattle.core_state.specs.Needs.{may, value_in}
-use Rattle.core_state.specs.Steps.{state_after}
-use Rattle.core_state.proofs.Runs.{met_more}
+use Rattle.disk_runs.specs.core_state.Openings.{Opening}
+use Rattle.disk_runs.specs.core_state.States.{State}
+use Rattle.disk_runs.specs.core_state.Events.{Event, Mode}
+use Rattle.disk_runs.specs.core_state.Needs.{may, value_in}
+use Rattle.disk_runs.specs.core_state.Steps.{state_after}
+use Rattle.disk_runs.proofs.core_state_lemmas.Runs.{met_more}
 use Rattle.lean_disk.specs.Story.{Story}
-use Rattle.core_disk.specs.Versions.{EveryVersion}
+use Rattle.disk_runs.specs.core_disk.Versions.{EveryVersion}
 use Rattle.core_calls.specs.Deeds.{Met, Over, Paused}
 use Rattle.core_calls.specs.Fronts.{Done, front, outcomes}
 use Rattle.core_calls.specs.Marks.{Called, Mark, marks}
@@ -57,7 +57,7 @@ module _ (g : Opening) (xs : List Done) (x : Done) (first : List Event) (w page 
 
   pub pair_told : (u : ℕ) → marks g (state_after g (front xs)) (first ++ event ∷ []) u [] ≡ cond (w == u) (Called (MapCall.Get key) (MapAnswer.Value (Some v)) (is_alone g xs first w key) ∷ []) []
   pair_told u = marks_last g (state_after g (front xs)) first (event ∷ []) u (gaps_none first i.gaps)
-      ∙ go (may g s event) (met_more g (state_after g (front xs)) first (event ∷ []) (subst (λ (es : List Event). Rattle.core_state.specs.Steps.AllMet g (state_after g (front xs)) es) is i.met)).0 (w == u)
+      ∙ go (may g s event) (met_more g (state_after g (front xs)) first (event ∷ []) (subst (λ (es : List Event). Rattle.disk_runs.specs.core_state.Steps.AllMet g (state_after g (front xs)) es) is i.met)).0 (w == u)
     where
       go : (a : Bool) → a ≡ true → (b : Bool) → cond a (cond b (Called (MapCall.Get key) (MapAnswer.Value (value_in g.format (s.page page).node key)) (is_alone g xs first w key) ∷ []) []) []
           ≡ cond b (Called (MapCall.Get key) (MapAnswer.Value (Some v)) (is_alone g xs first w key) ∷ []) []

@@ -1,8 +1,8 @@
 -- A sync and a checkpoint.
 use Rattle.std.proofs.Common.{◌≡◌, ℕ, Bool, true, false, cond, ◌==◌, List, [], ◌∷◌, ◌++◌, refl, sym, ◌∙◌, true≢false}
-use Rattle.core_state.specs.Openings.{Opening}
-use Rattle.core_state.specs.Events.{Event}
-use Rattle.core_state.specs.Steps.{state_after}
+use Rattle.disk_runs.specs.core_state.Openings.{Opening}
+use Rattle.disk_runs.specs.core_state.Events.{Event}
+use Rattle.disk_runs.specs.core_state.Steps.{state_after}
 use Rattle.lean_disk.specs.Story.{Story}
 use Rattle.core_calls.specs.Deeds.{Checkpointed, Synced}
 use Rattle.core_calls.specs.Fronts.{Done, front, outcomes}

@@ -1,12 +1,12 @@
 -- Rows that are given back, and the flush behind them: what that leaves of the state.
 use Rattle.std.proofs.Common.{◌≡◌, ℕ, Bool, true, false, cond, ◌==◌, List, [], ◌∷◌, ◌++◌, refl, sym, ap, ◌∙◌, true≢false}
 use Rattle.map_model.specs.Lists.{all, any, keep}
-use Rattle.image_model.specs.Entries.{Entry}
-use Rattle.core_state.specs.Openings.{Opening}
-use Rattle.core_state.specs.States.{Row, State}
-use Rattle.core_state.specs.Events.{Event}
-use Rattle.core_state.specs.Needs.{may}
-use Rattle.core_state.specs.Steps.{AllMet, happens, run, step}
+use Rattle.disk_runs.specs.image_model.Entries.{Entry}
+use Rattle.disk_runs.specs.core_state.Openings.{Opening}
+use Rattle.disk_runs.specs.core_state.States.{Row, State}
+use Rattle.disk_runs.specs.core_state.Events.{Event}
+use Rattle.disk_runs.specs.core_state.Needs.{may}
+use Rattle.disk_runs.specs.core_state.Steps.{AllMet, happens, run, step}
 use Rattle.core_calls.specs.Fronts.{AreFresh}
 use Rattle.core_calls.specs.LogEvents.{is_log}
 use Rattle.core_calls.specs.Marks.{Mark, marks}

@@ -3,17 +3,17 @@ use Rattle.std.specs.Prelude.{◌≡◌, ◌≤◌, ◌<◌, ℕ, suc, false, Li
 use Rattle.map_model.specs.declared.call.Call.{Call}
 use Rattle.map_model.specs.Histories.{Step}
 use Rattle.map_model.specs.Lists.{any, keep}
-use Rattle.image_model.specs.Entries.{Entry, Kind}
-use Rattle.image_model.specs.Histories.{write_call}
-use Rattle.core_state.specs.Openings.{Opening}
-use Rattle.core_state.specs.States.{State, flushed_by_all}
-use Rattle.core_state.specs.Events.{Event}
-use Rattle.core_state.specs.Needs.{holds_row}
-use Rattle.core_state.specs.Steps.{AllMet, end_entry, state_after, step}
+use Rattle.disk_runs.specs.image_model.Entries.{Entry, Kind}
+use Rattle.disk_runs.specs.image_model.Histories.{write_call}
+use Rattle.disk_runs.specs.core_state.Openings.{Opening}
+use Rattle.disk_runs.specs.core_state.States.{State, flushed_by_all}
+use Rattle.disk_runs.specs.core_state.Events.{Event}
+use Rattle.disk_runs.specs.core_state.Needs.{holds_row}
+use Rattle.disk_runs.specs.core_state.Steps.{AllMet, end_entry, state_after, step}
 use Rattle.lean_disk.specs.Story.{Crash, Story}
-use Rattle.log_record.specs.declared.record.Record.{Record}
-use Rattle.disk_image.specs.Records.{entry_of}
-use Rattle.worker_log.specs.Logs.{Log}
+use Rattle.disk_runs.specs.log_record.declared.record.Record.{Record}
+use Rattle.disk_runs.specs.disk_image.Records.{entry_of}
+use Rattle.disk_runs.specs.worker_log.Logs.{Log}
 use Rattle.core_calls.specs.Deeds.{Aborted}
 use Rattle.core_calls.specs.Fronts.{Done, front}
 use Rattle.core_calls.specs.LogEvents.{IsTightSomewhere, SyncsWhere}

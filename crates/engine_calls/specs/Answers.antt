@@ -3,9 +3,9 @@ use Rattle.std.specs.Prelude.{◌≡◌, ◌≤◌, ◌<◌, ℕ, suc, Bool, tru
 use Rattle.map_model.specs.Lists.{keep}
 use Rattle.map_model.specs.declared.call.Call.{Call}
 use Rattle.map_model.specs.declared.call.Refusal.{Refusal}
-use Rattle.core_state.specs.Openings.{Opening}
-use Rattle.core_state.specs.Events.{Event, Mode}
-use Rattle.log_record.specs.declared.record.Record.{Record}
+use Rattle.disk_runs.specs.core_state.Openings.{Opening}
+use Rattle.disk_runs.specs.core_state.Events.{Event, Mode}
+use Rattle.disk_runs.specs.log_record.declared.record.Record.{Record}
 use Rattle.core_calls.specs.Deeds.{Absent, Changed, Deleted, Got, Met, Over, Paused}
 use Rattle.core_calls.specs.Fronts.{Done, outcomes}
 use Rattle.core_calls.specs.Refusals.{Limits}

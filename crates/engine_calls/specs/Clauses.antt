@@ -3,8 +3,8 @@
 use Rattle.std.specs.Prelude.{◌≡◌, ℕ, true, List, [], ◌∷◌, map, Some, None, IsTrue}
 use Rattle.map_model.specs.declared.call.Call.{Call}
 use Rattle.map_model.specs.Pairings.{GoesOn, is_last}
-use Rattle.core_state.specs.Openings.{Opening}
-use Rattle.core_state.specs.Events.{Event}
+use Rattle.disk_runs.specs.core_state.Openings.{Opening}
+use Rattle.disk_runs.specs.core_state.Events.{Event}
 use Rattle.lean_disk.specs.Moments.{LeavesOnly}
 use Rattle.lean_disk.specs.Story.{Crash, Story}
 use Rattle.core_calls.specs.Deeds.{Outcome, answered, asked, in_words}
@@ -15,7 +15,7 @@ use Rattle.core_calls.specs.Steps.{FollowsConflict, IsAbortOf, IsAnAbort, hinder
 use Rattle.disk_runs.specs.Masters.{IsNoEarlier}
 use Rattle.disk_runs.specs.Stands.{Known, Stands}
 use Rattle.log_calls.specs.Calls.{KeepsMoments, KeepsNotes}
-use Rattle.worker_log.specs.Logs.{Log}
+use Rattle.disk_runs.specs.worker_log.Logs.{Log}
 use Rattle.run_crashes.specs.Laws.{CommitsNone}
 use Rattle.run_crashes.specs.Lines.{CallLeaves, notes_of}
 

@@ -1,16 +1,16 @@
 -- A commit.
 use Rattle.std.specs.Prelude.{◌≡◌, ◌≤◌, ◌<◌, ℕ, suc, Bool, true, false, leb, List, [], ◌∷◌, ◌++◌, if◌then◌else◌}
-use Rattle.image_model.specs.Entries.{Kind}
+use Rattle.disk_runs.specs.image_model.Entries.{Kind}
 use Rattle.map_model.specs.Lists.{any}
-use Rattle.core_state.specs.Openings.{Opening}
-use Rattle.core_state.specs.States.{State, flushed_by_all}
-use Rattle.core_state.specs.Events.{Event}
-use Rattle.core_state.specs.Needs.{holds_row}
-use Rattle.core_state.specs.Steps.{AllMet, end_entry, state_after}
+use Rattle.disk_runs.specs.core_state.Openings.{Opening}
+use Rattle.disk_runs.specs.core_state.States.{State, flushed_by_all}
+use Rattle.disk_runs.specs.core_state.Events.{Event}
+use Rattle.disk_runs.specs.core_state.Needs.{holds_row}
+use Rattle.disk_runs.specs.core_state.Steps.{AllMet, end_entry, state_after}
 use Rattle.lean_disk.specs.Story.{Crash, Story}
-use Rattle.log_record.specs.declared.record.Record.{Record}
-use Rattle.disk_image.specs.Records.{entry_of}
-use Rattle.worker_log.specs.Logs.{Log}
+use Rattle.disk_runs.specs.log_record.declared.record.Record.{Record}
+use Rattle.disk_runs.specs.disk_image.Records.{entry_of}
+use Rattle.disk_runs.specs.worker_log.Logs.{Log}
 use Rattle.core_calls.specs.Deeds.{Committed, marks_by}
 use Rattle.core_calls.specs.Fronts.{Done, front, outcomes}
 use Rattle.core_calls.specs.LogEvents.{behind, is_log}

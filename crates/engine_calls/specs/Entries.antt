@@ -1,13 +1,13 @@
 -- Which records are the entries of a change and of an end.
 use Rattle.std.specs.Prelude.{◌≡◌, ℕ, suc}
-use Rattle.image_model.specs.Entries.{Kind, word_in}
-use Rattle.core_state.specs.Openings.{Opening}
-use Rattle.core_state.specs.States.{State, Worker}
-use Rattle.core_state.specs.Steps.{end_entry, write_entry}
+use Rattle.disk_runs.specs.image_model.Entries.{Kind, word_in}
+use Rattle.disk_runs.specs.core_state.Openings.{Opening}
+use Rattle.disk_runs.specs.core_state.States.{State, Worker}
+use Rattle.disk_runs.specs.core_state.Steps.{end_entry, write_entry}
 use Rattle.rfa_model.specs.Stamps.{need_of}
-use Rattle.log_record.specs.declared.record.Body.TheVariants as body
-use Rattle.log_record.specs.declared.record.Record.{Record}
-use Rattle.disk_image.specs.Records.{entry_of}
+use Rattle.disk_runs.specs.log_record.declared.record.Body.TheVariants as body
+use Rattle.disk_runs.specs.log_record.declared.record.Record.{Record}
+use Rattle.disk_runs.specs.disk_image.Records.{entry_of}
 
 -- the record of a commit by a worker that found all logs flushed up to f
 abbrev pub commit_record : Worker → (f : ℕ) → Record

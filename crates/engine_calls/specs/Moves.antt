@@ -3,16 +3,16 @@
 use Rattle.std.specs.Prelude.{◌≡◌, ◌<◌, ◌≤◌, ◌-◌, ℕ, true, List, [], ◌∷◌, ◌++◌}
 use Rattle.map_model.specs.Lists.{all}
 use Rattle.page_model.specs.Page.{Page}
-use Rattle.core_state.specs.Openings.{Opening}
-use Rattle.core_state.specs.Events.{Event}
+use Rattle.disk_runs.specs.core_state.Openings.{Opening}
+use Rattle.disk_runs.specs.core_state.Events.{Event}
 use Rattle.lean_disk.specs.Calls.{Synced, Wrote}
 use Rattle.lean_disk.specs.Moments.{LeavesOnly}
 use Rattle.lean_disk.specs.Story.{Crash, IsLawful, Story}
 use Rattle.lean_disk.specs.declared.disk.Did.TheVariants.{Done}
-use Rattle.disk_slots.specs.declared.master.Master.{Master}
-use Rattle.disk_slots.specs.Pages.{page_slot}
-use Rattle.page_store.specs.Saved.{place_of}
-use Rattle.worker_log.specs.Logs.{Log}
+use Rattle.disk_runs.specs.disk_slots.declared.master.Master.{Master}
+use Rattle.disk_runs.specs.disk_slots.Pages.{page_slot}
+use Rattle.disk_runs.specs.page_store.Saved.{place_of}
+use Rattle.disk_runs.specs.worker_log.Logs.{Log}
 use Rattle.core_calls.specs.Fronts as fronts
 use Rattle.disk_runs.specs.MasterLaws.{IsSync, with_sync}
 use Rattle.disk_runs.specs.Masters.{IsNoEarlier}

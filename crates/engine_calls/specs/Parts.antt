@@ -1,18 +1,18 @@
 -- A call in parts: what stands where the first of its events have happened, and how it goes on, ends, or stops there.
 use Rattle.std.specs.Prelude.{◌≡◌, ◌≤◌, ◌<◌, ℕ, true, false, List, [], ◌∷◌, ◌++◌}
 use Rattle.map_model.specs.Lists.{all}
-use Rattle.core_state.specs.Openings.{Opening}
-use Rattle.core_state.specs.States.{State}
-use Rattle.core_state.specs.Events.{Event}
-use Rattle.core_state.specs.Steps.{run, state_after}
+use Rattle.disk_runs.specs.core_state.Openings.{Opening}
+use Rattle.disk_runs.specs.core_state.States.{State}
+use Rattle.disk_runs.specs.core_state.Events.{Event}
+use Rattle.disk_runs.specs.core_state.Steps.{run, state_after}
 use Rattle.lean_disk.specs.Moments.{LeavesOnly}
 use Rattle.lean_disk.specs.Story.{Crash, IsLawful, Story}
-use Rattle.log_record.specs.declared.record.Record.{Record}
-use Rattle.disk_image.specs.Records.{entry_of}
-use Rattle.worker_log.specs.Accounts.{Account}
-use Rattle.worker_log.specs.Kept.{flushed}
-use Rattle.worker_log.specs.Logs.{Log}
-use Rattle.core_disk.specs.Versions.{is_cut}
+use Rattle.disk_runs.specs.log_record.declared.record.Record.{Record}
+use Rattle.disk_runs.specs.disk_image.Records.{entry_of}
+use Rattle.disk_runs.specs.worker_log.Accounts.{Account}
+use Rattle.disk_runs.specs.worker_log.Kept.{flushed}
+use Rattle.disk_runs.specs.worker_log.Logs.{Log}
+use Rattle.disk_runs.specs.core_disk.Versions.{is_cut}
 use Rattle.core_calls.specs.Fronts.{Done, front}
 use Rattle.core_calls.specs.Refusals.{Limits}
 use Rattle.core_calls.specs.Runs.{Tells}

@@ -1,15 +1,15 @@
 -- A get, a put and a del. Before its own step a call may bring pages into frames, and miss; a change may make room in the tree.
 use Rattle.std.specs.Prelude.{◌≡◌, ◌≤◌, ◌<◌, ℕ, Bool, true, false, List, [], ◌∷◌, ◌++◌, Option, None, Some}
-use Rattle.image_model.specs.Entries.{Kind}
+use Rattle.disk_runs.specs.image_model.Entries.{Kind}
 use Rattle.map_model.specs.Lists.{any}
-use Rattle.core_state.specs.Openings.{Opening}
-use Rattle.core_state.specs.Events.{Event, Mode}
-use Rattle.core_state.specs.Needs.{is_held_by, value_in}
-use Rattle.core_state.specs.Steps.{AllMet, at_pages, state_after, write_entry}
+use Rattle.disk_runs.specs.core_state.Openings.{Opening}
+use Rattle.disk_runs.specs.core_state.Events.{Event, Mode}
+use Rattle.disk_runs.specs.core_state.Needs.{is_held_by, value_in}
+use Rattle.disk_runs.specs.core_state.Steps.{AllMet, at_pages, state_after, write_entry}
 use Rattle.lean_disk.specs.Story.{Crash, Story}
-use Rattle.log_record.specs.declared.record.Record.{Record}
-use Rattle.disk_image.specs.Records.{entry_of}
-use Rattle.worker_log.specs.Logs.{Log}
+use Rattle.disk_runs.specs.log_record.declared.record.Record.{Record}
+use Rattle.disk_runs.specs.disk_image.Records.{entry_of}
+use Rattle.disk_runs.specs.worker_log.Logs.{Log}
 use Rattle.core_calls.specs.Deeds.{Absent, Changed, Deed, Deleted, Got, marks_by}
 use Rattle.core_calls.specs.Fronts.{Done, front, outcomes}
 use Rattle.core_calls.specs.LogEvents.{IsTight, SyncsWhere}

@@ -1,10 +1,10 @@
 -- A begin, a put and its commit or its abort by hand, on one empty leaf: what a body shows of each can be shown.
 use Rattle.std.specs.Prelude.{◌≡◌, ◌^◌, Bool, true, false, List, [], ◌∷◌, None}
 use Rattle.map_model.specs.declared.call.Call.TheVariants as call
-use Rattle.core_state.specs.Openings.{Opening}
-use Rattle.core_state.specs.Events.{Event, Mode}
-use Rattle.log_record.specs.declared.record.Body.TheVariants as body
-use Rattle.log_record.specs.declared.record.Record.{Record}
+use Rattle.disk_runs.specs.core_state.Openings.{Opening}
+use Rattle.disk_runs.specs.core_state.Events.{Event, Mode}
+use Rattle.disk_runs.specs.log_record.declared.record.Body.TheVariants as body
+use Rattle.disk_runs.specs.log_record.declared.record.Record.{Record}
 use Rattle.core_calls.specs.Deeds.{Changed}
 use Rattle.core_calls.specs.Fronts.{Done}
 use Rattle.core_calls.specs.Refusals.{Limits}

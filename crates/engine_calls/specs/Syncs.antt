@@ -1,9 +1,9 @@
 -- A sync and a checkpoint.
 use Rattle.std.specs.Prelude.{◌≡◌, ℕ, false, List, [], ◌∷◌, ◌++◌}
 use Rattle.map_model.specs.Lists.{any, keep}
-use Rattle.core_state.specs.Openings.{Opening}
-use Rattle.core_state.specs.Events.{Event}
-use Rattle.core_state.specs.Steps.{AllMet, state_after}
+use Rattle.disk_runs.specs.core_state.Openings.{Opening}
+use Rattle.disk_runs.specs.core_state.Events.{Event}
+use Rattle.disk_runs.specs.core_state.Steps.{AllMet, state_after}
 use Rattle.lean_disk.specs.Story.{Crash, Story}
 use Rattle.core_calls.specs.Deeds.{Checkpointed, Deed, Synced}
 use Rattle.core_calls.specs.Fronts.{Done, front, outcomes}

@@ -21,6 +21,7 @@ ghost use Rattle.engine_calls.specs.Runs.{EveryRun};
 ghost use Rattle.engine_calls.specs.Scans.{EveryScan};
 ghost use Rattle.engine_calls.specs.Syncs.{EverySync};
 
+use disk_runs::{core_disk, disk_image, worker_log};
 use lean_disk::Disk;
 
 /// A call in parts: how it begins, goes on, ends and stops.

@@ -1,6 +1,6 @@
 -- Why a call was not answered.
 use Rattle.std.specs.Prelude.{ℕ, List}
-use Rattle.core_state.specs.Openings.{Opening}
+use Rattle.disk_runs.specs.core_state.Openings.{Opening}
 use Rattle.core_calls.specs.Fronts.{Done}
 use Rattle.disk_runs.specs.Stands.{Known}
 use Rattle.lean_disk.specs.Story.{Crash, Story}

@@ -6,8 +6,8 @@ use Rattle.map_model.specs.declared.call.Answer.TheVariants as answer
 use Rattle.map_model.specs.declared.call.Call.{Call}
 use Rattle.map_model.specs.declared.call.Call.TheVariants as call
 use Rattle.map_model.specs.Pairings.{is_last}
-use Rattle.core_state.specs.Openings.{Opening}
-use Rattle.core_state.specs.Steps.{state_after}
+use Rattle.disk_runs.specs.core_state.Openings.{Opening}
+use Rattle.disk_runs.specs.core_state.Steps.{state_after}
 use Rattle.core_calls.specs.Deeds.{answered, asked}
 use Rattle.core_calls.specs.Durables.{due}
 use Rattle.core_calls.specs.Fronts.{Done, front, outcomes}

@@ -1,6 +1,6 @@
 //! The calls of an engine.
 ghost use Rattle.std.specs.Prelude.{◌≡◌, ◌↔◌, ◌≤◌, ◌<◌, ◌^◌, ℕ, Bool, true, false, List, ◌∷◌, IfOk, IfErr, IfSome, IsErr, Err, MatchOption, Some};
-ghost use Rattle.core_state.specs.Openings.{Opening};
+ghost use Rattle.disk_runs.specs.core_state.Openings.{Opening};
 ghost use Rattle.core_calls.specs.Deeds.{asked};
 ghost use Rattle.core_calls.specs.Fronts.{Done};
 ghost use Rattle.core_calls.specs.Runs.{EachTells};

@@ -1,7 +1,7 @@
 // A log over a disk in memory. The bytes of blocks are Python's, by struct.pack and hashlib.
 use crate::cases::expect;
 use lean_disk::{AreaOf, Disk, MemDisk, Part};
-use log_record::{Body, PageRef, Record};
+use master_store::log_record::{Body, PageRef, Record};
 use std::alloc::{AllocError, Global};
 use std::process::Abort;
 use worker_log::{DiskFault, Staging, WorkerLog};

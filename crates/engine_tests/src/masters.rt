@@ -1,7 +1,7 @@
 // Masters that are written to a disk in memory and chosen again.
 use crate::cases::expect;
-use disk_slots::{Heads, Master};
 use lean_disk::{AreaOf, Did, Disk, MemDisk};
+use master_store::disk_slots::{Heads, Master};
 use master_store::{DiskFault, choose, write_next};
 use std::alloc::{AllocError, Global};
 

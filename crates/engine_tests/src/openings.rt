@@ -4,7 +4,7 @@ ghost use Rattle.std.specs.Prelude.{◌≤◌, length};
 use crate::cases::expect;
 use crate::disks::{formatted, put_master, put_pages, unused};
 use lean_disk::{Choice, Did, Disk, MemDisk};
-use log_block::block_bytes;
+use master_store::log_block::block_bytes;
 use recovery::{Recovered, Unrecovered, recover};
 use std::alloc::{AllocError, Global};
 

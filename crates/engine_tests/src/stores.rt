@@ -2,10 +2,10 @@
 ghost use Rattle.std.specs.Prelude.{◌≡◌, ◌<◌};
 
 use crate::cases::expect;
-use btree_node::Node;
-use disk_slots::{Heads, Master};
 use lean_disk::{AreaOf, Did, Disk, MemDisk};
-use page_store::{Unread, fetch, save, spare};
+use master_store::btree_node::Node;
+use master_store::disk_slots::{Heads, Master};
+use master_store::page_store::{Unread, fetch, save, spare};
 use std::alloc::{AllocError, Global};
 
 // What is done with page 3.

@@ -7,13 +7,13 @@ use Rattle.map_model.specs.declared.call.Call.TheVariants as call
 use Rattle.map_model.specs.Maps.{key_end, value_end}
 use Rattle.map_model.specs.declared.call.Refusal.{Refusal}
 use Rattle.map_model.specs.declared.call.Refusal.TheVariants as refusal
-use Rattle.core_state.specs.Openings.{Opening}
-use Rattle.worker_log.specs.Logs.{Log}
+use Rattle.disk_runs.specs.core_state.Openings.{Opening}
+use Rattle.disk_runs.specs.worker_log.Logs.{Log}
 use Rattle.core_calls.specs.Deeds.{marks_by}
 use Rattle.core_calls.specs.Fronts.{Done, outcomes}
 use Rattle.core_calls.specs.Marks.{is_half}
 pub use Rattle.core_calls.specs.Steps.{call_behind, due_call}
-use Rattle.disk_slots.specs.declared.master.Master.{Master}
+use Rattle.disk_runs.specs.disk_slots.declared.master.Master.{Master}
 use Rattle.disk_runs.specs.Stands.{Known}
 
 -- an abort of session `own` has put changes back, and its transaction has not ended since

@@ -1,7 +1,7 @@
 -- The limits of an engine, and the loads of its opening.
 use Rattle.std.specs.Prelude.{◌^◌, true, false, List, [], ◌∷◌}
 use Rattle.page_model.specs.Limits.{waiting_ends}
-use Rattle.core_state.specs.Events.{Event}
+use Rattle.disk_runs.specs.core_state.Events.{Event}
 use Rattle.core_calls.specs.Refusals.{Limits}
 
 -- Clocks end at 2^62. A latch is spent behind 2^61 events at least, fewer than 256 ends of a session wait where it begins a transaction, and no log is half full.

@@ -1,14 +1,14 @@
 -- What events do to the logs of an engine.
 use Rattle.std.specs.Prelude.{◌≡◌, ℕ, List, [], ◌∷◌}
-use Rattle.core_state.specs.Openings.{Opening}
-use Rattle.core_state.specs.Events.{Event}
-use Rattle.core_state.specs.States.{State}
-use Rattle.core_state.specs.Steps.{step}
-use Rattle.log_record.specs.declared.record.Record.{Record}
-use Rattle.disk_image.specs.Records.{entry_of}
+use Rattle.disk_runs.specs.core_state.Openings.{Opening}
+use Rattle.disk_runs.specs.core_state.Events.{Event}
+use Rattle.disk_runs.specs.core_state.States.{State}
+use Rattle.disk_runs.specs.core_state.Steps.{step}
+use Rattle.disk_runs.specs.log_record.declared.record.Record.{Record}
+use Rattle.disk_runs.specs.disk_image.Records.{entry_of}
 use Rattle.disk_runs.specs.MasterLaws.{raised}
-use Rattle.worker_log.specs.Calls.{After, flushed_log}
-use Rattle.worker_log.specs.Logs.{Log}
+use Rattle.disk_runs.specs.worker_log.Calls.{After, flushed_log}
+use Rattle.disk_runs.specs.worker_log.Logs.{Log}
 
 -- Of an event of session v: what it does to a log that is the session's own, and to another one.
 pub record OnOwn (v w : ℕ) (Own Other : Type 0) : Type 0 where

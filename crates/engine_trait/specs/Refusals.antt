@@ -8,13 +8,13 @@ use Rattle.page_model.specs.Check.{some_below}
 use Rattle.page_model.specs.Limits.{transaction_changes}
 use Rattle.page_model.specs.Nodes.{holds}
 use Rattle.page_model.specs.Redo.{has_key}
-use Rattle.core_state.specs.Openings.{Opening}
-use Rattle.core_state.specs.States.{State, nodes_of}
-use Rattle.core_state.specs.Events.{Mode}
-use Rattle.core_state.specs.Needs.{may_hold}
-use Rattle.core_state.specs.Steps.{at_row}
+use Rattle.disk_runs.specs.core_state.Openings.{Opening}
+use Rattle.disk_runs.specs.core_state.States.{State, nodes_of}
+use Rattle.disk_runs.specs.core_state.Events.{Mode}
+use Rattle.disk_runs.specs.core_state.Needs.{may_hold}
+use Rattle.disk_runs.specs.core_state.Steps.{at_row}
 use Rattle.core_calls.specs.Room.{free_list, is_all_full, room_takes}
-use Rattle.worker_log.specs.Logs.{Log, limit, used}
+use Rattle.disk_runs.specs.worker_log.Logs.{Log, limit, used}
 
 -- the leaf with the key in its fences has no room, and has not the key
 abbrev pub is_full_for : Opening → State → ℕ → Bool

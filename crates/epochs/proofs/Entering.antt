@@ -1,18 +1,18 @@
 -- A worker enters and leaves.
 use Rattle.std.proofs.Common.{◌≡◌, ◌<◌, ◌≤◌, ◌^◌, ◌+◌, ℕ, suc, inl, inr, true, [], ◌∷◌, ◌++◌, Some, None, refl, sym, subst, ◌∙◌, arith}
 use Rattle.std.proofs.lemmas.Bool.{cases_lt}
-use Rattle.core_state.specs.Needs as core
-use Rattle.core_state.specs.Needs.{is_worker}
-use Rattle.row_words.specs.declared.event.Event.{Event}
-use Rattle.row_words.specs.declared.event.Event.TheVariants.{Enter, Leave, Tick}
-use Rattle.row_words.specs.declared.given.Given.{Given}
-use Rattle.row_words.specs.Moments.{event_of}
-use Rattle.row_words.specs.Openings.{opening}
-use Rattle.rows_trait.specs.declared.view.View.{View}
-use Rattle.rows_trait.specs.Views.{Shape, after_all, state}
-use Rattle.rows_trait.specs.Turns.{Heard, Turned, Ran}
-use Rattle.rows_trait.proofs.Runs.{ran_goes, ran_append}
-use Rattle.version_latch.proofs.Keeping.{may_ran}
+use Rattle.lean_proto.specs.core_state.Needs as core
+use Rattle.lean_proto.specs.core_state.Needs.{is_worker}
+use Rattle.lean_proto.specs.row_words.declared.event.Event.{Event}
+use Rattle.lean_proto.specs.row_words.declared.event.Event.TheVariants.{Enter, Leave, Tick}
+use Rattle.lean_proto.specs.row_words.declared.given.Given.{Given}
+use Rattle.lean_proto.specs.row_words.Moments.{event_of}
+use Rattle.lean_proto.specs.row_words.Openings.{opening}
+use Rattle.lean_proto.specs.rows_trait.declared.view.View.{View}
+use Rattle.lean_proto.specs.rows_trait.Views.{Shape, after_all, state}
+use Rattle.lean_proto.specs.rows_trait.Turns.{Heard, Turned, Ran}
+use Rattle.lean_proto.proofs.rows_trait_lemmas.Runs.{ran_goes, ran_append}
+use Rattle.lean_proto.proofs.version_latch_lemmas.Keeping.{may_ran}
 use Rattle.lean_proto.specs.Controls.{IsTick, IsEnter, IsLeave, Entered, EveryEpoch}
 use Rattle.epochs.specs.Epochs.{HasTicked, IsInside, IsOutside, HasEntered, HasLeft, Met}
 

@@ -1,19 +1,19 @@
 -- No page waits for a worker that is outside, or entered later.
 use Rattle.std.proofs.Common.{◌≡◌, ◌≢◌, ◌<◌, ◌≤◌, ◌+◌, ◌^◌, ℕ, zero, suc, Bool, true, false, List, [], ◌∷◌, ◌++◌, ◌⊎◌, Option, Some, None, inl, inr, refl, sym, ap, subst, ◌∙◌, arith}
 use Rattle.std.proofs.lemmas.Bool.{cases_eq, eqb-true, cases_Bool}
-use Rattle.core_state.specs.States.{epoch_of, waits_for}
-use Rattle.core_paging.specs.Paging.{Waiting}
-use Rattle.row_words.specs.declared.given.Given.{Given}
-use Rattle.row_words.specs.Moments.{Moment, pager}
-use Rattle.row_words.specs.Sealed.{heard}
-use Rattle.row_words.specs.Words.{epoch_word}
-use Rattle.rows_trait.specs.declared.view.Act.{Act}
-use Rattle.rows_trait.specs.declared.view.Act.TheVariants.{Hear}
-use Rattle.rows_trait.specs.declared.view.View.{View}
-use Rattle.rows_trait.specs.Views.{Shape, after_all, may, state}
-use Rattle.rows_trait.specs.Turns.{Heard, Ran}
-use Rattle.rows_trait.proofs.Runs.{ran_none, ran_append}
-use Rattle.version_latch.proofs.Keeping.{may_ran}
+use Rattle.lean_proto.specs.core_state.States.{epoch_of, waits_for}
+use Rattle.lean_proto.specs.core_paging.Paging.{Waiting}
+use Rattle.lean_proto.specs.row_words.declared.given.Given.{Given}
+use Rattle.lean_proto.specs.row_words.Moments.{Moment, pager}
+use Rattle.lean_proto.specs.row_words.Sealed.{heard}
+use Rattle.lean_proto.specs.row_words.Words.{epoch_word}
+use Rattle.lean_proto.specs.rows_trait.declared.view.Act.{Act}
+use Rattle.lean_proto.specs.rows_trait.declared.view.Act.TheVariants.{Hear}
+use Rattle.lean_proto.specs.rows_trait.declared.view.View.{View}
+use Rattle.lean_proto.specs.rows_trait.Views.{Shape, after_all, may, state}
+use Rattle.lean_proto.specs.rows_trait.Turns.{Heard, Ran}
+use Rattle.lean_proto.proofs.rows_trait_lemmas.Runs.{ran_none, ran_append}
+use Rattle.lean_proto.proofs.version_latch_lemmas.Keeping.{may_ran}
 use Rattle.lean_proto.specs.Controls.{EveryEpoch}
 use Rattle.lean_proto.specs.Still.{Stood, IsStill, EveryStood}
 use Rattle.epochs.specs.Epochs.{IsJudge, IsStamp, IsDeserted, Unwaited}

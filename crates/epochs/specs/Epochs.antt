@@ -1,18 +1,18 @@
 -- Who is inside, and whether a cooling page waits for somebody.
 use Rattle.std.specs.Prelude.{◌≡◌, ◌<◌, ◌≤◌, ◌^◌, ℕ, true, false, List, [], ◌∷◌, ◌++◌, Some, None}
-use Rattle.core_state.specs.Needs as core
-use Rattle.core_state.specs.Needs.{is_worker, is_inside}
-use Rattle.core_state.specs.States.{epoch_of, waits_for}
-use Rattle.core_paging.specs.Paging.{Waiting}
-use Rattle.row_words.specs.declared.event.Event.{Event}
-use Rattle.row_words.specs.declared.event.Event.TheVariants.{Enter, Leave, Tick}
-use Rattle.row_words.specs.Moments.{event_of, pager}
-use Rattle.row_words.specs.Openings.{opening}
-use Rattle.rows_trait.specs.declared.view.View.{View}
-use Rattle.rows_trait.specs.declared.view.Act.TheVariants.{Hear}
-use Rattle.rows_trait.specs.declared.view.Act.{Act}
-use Rattle.rows_trait.specs.Views.{Shape, after_all, may, state}
-use Rattle.rows_trait.specs.Turns.{Ran}
+use Rattle.lean_proto.specs.core_state.Needs as core
+use Rattle.lean_proto.specs.core_state.Needs.{is_worker, is_inside}
+use Rattle.lean_proto.specs.core_state.States.{epoch_of, waits_for}
+use Rattle.lean_proto.specs.core_paging.Paging.{Waiting}
+use Rattle.lean_proto.specs.row_words.declared.event.Event.{Event}
+use Rattle.lean_proto.specs.row_words.declared.event.Event.TheVariants.{Enter, Leave, Tick}
+use Rattle.lean_proto.specs.row_words.Moments.{event_of, pager}
+use Rattle.lean_proto.specs.row_words.Openings.{opening}
+use Rattle.lean_proto.specs.rows_trait.declared.view.View.{View}
+use Rattle.lean_proto.specs.rows_trait.declared.view.Act.TheVariants.{Hear}
+use Rattle.lean_proto.specs.rows_trait.declared.view.Act.{Act}
+use Rattle.lean_proto.specs.rows_trait.Views.{Shape, after_all, may, state}
+use Rattle.lean_proto.specs.rows_trait.Turns.{Ran}
 use Rattle.epochs.specs.declared.judging.Ripeness.{Ripeness}
 use Rattle.epochs.specs.declared.judging.Ripeness.TheVariants.{Yes, Held}
 

@@ -4,8 +4,8 @@ ghost use Rattle.epochs.specs.Epochs.{IsInside, IsOutside, HasEntered, HasLeft};
 
 use crate::events::{Enters, Leaves};
 use lean_proto::every_epoch;
-use rows_trait::names::Nothing;
-use rows_trait::rows::Rows;
+use lean_proto::rows_trait::names::Nothing;
+use lean_proto::rows_trait::rows::Rows;
 
 /// The epoch of a worker that is outside.
 const OUTSIDE: u64 = 1 << 63;

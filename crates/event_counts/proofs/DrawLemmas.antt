@@ -6,14 +6,14 @@ use Rattle.map_model.specs.Lists.{Has, any, keep, upd}
 use Rattle.map_model.specs.Maps.{MapAnswer}
 use Rattle.page_model.specs.Needs as page_needs
 use Rattle.page_model.specs.Records.{Record}
-use Rattle.image_model.specs.Entries.{Contents, Entry, Kind, is_record, touches, word_in, written}
-use Rattle.core_state.specs.Events.{Event, Mode}
-use Rattle.core_state.specs.Lists.{most}
-use Rattle.core_state.specs.Needs.{are_hot, is_behind, is_held_by, is_reader, may, needs, pages_of}
-use Rattle.core_state.specs.Openings.{Opening}
-use Rattle.core_state.specs.States.{Row, State, Worker, gsns_of, nodes_of, start}
-use Rattle.core_state.specs.Steps.{at_pages, at_row, begun, end_entry, finished, follows, happens, locked, moves, page_entry, put_back, read_entry, run, step, unlocked, with_pairs, write_entry, writes}
-use Rattle.core_commit.proofs.Lists.{least_le}
+use Rattle.disk_runs.specs.image_model.Entries.{Contents, Entry, Kind, is_record, touches, word_in, written}
+use Rattle.disk_runs.specs.core_state.Events.{Event, Mode}
+use Rattle.disk_runs.specs.core_state.Lists.{most}
+use Rattle.disk_runs.specs.core_state.Needs.{are_hot, is_behind, is_held_by, is_reader, may, needs, pages_of}
+use Rattle.disk_runs.specs.core_state.Openings.{Opening}
+use Rattle.disk_runs.specs.core_state.States.{Row, State, Worker, gsns_of, nodes_of, start}
+use Rattle.disk_runs.specs.core_state.Steps.{at_pages, at_row, begun, end_entry, finished, follows, happens, locked, moves, page_entry, put_back, read_entry, run, step, unlocked, with_pairs, write_entry, writes}
+use Rattle.disk_runs.proofs.core_commit_lemmas.Lists.{least_le}
 use Rattle.event_counts.specs.Draws.{EveryDraw, draws, draws_one}
 
 -- no number of these is above top
@@ -131,7 +131,7 @@ module _ (g : Opening) (top high : ℕ) (le : top ≤ high) (s : State) (u : IsU
       let r : Entry = write_entry g k s w a p key word in
       entry_up w (record a { clock = r.number; changes = changes r }) r (omega arith) (omega arith) (omega arith) (λ q. cond (touches q r) (written r q (s.page q)) (s.page q)) (pages_with high r s.page up.pages (omega arith))
 
-  reads_up : (w p k : ℕ) → IsUpTo high (Rattle.core_state.specs.Steps.reads g s w p k)
+  reads_up : (w p k : ℕ) → IsUpTo high (Rattle.disk_runs.specs.core_state.Steps.reads g s w p k)
   reads_up w p k =
       let d = le in let m = met w (p ∷ []) in let c = m.0 in let e = m.1 in
       let a : Worker = at_pages s w (s.worker w) (p ∷ []) in

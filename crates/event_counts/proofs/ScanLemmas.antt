@@ -8,12 +8,12 @@ use Rattle.map_model.specs.declared.call.Refusal.TheVariants as refusal
 use Rattle.map_model.specs.Lists.{any, keep, upd}
 use Rattle.map_model.specs.Maps.{MapAnswer}
 use Rattle.map_model.proofs.ListLemmas.{at_upd, upd_same}
-use Rattle.image_model.specs.Entries.{Entry}
-use Rattle.core_state.specs.Events.{Event, Mode}
-use Rattle.core_state.specs.Needs.{are_hot, may, may_put_back, needs, pages_of}
-use Rattle.core_state.specs.Openings.{Opening}
-use Rattle.core_state.specs.States.{State, Worker, start}
-use Rattle.core_state.specs.Steps.{AllMet, follows, happens, put_back, run, state_after, step}
+use Rattle.disk_runs.specs.image_model.Entries.{Entry}
+use Rattle.disk_runs.specs.core_state.Events.{Event, Mode}
+use Rattle.disk_runs.specs.core_state.Needs.{are_hot, may, may_put_back, needs, pages_of}
+use Rattle.disk_runs.specs.core_state.Openings.{Opening}
+use Rattle.disk_runs.specs.core_state.States.{State, Worker, start}
+use Rattle.disk_runs.specs.core_state.Steps.{AllMet, follows, happens, put_back, run, state_after, step}
 use Rattle.core_calls.specs.Deeds.{Aborted, Deed, Met, Outcome, Over, Paused, Refused, Unsaid, asked}
 use Rattle.core_calls.specs.Fronts.{Done, front, outcomes}
 use Rattle.core_calls.specs.LogEvents.{IsPressedYet, IsTightSomewhere, LogsGo, SyncsWhere}

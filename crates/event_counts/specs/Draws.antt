@@ -1,11 +1,11 @@
 -- How far the numbers of a run go, by how many of its events draw one.
 use Rattle.std.specs.Prelude.{◌≡◌, ◌≤◌, ◌+◌, ◌++◌, ℕ, Bool, true, false, List, length}
 use Rattle.map_model.specs.Lists.{Has, keep}
-use Rattle.image_model.specs.Entries.{Entry}
-use Rattle.core_state.specs.Events.{Event}
-use Rattle.core_state.specs.Openings.{Opening}
-use Rattle.core_state.specs.States.{State}
-use Rattle.core_state.specs.Steps.{state_after}
+use Rattle.disk_runs.specs.image_model.Entries.{Entry}
+use Rattle.disk_runs.specs.core_state.Events.{Event}
+use Rattle.disk_runs.specs.core_state.Openings.{Opening}
+use Rattle.disk_runs.specs.core_state.States.{State}
+use Rattle.disk_runs.specs.core_state.Steps.{state_after}
 
 -- it draws a number: a record of pages, and an end
 abbrev pub draws_one : Event → Bool

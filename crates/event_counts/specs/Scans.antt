@@ -2,7 +2,7 @@
 use Rattle.std.specs.Prelude.{◌≡◌, ◌≤◌, ◌+◌, ℕ, suc, List}
 use Rattle.map_model.specs.declared.call.Call.TheVariants as call
 use Rattle.page_model.specs.Limits.{transaction_changes}
-use Rattle.core_state.specs.Openings.{Opening}
+use Rattle.disk_runs.specs.core_state.Openings.{Opening}
 use Rattle.core_calls.specs.Deeds.{asked}
 use Rattle.core_calls.specs.Fronts.{Done, outcomes}
 use Rattle.core_calls.specs.Refusals.{Limits}

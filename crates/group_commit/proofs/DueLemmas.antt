@@ -4,12 +4,12 @@ use Rattle.std.proofs.lemmas.Bool.{cases_Bool, eq-eqb, ne_eqb, eqb-true, ltb-tru
 use Rattle.map_model.specs.Lists.{Has, keep, insert_by, in_order}
 use Rattle.map_model.specs.Journals.{Name}
 use Rattle.map_model.proofs.ListLemmas.{order_has, keep_has}
-use Rattle.image_model.specs.Entries.{Entry, is_end, same_txn, earlier}
-use Rattle.image_model.specs.Ends.{name_of, names_of}
-use Rattle.core_state.specs.Openings.{Opening}
-use Rattle.core_state.specs.States.{State}
-use Rattle.core_commit.proofs.History.{IsRecorded, SameTxn, same_from, same_to}
-use Rattle.core_commit.proofs.KindFacts.{end_is_record}
+use Rattle.core_crash.specs.image_model.Entries.{Entry, is_end, same_txn, earlier}
+use Rattle.core_crash.specs.image_model.Ends.{name_of, names_of}
+use Rattle.core_crash.specs.core_state.Openings.{Opening}
+use Rattle.core_crash.specs.core_state.States.{State}
+use Rattle.core_crash.proofs.core_commit_lemmas.History.{IsRecorded, SameTxn, same_from, same_to}
+use Rattle.core_crash.proofs.core_commit_lemmas.KindFacts.{end_is_record}
 use Rattle.core_calls.specs.Durables.{is_ripe, is_told, due}
 use Rattle.core_calls.proofs.DurableLemmas.{passes}
 

@@ -4,13 +4,13 @@ use Rattle.std.proofs.lemmas.Bool.{and_from, and_parts, leb-true, le-leb, or_par
 use Rattle.map_model.specs.Lists.{Has, keep, any}
 use Rattle.map_model.specs.Maps.{MapAnswer}
 use Rattle.map_model.proofs.ListLemmas.{has_keep, keep_has}
-use Rattle.image_model.specs.Entries.{Entry, is_end}
-use Rattle.core_state.specs.Openings.{Opening}
-use Rattle.core_state.specs.States.{State, start, flushed_by_all}
-use Rattle.core_state.specs.Events.{Event}
-use Rattle.core_state.specs.Needs.{may}
-use Rattle.core_state.specs.Steps.{follows, put_back, happens, step, run}
-use Rattle.core_commit.specs.Rises.{EveryRise}
+use Rattle.core_crash.specs.image_model.Entries.{Entry, is_end}
+use Rattle.core_crash.specs.core_state.Openings.{Opening}
+use Rattle.core_crash.specs.core_state.States.{State, start, flushed_by_all}
+use Rattle.core_crash.specs.core_state.Events.{Event}
+use Rattle.core_crash.specs.core_state.Needs.{may}
+use Rattle.core_crash.specs.core_state.Steps.{follows, put_back, happens, step, run}
+use Rattle.core_crash.specs.core_commit.Rises.{EveryRise}
 use Rattle.core_calls.proofs.DurableLemmas.{entered}
 use Rattle.group_commit.specs.Tracks.{is_ending, is_flushed}
 

@@ -7,13 +7,13 @@ use Rattle.map_model.specs.declared.call.Refusal.{Refusal}
 use Rattle.map_model.specs.declared.call.Refusal.TheVariants as refusal
 use Rattle.map_model.specs.Lists.{keep, any}
 use Rattle.map_model.specs.Maps.{MapAnswer}
-use Rattle.image_model.specs.Entries.{Entry}
-use Rattle.core_state.specs.Openings.{Opening}
-use Rattle.core_state.specs.States.{State, flushed_by_all}
-use Rattle.core_state.specs.Events.{Event, Mode}
-use Rattle.core_state.specs.Local.{is_sync}
-use Rattle.core_state.specs.Needs.{may}
-use Rattle.core_state.specs.Steps.{follows, put_back, happens, step, run}
+use Rattle.core_crash.specs.image_model.Entries.{Entry}
+use Rattle.core_crash.specs.core_state.Openings.{Opening}
+use Rattle.core_crash.specs.core_state.States.{State, flushed_by_all}
+use Rattle.core_crash.specs.core_state.Events.{Event, Mode}
+use Rattle.core_crash.specs.core_state.Local.{is_sync}
+use Rattle.core_crash.specs.core_state.Needs.{may}
+use Rattle.core_crash.specs.core_state.Steps.{follows, put_back, happens, step, run}
 use Rattle.core_calls.specs.Deeds.{Outcome}
 use Rattle.core_calls.specs.Fronts.{AreFresh}
 use Rattle.core_calls.specs.Steps.{is_step, is_structure, PutsBack, TakesRow, Tries, Undoes, Unlocks, Walks}

@@ -1,10 +1,10 @@
 -- For which log a receipt waits.
 use Rattle.std.proofs.Common.{◌≡◌, ◌<◌, ◌≤◌, ◌+◌, ◌-◌, ℕ, zero, suc, Bool, true, false, cond, leb, List, [], ◌∷◌, length, get_or, refl, sym, ap, ◌∙◌, inl, inr, arith}
 use Rattle.std.proofs.lemmas.Bool.{leb-true, leb-false, le-leb, cond-true}
-use Rattle.image_model.specs.Entries.{Entry, is_commit}
-use Rattle.core_state.specs.Openings.{Opening}
-use Rattle.core_state.specs.States.{State}
-use Rattle.core_commit.proofs.Lists.{least_le, le_least}
+use Rattle.core_crash.specs.image_model.Entries.{Entry, is_commit}
+use Rattle.core_crash.specs.core_state.Openings.{Opening}
+use Rattle.core_crash.specs.core_state.States.{State}
+use Rattle.core_crash.proofs.core_commit_lemmas.Lists.{least_le, le_least}
 use Rattle.core_calls.specs.Durables.{is_ripe}
 use Rattle.core_calls.proofs.DurableLemmas.{ripe_from, ripe_to}
 use Rattle.group_commit.specs.declared.receipts.Receipt.{Receipt}

@@ -5,15 +5,15 @@ use Rattle.map_model.specs.Lists.{Has, in_order, upd}
 use Rattle.map_model.specs.Journals.{Name}
 use Rattle.map_model.proofs.ListLemmas.{upd_same, upd_other}
 use Rattle.rfa_model.specs.Reaches.{least}
-use Rattle.image_model.specs.Entries.{Entry, is_end, is_commit, earlier}
-use Rattle.image_model.specs.Ends.{name_of, names_of}
-use Rattle.core_state.specs.Openings.{Opening}
-use Rattle.core_state.specs.States.{State, start, flushed_by_all}
-use Rattle.core_state.specs.Events.{Event}
-use Rattle.core_state.specs.Steps.{run}
-use Rattle.core_commit.proofs.History.{IsRecorded, SameTxn}
-use Rattle.core_commit.proofs.Invariants.{Inv}
-use Rattle.core_commit.proofs.Runs.{good_run, good_start}
+use Rattle.core_crash.specs.image_model.Entries.{Entry, is_end, is_commit, earlier}
+use Rattle.core_crash.specs.image_model.Ends.{name_of, names_of}
+use Rattle.core_crash.specs.core_state.Openings.{Opening}
+use Rattle.core_crash.specs.core_state.States.{State, start, flushed_by_all}
+use Rattle.core_crash.specs.core_state.Events.{Event}
+use Rattle.core_crash.specs.core_state.Steps.{run}
+use Rattle.core_crash.proofs.core_commit_lemmas.History.{IsRecorded, SameTxn}
+use Rattle.core_crash.proofs.core_commit_lemmas.Invariants.{Inv}
+use Rattle.core_crash.proofs.core_commit_lemmas.Runs.{good_run, good_start}
 use Rattle.core_crash.proofs.Journal.{commit_is_end}
 use Rattle.core_crash.proofs.Ends.{one_end}
 use Rattle.core_calls.specs.Refusals.{waiting}

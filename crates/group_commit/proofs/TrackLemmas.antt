@@ -3,16 +3,16 @@ use Rattle.std.proofs.Common.{◌≡◌, ◌<◌, ◌≤◌, ◌-◌, ℕ, suc, 
 use Rattle.std.proofs.lemmas.Bool.{cases_eq, cond-true, false_from_ne_true}
 use Rattle.map_model.specs.Lists.{Has}
 use Rattle.map_model.specs.Journals.{Name}
-use Rattle.image_model.specs.Entries.{Kind, Entry, is_end, is_commit}
-use Rattle.image_model.specs.Ends.{name_of}
-use Rattle.core_state.specs.Openings.{Opening}
-use Rattle.core_state.specs.States.{State, start, flushed_by_all}
-use Rattle.core_state.specs.Events.{Event}
-use Rattle.core_state.specs.Needs.{may}
-use Rattle.core_state.specs.Steps.{end_entry, happens, run}
-use Rattle.core_state.proofs.Runs.{run_more}
-use Rattle.core_commit.specs.Rises.{EveryRise}
-use Rattle.core_commit.proofs.History.{IsRecorded}
+use Rattle.core_crash.specs.image_model.Entries.{Kind, Entry, is_end, is_commit}
+use Rattle.core_crash.specs.image_model.Ends.{name_of}
+use Rattle.core_crash.specs.core_state.Openings.{Opening}
+use Rattle.core_crash.specs.core_state.States.{State, start, flushed_by_all}
+use Rattle.core_crash.specs.core_state.Events.{Event}
+use Rattle.core_crash.specs.core_state.Needs.{may}
+use Rattle.core_crash.specs.core_state.Steps.{end_entry, happens, run}
+use Rattle.core_crash.proofs.core_state_lemmas.Runs.{run_more}
+use Rattle.core_crash.specs.core_commit.Rises.{EveryRise}
+use Rattle.core_crash.proofs.core_commit_lemmas.History.{IsRecorded}
 use Rattle.core_crash.proofs.Journal.{commit_is_end}
 use Rattle.core_calls.specs.Durables.{is_told}
 use Rattle.core_calls.proofs.DurableLemmas.{recorded_of, told_to}

@@ -1,9 +1,9 @@
 -- Which outcome of a run ends a transaction, and the receipt of it.
 use Rattle.std.specs.Prelude.{◌≡◌, Bool, true, false, List, ◌∷◌, Option, Some, None}
 use Rattle.rfa_model.specs.Stamps.{need_of}
-use Rattle.core_state.specs.Openings.{Opening}
-use Rattle.core_state.specs.States.{flushed_by_all}
-use Rattle.core_state.specs.Steps.{state_after}
+use Rattle.core_crash.specs.core_state.Openings.{Opening}
+use Rattle.core_crash.specs.core_state.States.{flushed_by_all}
+use Rattle.core_crash.specs.core_state.Steps.{state_after}
 use Rattle.core_calls.specs.Deeds.{Deed, Committed, Aborted}
 use Rattle.core_calls.specs.Fronts.{Done, front}
 use Rattle.group_commit.specs.declared.receipts.Receipt.{Receipt}

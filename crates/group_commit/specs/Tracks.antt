@@ -3,11 +3,11 @@ use Rattle.std.specs.Prelude.{◌≡◌, ◌<◌, ◌≤◌, ℕ, suc, Bool, tru
 use Rattle.map_model.specs.Lists.{Has}
 use Rattle.map_model.specs.Journals.{Name}
 use Rattle.rfa_model.specs.Stamps.{need_of}
-use Rattle.image_model.specs.Entries.{Entry, is_end, is_commit}
-use Rattle.image_model.specs.Ends.{name_of}
-use Rattle.core_state.specs.Openings.{Opening}
-use Rattle.core_state.specs.States.{State, flushed_by_all}
-use Rattle.core_state.specs.Events.{Event}
+use Rattle.core_crash.specs.image_model.Entries.{Entry, is_end, is_commit}
+use Rattle.core_crash.specs.image_model.Ends.{name_of}
+use Rattle.core_crash.specs.core_state.Openings.{Opening}
+use Rattle.core_crash.specs.core_state.States.{State, flushed_by_all}
+use Rattle.core_crash.specs.core_state.Events.{Event}
 use Rattle.core_calls.specs.Durables.{is_told}
 use Rattle.group_commit.specs.declared.receipts.Receipt.{Receipt}
 use Rattle.group_commit.specs.declared.queue.End.{End}

@@ -5,6 +5,9 @@ ghost use Rattle.group_commit.specs.Laws.{EveryRipe, EveryStart, EveryEnd, Every
 
 mod queue;
 mod receipts;
+
+use core_crash::core_commit;
+
 #[cfg(test)]
 mod tests;
 mod unripe;

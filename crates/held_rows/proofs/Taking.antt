@@ -6,12 +6,12 @@ use Rattle.rows_trait.specs.declared.view.View.{View}
 use Rattle.rows_trait.specs.Views.{Shape, IsEven, hold, holds, may}
 use Rattle.rows_trait.specs.Turns.{Goes, Looked, Taken, Ran}
 use Rattle.rows_trait.proofs.Runs.{ran_goes, ran_append}
-use Rattle.version_latch.specs.Named.{missed, checked}
-use Rattle.version_latch.specs.Unheld.{NotHeld}
-use Rattle.version_latch.specs.declared.glimpse.Moved.{Moved as Two}
-use Rattle.version_latch.specs.declared.glimpse.Unheld.TheVariants.{Moved, RowSpent}
-use Rattle.version_latch.proofs.Naming.{missed_odd, missed_even, checked_same, checked_other}
-use Rattle.version_latch.proofs.Keeping.{looked_ran, looked_latest, may_ran}
+use Rattle.lean_proto.specs.version_latch.Named.{missed, checked}
+use Rattle.lean_proto.specs.version_latch.Unheld.{NotHeld}
+use Rattle.lean_proto.specs.version_latch.declared.glimpse.Moved.{Moved as Two}
+use Rattle.lean_proto.specs.version_latch.declared.glimpse.Unheld.TheVariants.{Moved, RowSpent}
+use Rattle.lean_proto.proofs.version_latch_lemmas.Naming.{missed_odd, missed_even, checked_same, checked_other}
+use Rattle.lean_proto.proofs.version_latch_lemmas.Keeping.{looked_ran, looked_latest, may_ran}
 use Rattle.held_rows.specs.Latching.{Took, Refused}
 
 module _ {z : Shape} {row : ℕ} {v u : View} (worker : ℕ) where

@@ -7,7 +7,7 @@ use Rattle.rows_trait.specs.Layout.{rows_of, width}
 use Rattle.rows_trait.specs.Causes.{HasFound, HasMoved, IsLatched}
 use Rattle.rows_trait.specs.Views.{Shape, Spells, hold, holds, held_at, state}
 use Rattle.rows_trait.specs.Turns.{Ran, Stepped}
-use Rattle.version_latch.specs.declared.glimpse.TheConstants.{LAST}
+use Rattle.lean_proto.specs.version_latch.declared.glimpse.TheConstants.{LAST}
 use Rattle.held_rows.specs.declared.latching.Refusal.{Refusal}
 use Rattle.held_rows.specs.declared.latching.Refusal.TheVariants.{Moved, Latched, RowSpent}
 use Rattle.held_rows.specs.Steps.{MissedUpTo}

@@ -5,9 +5,9 @@ ghost use Rattle.rows_trait.specs.Turns.{MayPublish};
 ghost use Rattle.held_rows.specs.Rows.{OpensOne, OpensTwo, OpensThree};
 ghost use Rattle.held_rows.specs.Publishing.{IsChanged, Went};
 
+use lean_proto::version_latch::Hold;
 use rows_trait::names::Names;
 use rows_trait::rows::Rows;
-use version_latch::Hold;
 
 /// Publishes an event of the only row that is held.
 pub fn publish_one<R: Rows, E: Names>(rows: &mut R, seat: &mut R::Seat, hold: Hold, event: &E)

@@ -3,8 +3,8 @@ ghost use Rattle.std.specs.Prelude.{◌≡◌, []};
 ghost use Rattle.held_rows.specs.Steps.{MissedUpTo};
 ghost use Rattle.held_rows.specs.Rows.{OpensOne, OpensTwo, OpensThree, IsUnchanged};
 
+use lean_proto::version_latch::Hold;
 use rows_trait::rows::Rows;
-use version_latch::Hold;
 
 /// Gives up the only row that is held.
 pub fn give_up_one<R: Rows>(rows: &mut R, seat: &mut R::Seat, hold: Hold)

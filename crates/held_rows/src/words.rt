@@ -2,12 +2,12 @@
 ghost use Rattle.std.specs.Prelude.{◌≡◌, ◌<◌, ◌++◌, true, false, length, take, drop, slice_set};
 ghost use Rattle.rows_trait.specs.Layout.{rows_of, width};
 ghost use Rattle.rows_trait.specs.Views.{holds, held_at};
-ghost use Rattle.btree_node.specs.Words.{words_of};
+ghost use Rattle.row_words.specs.btree_node.Words.{words_of};
 ghost use Rattle.held_rows.specs.Rows.{IsFrame, Stood, Wrote};
 
-use btree_node::Node;
+use lean_proto::version_latch::Hold;
+use row_words::btree_node::Node;
 use rows_trait::rows::Rows;
-use version_latch::Hold;
 
 /// Loads the words of the page: the first 126 of the row.
 pub fn load<R: Rows>(rows: &mut R, seat: &mut R::Seat, hold: &Hold, into: &mut [u64; 126])

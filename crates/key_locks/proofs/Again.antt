@@ -1,22 +1,22 @@
 -- A lock that the worker has already is taken again, where nobody else steps.
 use Rattle.std.proofs.Common.{◌≡◌, ◌==◌, ◌||◌, ◌+◌, ◌≤◌, ◌<◌, ◌%◌, ℕ, Bool, true, List, [], ◌++◌, cond, Some, refl, sym, ap, subst, ◌∙◌, append-nil, arith, eq-eqb}
-use Rattle.core_state.specs.States.{Row}
-use Rattle.core_state.specs.Steps.{locked}
-use Rattle.row_words.specs.declared.event.Event.{Event}
-use Rattle.row_words.specs.declared.event.Event.TheVariants.{Lock}
-use Rattle.row_words.specs.Moments.{Moment}
-use Rattle.row_words.specs.Openings.{opening}
-use Rattle.row_words.specs.Words.{lock_words}
-use Rattle.rows_trait.specs.declared.view.View.{View}
-use Rattle.rows_trait.specs.Views.{Shape, Spells, after_all, state, holds, held_at, latest, may}
-use Rattle.rows_trait.specs.Turns.{Looked, Taken, Published, MayPublish, Ran}
-use Rattle.rows_trait.specs.Causes.{HasFound}
-use Rattle.rows_trait.proofs.Runs.{ran_append}
-use Rattle.version_latch.specs.declared.glimpse.Moved as versions
-use Rattle.version_latch.specs.declared.glimpse.Unheld.TheVariants as unheld
-use Rattle.version_latch.specs.declared.glimpse.TheConstants.{LAST}
-use Rattle.version_latch.specs.Named.{missed, checked}
-use Rattle.version_latch.specs.Unheld.{NotHeld}
+use Rattle.lean_proto.specs.core_state.States.{Row}
+use Rattle.lean_proto.specs.core_state.Steps.{locked}
+use Rattle.lean_proto.specs.row_words.declared.event.Event.{Event}
+use Rattle.lean_proto.specs.row_words.declared.event.Event.TheVariants.{Lock}
+use Rattle.lean_proto.specs.row_words.Moments.{Moment}
+use Rattle.lean_proto.specs.row_words.Openings.{opening}
+use Rattle.lean_proto.specs.row_words.Words.{lock_words}
+use Rattle.lean_proto.specs.rows_trait.declared.view.View.{View}
+use Rattle.lean_proto.specs.rows_trait.Views.{Shape, Spells, after_all, state, holds, held_at, latest, may}
+use Rattle.lean_proto.specs.rows_trait.Turns.{Looked, Taken, Published, MayPublish, Ran}
+use Rattle.lean_proto.specs.rows_trait.Causes.{HasFound}
+use Rattle.lean_proto.proofs.rows_trait_lemmas.Runs.{ran_append}
+use Rattle.lean_proto.specs.version_latch.declared.glimpse.Moved as versions
+use Rattle.lean_proto.specs.version_latch.declared.glimpse.Unheld.TheVariants as unheld
+use Rattle.lean_proto.specs.version_latch.declared.glimpse.TheConstants.{LAST}
+use Rattle.lean_proto.specs.version_latch.Named.{missed, checked}
+use Rattle.lean_proto.specs.version_latch.Unheld.{NotHeld}
 use Rattle.key_locks.specs.declared.mode.Mode.{Mode}
 use Rattle.key_locks.specs.Rows.{Sized, core_mode, event_mode}
 use Rattle.key_locks.specs.Inside.{IsAt, IsHeld}

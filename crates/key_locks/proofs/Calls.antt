@@ -1,15 +1,15 @@
 -- What stays over the steps of a call, and a publish as its earlier steps count it.
 use Rattle.std.proofs.Common.{◌≡◌, ℕ, Bool, [], ◌∷◌, ◌++◌, sym, ap, subst, ◌∙◌, append_assoc}
-use Rattle.core_state.specs.States.{Row}
-use Rattle.core_state.specs.Needs as core
-use Rattle.row_words.specs.declared.event.Event.{Event}
-use Rattle.row_words.specs.declared.given.Given.{Given}
-use Rattle.row_words.specs.Moments.{event_of}
-use Rattle.row_words.specs.Openings.{opening}
-use Rattle.rows_trait.specs.declared.view.View.{View}
-use Rattle.rows_trait.specs.Views.{after_all}
-use Rattle.rows_trait.specs.Turns.{Ran}
-use Rattle.rows_trait.proofs.Runs.{ran_append}
+use Rattle.lean_proto.specs.core_state.States.{Row}
+use Rattle.lean_proto.specs.core_state.Needs as core
+use Rattle.lean_proto.specs.row_words.declared.event.Event.{Event}
+use Rattle.lean_proto.specs.row_words.declared.given.Given.{Given}
+use Rattle.lean_proto.specs.row_words.Moments.{event_of}
+use Rattle.lean_proto.specs.row_words.Openings.{opening}
+use Rattle.lean_proto.specs.rows_trait.declared.view.View.{View}
+use Rattle.lean_proto.specs.rows_trait.Views.{after_all}
+use Rattle.lean_proto.specs.rows_trait.Turns.{Ran}
+use Rattle.lean_proto.proofs.rows_trait_lemmas.Runs.{ran_append}
 use Rattle.key_locks.specs.Rows.{IsSound}
 use Rattle.key_locks.specs.Locking.{IsPublished}
 

@@ -1,15 +1,15 @@
 -- A lock row that a seat holds: its words are loaded and stored.
 use Rattle.std.proofs.Common.{◌≡◌, ◌+◌, ℕ, Bool, true, false, List, [], ◌∷◌, length, set, get_or, refl, sym, ap, subst, ◌∙◌}
-use Rattle.row_words.specs.declared.given.Given.{Given}
-use Rattle.row_words.specs.Openings.{opening}
-use Rattle.row_words.specs.Words.{lock_words}
-use Rattle.rows_trait.specs.declared.view.Hold.{Hold}
-use Rattle.rows_trait.specs.declared.view.View.{View}
-use Rattle.rows_trait.specs.Layout.{width}
-use Rattle.rows_trait.specs.Views.{Shape, Spells, state, hold, holds, held_at, without}
-use Rattle.rows_trait.specs.Turns.{Loaded, Stored}
-use Rattle.rows_trait.proofs.Runs.{ran_goes, ran_none, ran_append}
-use Rattle.rows_trait.proofs.Holds.{holds_write, write_here}
+use Rattle.lean_proto.specs.row_words.declared.given.Given.{Given}
+use Rattle.lean_proto.specs.row_words.Openings.{opening}
+use Rattle.lean_proto.specs.row_words.Words.{lock_words}
+use Rattle.lean_proto.specs.rows_trait.declared.view.Hold.{Hold}
+use Rattle.lean_proto.specs.rows_trait.declared.view.View.{View}
+use Rattle.lean_proto.specs.rows_trait.Layout.{width}
+use Rattle.lean_proto.specs.rows_trait.Views.{Shape, Spells, state, hold, holds, held_at, without}
+use Rattle.lean_proto.specs.rows_trait.Turns.{Loaded, Stored}
+use Rattle.lean_proto.proofs.rows_trait_lemmas.Runs.{ran_goes, ran_none, ran_append}
+use Rattle.lean_proto.proofs.rows_trait_lemmas.Holds.{holds_write, write_here}
 use Rattle.key_locks.specs.Inside.{IsAt, IsHeld, Stayed}
 use Rattle.key_locks.specs.Latching.{IsLatch}
 use Rattle.key_locks.proofs.Lists.{without_write, five}

@@ -1,12 +1,12 @@
 -- Lists of holds, and the five words of a lock row.
 use Rattle.std.proofs.Common.{◌≡◌, ◌≢◌, ◌==◌, ℕ, Bool, true, false, cond, List, [], ◌∷◌, length, set, get_or, refl, sym, ap, ◌∙◌, true≢false, arith}
 use Rattle.std.proofs.lemmas.Bool.{eq-eqb}
-use Rattle.row_words.specs.declared.event.Event.{Event}
-use Rattle.row_words.specs.declared.given.Given.{Given}
-use Rattle.row_words.specs.Moments.{Moment}
-use Rattle.row_words.specs.Sealed.{changes}
-use Rattle.rows_trait.specs.declared.view.Hold.{Hold}
-use Rattle.rows_trait.specs.Views.{hold, holds, held_at, without, write, settle}
+use Rattle.lean_proto.specs.row_words.declared.event.Event.{Event}
+use Rattle.lean_proto.specs.row_words.declared.given.Given.{Given}
+use Rattle.lean_proto.specs.row_words.Moments.{Moment}
+use Rattle.lean_proto.specs.row_words.Sealed.{changes}
+use Rattle.lean_proto.specs.rows_trait.declared.view.Hold.{Hold}
+use Rattle.lean_proto.specs.rows_trait.Views.{hold, holds, held_at, without, write, settle}
 
 -- a row that is not held
 pub without_none : (hs : List Hold) (row : ℕ) → holds hs row ≡ false → without hs row ≡ hs

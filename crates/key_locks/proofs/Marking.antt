@@ -2,10 +2,10 @@
 use Rattle.std.proofs.Common.{◌≡◌, ◌≢◌, ◌+◌, ◌<◌, ℕ, Bool, true, false, List, length, set, get_or, sym, ap, subst, ◌∙◌, ⊎_elim, true≢false, arith, length-set}
 use Rattle.std.proofs.lemmas.Bool.{cases_eq}
 use Rattle.std.proofs.lemmas.List.{get_or-set_same, get_or-set_other, set-get_or, get_or_default}
-use Rattle.rows_trait.specs.declared.view.Hold.{Hold}
-use Rattle.rows_trait.specs.declared.view.View.{View}
-use Rattle.rows_trait.specs.Views.{hold, holds, held_at, without}
-use Rattle.rows_trait.proofs.Holds.{holds_without, holds_without_here, without_apart}
+use Rattle.lean_proto.specs.rows_trait.declared.view.Hold.{Hold}
+use Rattle.lean_proto.specs.rows_trait.declared.view.View.{View}
+use Rattle.lean_proto.specs.rows_trait.Views.{hold, holds, held_at, without}
+use Rattle.lean_proto.proofs.rows_trait_lemmas.Holds.{holds_without, holds_without_here, without_apart}
 use Rattle.key_locks.specs.Inside.{IsCaught}
 use Rattle.key_locks.specs.Latching.{is_marked, IsLatch, AreLatched}
 use Rattle.key_locks.proofs.Lists.{without_none, without_new, holds_new, at_new}

@@ -6,9 +6,9 @@ use Rattle.std.proofs.lemmas.Bool.{eq-eqb, ne_eqb, eqb-true, cases_lt, cases_eq}
 use Rattle.std.proofs.lemmas.Nat.{or_lt, and_le_l, mod_below}
 use Rattle.std.proofs.lemmas.Nat.Bits.{bit_at-zero, bit_at_set_same, bit_at_set_other, bit_at_clear_same, bit_at_clear_other, bit_at-trailing_zeros, same_from_bits_below, bit_at_above, bit_at_cat_low, bit_at_cat_high}
 use Rattle.map_model.specs.Lists.{any}
-use Rattle.core_state.specs.Needs.{is_reader}
-use Rattle.row_words.specs.Words.{mask}
-use Rattle.row_words.proofs.Stays.{cases}
+use Rattle.lean_proto.specs.core_state.Needs.{is_reader}
+use Rattle.lean_proto.specs.row_words.Words.{mask}
+use Rattle.lean_proto.proofs.row_words_lemmas.Stays.{cases}
 use Rattle.key_locks.specs.Rows.{IsWorker}
 use Rattle.key_locks.specs.Inside.{others}
 

@@ -1,28 +1,28 @@
 -- A lock and an unlock may be published once the row's words are stored, whatever others did meanwhile.
 use Rattle.std.proofs.Common.{◌≡◌, ◌==◌, ◌&&◌, not, ◌+◌, ◌-◌, ℕ, true, false, List, [], ◌∷◌, ◌++◌, get_or, refl, sym, ap, subst, ◌∙◌, true≢false, arith, ltb}
 use Rattle.std.proofs.lemmas.Bool.{cond-true, cond-false, le-ltb, eqb-true, eq-eqb, and_parts}
-use Rattle.core_state.specs.Openings.{Opening}
-use Rattle.core_state.specs.States.{Row, State}
-use Rattle.core_state.specs.Events as happening
-use Rattle.core_state.specs.Needs as core
-use Rattle.core_state.specs.Needs.{holds_row, may_hold}
-use Rattle.core_state.specs.Steps as steps
-use Rattle.core_state.specs.Steps.{happens, locked, unlocked}
-use Rattle.core_state.specs.Local.{publishes_row}
-use Rattle.row_words.specs.declared.event.Event.{Event}
-use Rattle.row_words.specs.declared.event.Event.TheVariants.{Lock, Unlock}
-use Rattle.row_words.specs.declared.given.Given.{Given}
-use Rattle.row_words.specs.Moments.{is_rising, Moment, event_of, actor_of, is_sync}
-use Rattle.row_words.specs.Openings.{opening}
-use Rattle.row_words.specs.Sealed.{begun, stepped, run, changes, sets, Shown}
-use Rattle.row_words.specs.Words.{lock_words, publishes, publishes_frame}
-use Rattle.row_words.proofs.Stays.{cases, here}
-use Rattle.row_words.proofs.SealedLemmas.{calm_tame, run_append}
-use Rattle.rows_trait.specs.declared.view.View.{View}
-use Rattle.rows_trait.specs.Views.{Shape, after_all, state, AreApart, holds, held_at, without, settle, may}
-use Rattle.rows_trait.specs.Turns.{Leaves, MayPublish, Published}
-use Rattle.rows_trait.proofs.Holds.{holds_without_here}
-use Rattle.rows_trait.proofs.Runs.{ran_goes}
+use Rattle.lean_proto.specs.core_state.Openings.{Opening}
+use Rattle.lean_proto.specs.core_state.States.{Row, State}
+use Rattle.lean_proto.specs.core_state.Events as happening
+use Rattle.lean_proto.specs.core_state.Needs as core
+use Rattle.lean_proto.specs.core_state.Needs.{holds_row, may_hold}
+use Rattle.lean_proto.specs.core_state.Steps as steps
+use Rattle.lean_proto.specs.core_state.Steps.{happens, locked, unlocked}
+use Rattle.lean_proto.specs.core_state.Local.{publishes_row}
+use Rattle.lean_proto.specs.row_words.declared.event.Event.{Event}
+use Rattle.lean_proto.specs.row_words.declared.event.Event.TheVariants.{Lock, Unlock}
+use Rattle.lean_proto.specs.row_words.declared.given.Given.{Given}
+use Rattle.lean_proto.specs.row_words.Moments.{is_rising, Moment, event_of, actor_of, is_sync}
+use Rattle.lean_proto.specs.row_words.Openings.{opening}
+use Rattle.lean_proto.specs.row_words.Sealed.{begun, stepped, run, changes, sets, Shown}
+use Rattle.lean_proto.specs.row_words.Words.{lock_words, publishes, publishes_frame}
+use Rattle.lean_proto.proofs.row_words_lemmas.Stays.{cases, here}
+use Rattle.lean_proto.proofs.row_words_lemmas.SealedLemmas.{calm_tame, run_append}
+use Rattle.lean_proto.specs.rows_trait.declared.view.View.{View}
+use Rattle.lean_proto.specs.rows_trait.Views.{Shape, after_all, state, AreApart, holds, held_at, without, settle, may}
+use Rattle.lean_proto.specs.rows_trait.Turns.{Leaves, MayPublish, Published}
+use Rattle.lean_proto.proofs.rows_trait_lemmas.Holds.{holds_without_here}
+use Rattle.lean_proto.proofs.rows_trait_lemmas.Runs.{ran_goes}
 use Rattle.lean_proto.proofs.Meanwhile.{meanwhile}
 use Rattle.lean_proto.proofs.Owns.{worker_apart}
 use Rattle.key_locks.specs.declared.mode.Mode.{Mode}
@@ -31,7 +31,7 @@ use Rattle.key_locks.specs.Rows.{core_mode, event_mode}
 use Rattle.key_locks.specs.Inside.{IsAt, IsHeld, Stayed}
 use Rattle.key_locks.specs.Locking.{IsPublished}
 use Rattle.key_locks.proofs.Lists.{settle_none}
-use Rattle.version_latch.proofs.Keeping.{may_ran}
+use Rattle.lean_proto.proofs.version_latch_lemmas.Keeping.{may_ran}
 use Rattle.key_locks.proofs.Calls.{published_before}
 use Rattle.key_locks.proofs.Staying.{past, index, row_apart, worker_ran, at_after}
 

@@ -2,10 +2,10 @@
 use Rattle.std.proofs.Common.{◌≡◌, ◌≢◌, ◌==◌, ◌||◌, ◌<◌, not, ℕ, zero, suc, ◌≤◌, MatchOption, Bool, true, false, [], ◌∷◌, Option, Some, None, get_or, refl, sym, ap, ◌∙◌, ⊎_elim, true≢false, arith}
 use Rattle.std.proofs.lemmas.Bool.{eq-eqb, ne_eqb, cases_eq}
 use Rattle.map_model.specs.Lists.{any}
-use Rattle.core_state.specs.States.{Row}
-use Rattle.core_state.specs.Needs.{is_held_by, is_free, is_reader, may_hold}
-use Rattle.core_state.specs.Steps as core
-use Rattle.row_words.specs.Words.{mask, holder_word, lock_words}
+use Rattle.lean_proto.specs.core_state.States.{Row}
+use Rattle.lean_proto.specs.core_state.Needs.{is_held_by, is_free, is_reader, may_hold}
+use Rattle.lean_proto.specs.core_state.Steps as core
+use Rattle.lean_proto.specs.row_words.Words.{mask, holder_word, lock_words}
 use Rattle.key_locks.specs.declared.mode.Mode.{Mode}
 use Rattle.key_locks.specs.declared.mode.Mode.TheVariants.{Shared, Alone}
 use Rattle.key_locks.specs.declared.words.Words.{Words}

@@ -2,25 +2,25 @@
 use Rattle.std.proofs.Common.{◌≡◌, ◌==◌, ◌≤◌, ℕ, true, List, [], ◌∷◌, ◌++◌, refl, sym, ap, subst, ◌∙◌, arith}
 use Rattle.std.proofs.lemmas.Bool.{cond-true, cond-false}
 use Rattle.map_model.specs.Lists.{upd}
-use Rattle.core_state.specs.Openings.{Opening}
-use Rattle.core_state.specs.States.{Row, State}
-use Rattle.core_state.specs.Events.{Mode}
-use Rattle.core_state.specs.Needs as core
-use Rattle.core_state.specs.Needs.{is_held_by}
-use Rattle.core_state.specs.Steps as steps
-use Rattle.core_state.specs.Steps.{happens, locked, unlocked}
-use Rattle.core_state.proofs.Locality.{every_local}
-use Rattle.row_words.specs.declared.event.Event.{Event}
-use Rattle.row_words.specs.declared.event.Event.TheVariants as told
-use Rattle.row_words.specs.declared.event.Mode.TheVariants as mode
-use Rattle.row_words.specs.declared.given.Given.{Given}
-use Rattle.row_words.specs.Moments.{Moment, event_of}
-use Rattle.row_words.specs.Moments as moments
-use Rattle.row_words.specs.Openings.{opening}
-use Rattle.row_words.specs.Sealed.{begun, stepped, run}
-use Rattle.row_words.proofs.Stays.{cases, here, kept}
-use Rattle.row_words.proofs.SealedLemmas.{run_append}
-use Rattle.rows_trait.specs.Views.{after_all}
+use Rattle.lean_proto.specs.core_state.Openings.{Opening}
+use Rattle.lean_proto.specs.core_state.States.{Row, State}
+use Rattle.lean_proto.specs.core_state.Events.{Mode}
+use Rattle.lean_proto.specs.core_state.Needs as core
+use Rattle.lean_proto.specs.core_state.Needs.{is_held_by}
+use Rattle.lean_proto.specs.core_state.Steps as steps
+use Rattle.lean_proto.specs.core_state.Steps.{happens, locked, unlocked}
+use Rattle.lean_proto.proofs.core_state_lemmas.Locality.{every_local}
+use Rattle.lean_proto.specs.row_words.declared.event.Event.{Event}
+use Rattle.lean_proto.specs.row_words.declared.event.Event.TheVariants as told
+use Rattle.lean_proto.specs.row_words.declared.event.Mode.TheVariants as mode
+use Rattle.lean_proto.specs.row_words.declared.given.Given.{Given}
+use Rattle.lean_proto.specs.row_words.Moments.{Moment, event_of}
+use Rattle.lean_proto.specs.row_words.Moments as moments
+use Rattle.lean_proto.specs.row_words.Openings.{opening}
+use Rattle.lean_proto.specs.row_words.Sealed.{begun, stepped, run}
+use Rattle.lean_proto.proofs.row_words_lemmas.Stays.{cases, here, kept}
+use Rattle.lean_proto.proofs.row_words_lemmas.SealedLemmas.{run_append}
+use Rattle.lean_proto.specs.rows_trait.Views.{after_all}
 use Rattle.key_locks.specs.Rows.{IsRow}
 use Rattle.key_locks.specs.Soundness.{unbegun, EverySound}
 

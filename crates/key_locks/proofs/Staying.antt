@@ -1,17 +1,17 @@
 -- What stays of a lock row that a seat holds, and of its worker, while others go on.
 use Rattle.std.proofs.Common.{◌≡◌, ◌+◌, ◌-◌, ℕ, Bool, true, false, List, [], length, get_or, refl, sym, ap, ◌∙◌, arith, ltb}
 use Rattle.std.proofs.lemmas.Bool.{le-ltb}
-use Rattle.core_state.specs.Openings.{Opening}
-use Rattle.row_words.specs.declared.event.Event.{Event}
-use Rattle.row_words.specs.declared.given.Given.{Given}
-use Rattle.row_words.specs.Moments.{Moment}
-use Rattle.row_words.specs.Openings.{opening}
-use Rattle.row_words.specs.Sealed.{run, Shown}
-use Rattle.row_words.specs.Words.{lock_words}
-use Rattle.rows_trait.specs.declared.view.View.{View}
-use Rattle.rows_trait.specs.Layout.{width}
-use Rattle.rows_trait.specs.Views.{Shape, state, AreApart, Spells, holds, may}
-use Rattle.rows_trait.specs.Turns.{Goes, Ran}
+use Rattle.lean_proto.specs.core_state.Openings.{Opening}
+use Rattle.lean_proto.specs.row_words.declared.event.Event.{Event}
+use Rattle.lean_proto.specs.row_words.declared.given.Given.{Given}
+use Rattle.lean_proto.specs.row_words.Moments.{Moment}
+use Rattle.lean_proto.specs.row_words.Openings.{opening}
+use Rattle.lean_proto.specs.row_words.Sealed.{run, Shown}
+use Rattle.lean_proto.specs.row_words.Words.{lock_words}
+use Rattle.lean_proto.specs.rows_trait.declared.view.View.{View}
+use Rattle.lean_proto.specs.rows_trait.Layout.{width}
+use Rattle.lean_proto.specs.rows_trait.Views.{Shape, state, AreApart, Spells, holds, may}
+use Rattle.lean_proto.specs.rows_trait.Turns.{Goes, Ran}
 use Rattle.lean_proto.proofs.Carrying.{moment_run}
 use Rattle.lean_proto.proofs.Owns.{own_after}
 use Rattle.lean_proto.proofs.Steady.{row_on}
@@ -60,5 +60,5 @@ pub at_after : (z y : Shape) (v w : View) (row i : ℕ) → y ≡ z → w.given 
 at_after z y v w row i shape given at = record {
   place = ap (λ u. (opening u).frames + i) given ∙ at.place;
   shape = ap (λ s. s.sizes.frames) shape ∙ (at.shape ∙ sym (ap (λ u. (opening u).frames) given));
-  inside = (let e = ap (λ (s : Shape). Rattle.rows_trait.specs.Layout.rows_of s.sizes) shape in let l = at.inside in omega arith);
+  inside = (let e = ap (λ (s : Shape). Rattle.lean_proto.specs.rows_trait.Layout.rows_of s.sizes) shape in let l = at.inside in omega arith);
 }

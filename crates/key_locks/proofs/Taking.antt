@@ -1,37 +1,37 @@
 -- A row is latched from words that were loaded before, or refused by them.
 use Rattle.std.proofs.Common.{◌≡◌, ◌+◌, ◌%◌, ◌<◌, ◌^◌, ℕ, true, List, [], ◌∷◌, get_or, Option, Some, None, refl, sym, ap, subst, ◌∙◌, arith}
 use Rattle.std.proofs.lemmas.Bool.{eq-eqb, and_from}
-use Rattle.core_state.specs.Openings.{Opening}
-use Rattle.core_state.specs.States.{Row, State}
-use Rattle.core_state.specs.Events as happening
-use Rattle.core_state.specs.Needs as core
-use Rattle.core_state.specs.Needs.{is_held_by, is_reader, may_hold}
-use Rattle.row_words.specs.declared.event.Event.{Event}
-use Rattle.row_words.specs.declared.event.Event.TheVariants.{Lock, Miss}
-use Rattle.row_words.specs.declared.given.Given.{Given}
-use Rattle.row_words.specs.Moments.{event_of}
-use Rattle.row_words.specs.Openings.{opening}
-use Rattle.row_words.specs.Sealed.{Shown}
-use Rattle.row_words.specs.Words.{lock_words}
-use Rattle.rows_trait.specs.declared.view.View.{View}
-use Rattle.rows_trait.specs.Views.{Shape, Spells, after_all, state, Knows, holds, held_at, without, may}
-use Rattle.rows_trait.specs.Turns.{Goes, Looked, Taken, Ran}
-use Rattle.rows_trait.specs.Causes.{HasFound, IsLatched}
-use Rattle.version_latch.specs.declared.glimpse.Moved as versions
-use Rattle.version_latch.specs.declared.glimpse.Latched as latches
-use Rattle.version_latch.specs.declared.glimpse.Unheld.TheVariants as unheld
-use Rattle.version_latch.specs.Unheld.{NotHeld}
-use Rattle.rows_trait.proofs.Runs.{ran_append}
+use Rattle.lean_proto.specs.core_state.Openings.{Opening}
+use Rattle.lean_proto.specs.core_state.States.{Row, State}
+use Rattle.lean_proto.specs.core_state.Events as happening
+use Rattle.lean_proto.specs.core_state.Needs as core
+use Rattle.lean_proto.specs.core_state.Needs.{is_held_by, is_reader, may_hold}
+use Rattle.lean_proto.specs.row_words.declared.event.Event.{Event}
+use Rattle.lean_proto.specs.row_words.declared.event.Event.TheVariants.{Lock, Miss}
+use Rattle.lean_proto.specs.row_words.declared.given.Given.{Given}
+use Rattle.lean_proto.specs.row_words.Moments.{event_of}
+use Rattle.lean_proto.specs.row_words.Openings.{opening}
+use Rattle.lean_proto.specs.row_words.Sealed.{Shown}
+use Rattle.lean_proto.specs.row_words.Words.{lock_words}
+use Rattle.lean_proto.specs.rows_trait.declared.view.View.{View}
+use Rattle.lean_proto.specs.rows_trait.Views.{Shape, Spells, after_all, state, Knows, holds, held_at, without, may}
+use Rattle.lean_proto.specs.rows_trait.Turns.{Goes, Looked, Taken, Ran}
+use Rattle.lean_proto.specs.rows_trait.Causes.{HasFound, IsLatched}
+use Rattle.lean_proto.specs.version_latch.declared.glimpse.Moved as versions
+use Rattle.lean_proto.specs.version_latch.declared.glimpse.Latched as latches
+use Rattle.lean_proto.specs.version_latch.declared.glimpse.Unheld.TheVariants as unheld
+use Rattle.lean_proto.specs.version_latch.Unheld.{NotHeld}
+use Rattle.lean_proto.proofs.rows_trait_lemmas.Runs.{ran_append}
 use Rattle.key_locks.specs.declared.mode.Mode.{Mode}
 use Rattle.key_locks.specs.declared.mode.Mode.TheVariants.{Shared, Alone}
 use Rattle.key_locks.specs.declared.words.Words.{Words}
-use Rattle.version_latch.specs.Named.{missed, checked}
+use Rattle.lean_proto.specs.version_latch.Named.{missed, checked}
 use Rattle.key_locks.specs.Rows.{IsWorker, IsRow, IsSound, IsBlocking, Stands, core_mode, event_mode}
-use Rattle.version_latch.specs.Kept.{Kept}
+use Rattle.lean_proto.specs.version_latch.Kept.{Kept}
 use Rattle.key_locks.specs.Inside.{IsAt, IsHeld, IsSaid, AreKnown, list_of}
 use Rattle.key_locks.specs.Locking.{IsStamp, IsMoved, IsTaken}
-use Rattle.version_latch.proofs.Keeping.{goes_ran}
-use Rattle.version_latch.proofs.Naming.{checked_same, checked_other, missed_even, missed_odd}
+use Rattle.lean_proto.proofs.version_latch_lemmas.Keeping.{goes_ran}
+use Rattle.lean_proto.proofs.version_latch_lemmas.Naming.{checked_same, checked_other, missed_even, missed_odd}
 use Rattle.key_locks.proofs.Calls.{workers_given}
 use Rattle.key_locks.proofs.Lists.{without_none, without_new, holds_new, at_new}
 use Rattle.key_locks.proofs.Holding.{five_words}

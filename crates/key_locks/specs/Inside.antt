@@ -1,14 +1,14 @@
 -- Words of private functions.
 use Rattle.std.specs.Prelude.{◌≡◌, ◌<◌, ◌+◌, ℕ, Bool, true, false, not, ◌==◌, List, [], ◌∷◌, length}
 use Rattle.map_model.specs.Lists.{keep}
-use Rattle.core_state.specs.States.{Row}
-use Rattle.row_words.specs.Openings.{opening}
-use Rattle.row_words.specs.Words.{lock_words}
-use Rattle.rows_trait.specs.declared.view.Act.{Act}
-use Rattle.rows_trait.specs.declared.view.View.{View}
-use Rattle.rows_trait.specs.Layout.{rows_of}
-use Rattle.rows_trait.specs.Views.{Shape, Knows, state, hold, holds, held_at, without}
-use Rattle.rows_trait.specs.Turns.{Ran}
+use Rattle.lean_proto.specs.core_state.States.{Row}
+use Rattle.lean_proto.specs.row_words.Openings.{opening}
+use Rattle.lean_proto.specs.row_words.Words.{lock_words}
+use Rattle.lean_proto.specs.rows_trait.declared.view.Act.{Act}
+use Rattle.lean_proto.specs.rows_trait.declared.view.View.{View}
+use Rattle.lean_proto.specs.rows_trait.Layout.{rows_of}
+use Rattle.lean_proto.specs.rows_trait.Views.{Shape, Knows, state, hold, holds, held_at, without}
+use Rattle.lean_proto.specs.rows_trait.Turns.{Ran}
 use Rattle.key_locks.specs.declared.words.Words.{Words}
 
 -- the readers but w

@@ -1,10 +1,10 @@
 -- The lock rows that a session has latched, and what it gives up.
 use Rattle.std.specs.Prelude.{◌≡◌, ◌<◌, ◌+◌, ℕ, Bool, true, false, List, length, slice_index_or}
-use Rattle.core_state.specs.Steps.{unlocked}
-use Rattle.row_words.specs.declared.event.Event.TheVariants.{Unlock}
-use Rattle.rows_trait.specs.declared.view.Hold.{Hold}
-use Rattle.rows_trait.specs.declared.view.View.{View}
-use Rattle.rows_trait.specs.Views.{state, holds, held_at}
+use Rattle.lean_proto.specs.core_state.Steps.{unlocked}
+use Rattle.lean_proto.specs.row_words.declared.event.Event.TheVariants.{Unlock}
+use Rattle.lean_proto.specs.rows_trait.declared.view.Hold.{Hold}
+use Rattle.lean_proto.specs.rows_trait.declared.view.View.{View}
+use Rattle.lean_proto.specs.rows_trait.Views.{state, holds, held_at}
 use Rattle.key_locks.specs.declared.latches.Unlatched.{Unlatched}
 use Rattle.key_locks.specs.declared.latches.Unlatched.TheVariants.{Moved, Latched, RowSpent}
 use Rattle.key_locks.specs.Locking.{IsPublished, IsMoved, IsTaken, IsSpent}

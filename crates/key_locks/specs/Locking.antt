@@ -1,20 +1,20 @@
 -- What a lock appends, what holds after it, and why it was refused.
 use Rattle.std.specs.Prelude.{◌≡◌, ◌≤◌, ℕ, Bool, true, List, [], ◌∷◌, ◌++◌}
-use Rattle.core_state.specs.Events as happening
-use Rattle.core_state.specs.States.{Row}
-use Rattle.core_state.specs.Needs as core
-use Rattle.core_state.specs.Steps.{locked}
-use Rattle.row_words.specs.declared.event.Event.{Event}
-use Rattle.row_words.specs.declared.event.Event.TheVariants.{Lock, Miss}
-use Rattle.row_words.specs.Moments.{event_of}
-use Rattle.row_words.specs.Openings.{opening}
-use Rattle.rows_trait.specs.declared.view.View.{View}
-use Rattle.rows_trait.specs.Views.{after_all, state}
-use Rattle.rows_trait.specs.Causes.{HasFound, IsLatched, HasMoved}
-use Rattle.rows_trait.specs.Turns.{Ran}
-use Rattle.version_latch.specs.declared.glimpse.Moved as versions
-use Rattle.version_latch.specs.declared.glimpse.Latched as latches
-use Rattle.version_latch.specs.declared.glimpse.TheConstants.{LAST}
+use Rattle.lean_proto.specs.core_state.Events as happening
+use Rattle.lean_proto.specs.core_state.States.{Row}
+use Rattle.lean_proto.specs.core_state.Needs as core
+use Rattle.lean_proto.specs.core_state.Steps.{locked}
+use Rattle.lean_proto.specs.row_words.declared.event.Event.{Event}
+use Rattle.lean_proto.specs.row_words.declared.event.Event.TheVariants.{Lock, Miss}
+use Rattle.lean_proto.specs.row_words.Moments.{event_of}
+use Rattle.lean_proto.specs.row_words.Openings.{opening}
+use Rattle.lean_proto.specs.rows_trait.declared.view.View.{View}
+use Rattle.lean_proto.specs.rows_trait.Views.{after_all, state}
+use Rattle.lean_proto.specs.rows_trait.Causes.{HasFound, IsLatched, HasMoved}
+use Rattle.lean_proto.specs.rows_trait.Turns.{Ran}
+use Rattle.lean_proto.specs.version_latch.declared.glimpse.Moved as versions
+use Rattle.lean_proto.specs.version_latch.declared.glimpse.Latched as latches
+use Rattle.lean_proto.specs.version_latch.declared.glimpse.TheConstants.{LAST}
 use Rattle.key_locks.specs.declared.mode.Mode.{Mode}
 use Rattle.key_locks.specs.declared.locking.Stamp.{Stamp}
 use Rattle.key_locks.specs.declared.locking.Refusal.{Refusal}

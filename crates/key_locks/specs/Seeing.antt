@@ -1,9 +1,9 @@
 -- What is seen of who holds a lock row.
 use Rattle.std.specs.Prelude.{◌≡◌, ℕ, Bool, []}
-use Rattle.core_state.specs.Needs.{holds_row}
-use Rattle.rows_trait.specs.declared.view.View.{View}
-use Rattle.rows_trait.specs.Views.{state}
-use Rattle.rows_trait.specs.Turns.{Ran}
+use Rattle.lean_proto.specs.core_state.Needs.{holds_row}
+use Rattle.lean_proto.specs.rows_trait.declared.view.View.{View}
+use Rattle.lean_proto.specs.rows_trait.Views.{state}
+use Rattle.lean_proto.specs.rows_trait.Turns.{Ran}
 use Rattle.key_locks.specs.declared.seeing.Unseen.{Unseen}
 use Rattle.key_locks.specs.declared.seeing.Unseen.TheVariants.{Moved, Latched}
 use Rattle.key_locks.specs.Locking.{IsMoved, IsTaken}

@@ -1,11 +1,11 @@
 -- Rows are sound where their holders and readers are workers: the log of a stamp is a holder's.
 use Rattle.std.specs.Prelude.{◌≡◌, ℕ, true, List, []}
-use Rattle.core_state.specs.States.{Row}
-use Rattle.core_state.specs.Needs.{is_held_by, is_reader}
-use Rattle.row_words.specs.declared.event.Event.{Event}
-use Rattle.row_words.specs.declared.given.Given.{Given}
-use Rattle.row_words.specs.Openings.{opening}
-use Rattle.rows_trait.specs.Views.{after_all}
+use Rattle.lean_proto.specs.core_state.States.{Row}
+use Rattle.lean_proto.specs.core_state.Needs.{is_held_by, is_reader}
+use Rattle.lean_proto.specs.row_words.declared.event.Event.{Event}
+use Rattle.lean_proto.specs.row_words.declared.given.Given.{Given}
+use Rattle.lean_proto.specs.row_words.Openings.{opening}
+use Rattle.lean_proto.specs.rows_trait.Views.{after_all}
 use Rattle.key_locks.specs.Rows.{IsWorker, IsSound}
 
 -- holders and readers are workers

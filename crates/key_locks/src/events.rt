@@ -1,6 +1,6 @@
 //! What the publish of a lock row appends: the lock or the unlock.
 use crate::mode::Mode;
-use rows_trait::names::Names;
+use lean_proto::rows_trait::names::Names;
 
 /// The worker takes the lock of a row, by the row's place among the lock rows.
 #[derive(Drop)]
@@ -12,7 +12,7 @@ pub(crate) struct Locks {
 
 impl Names for Locks {
     ghost use Rattle.std.specs.Prelude.{[], ◌∷◌};
-    ghost use Rattle.row_words.specs.declared.event.Event.TheVariants.{Lock};
+    ghost use Rattle.lean_proto.specs.row_words.declared.event.Event.TheVariants.{Lock};
     ghost use Rattle.key_locks.specs.Rows.{event_mode};
 
     ghost names = { λ s _. Lock s.worker s.row (event_mode s.mode) ∷ [] };
@@ -27,7 +27,7 @@ pub(crate) struct Unlocks {
 
 impl Names for Unlocks {
     ghost use Rattle.std.specs.Prelude.{[], ◌∷◌};
-    ghost use Rattle.row_words.specs.declared.event.Event.TheVariants.{Unlock};
+    ghost use Rattle.lean_proto.specs.row_words.declared.event.Event.TheVariants.{Unlock};
 
     ghost names = { λ s _. Unlock s.worker s.row ∷ [] };
 }

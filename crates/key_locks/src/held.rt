@@ -1,12 +1,12 @@
 //! A held lock row: its words are loaded, those that change are stored, and it is given up with the event.
 ghost use Rattle.std.specs.Prelude.{◌≡◌, ◌<◌, ℕ, List, true, false, slice_index, slice_set, length};
-ghost use Rattle.core_state.specs.Steps as core;
-ghost use Rattle.core_state.specs.Needs as needs;
-ghost use Rattle.row_words.specs.declared.event.Event.TheVariants.{Lock, Unlock};
-ghost use Rattle.row_words.specs.Moments.{event_of};
-ghost use Rattle.row_words.specs.Openings.{opening};
-ghost use Rattle.rows_trait.specs.Layout.{rows_of, width};
-ghost use Rattle.rows_trait.specs.Views.{holds, held_at, without, may, state};
+ghost use Rattle.lean_proto.specs.core_state.Steps as core;
+ghost use Rattle.lean_proto.specs.core_state.Needs as needs;
+ghost use Rattle.lean_proto.specs.row_words.declared.event.Event.TheVariants.{Lock, Unlock};
+ghost use Rattle.lean_proto.specs.row_words.Moments.{event_of};
+ghost use Rattle.lean_proto.specs.row_words.Openings.{opening};
+ghost use Rattle.lean_proto.specs.rows_trait.Layout.{rows_of, width};
+ghost use Rattle.lean_proto.specs.rows_trait.Views.{holds, held_at, without, may, state};
 ghost use Rattle.key_locks.specs.Rows.{IsWorker, core_mode, event_mode};
 ghost use Rattle.key_locks.specs.Inside.{list_of, IsSaid, IsAt, IsHeld, Stayed};
 ghost use Rattle.key_locks.specs.Locking.{IsPublished};
@@ -15,8 +15,8 @@ ghost use Rattle.key_locks.specs.Latching.{IsLatch};
 use crate::events::{Locks, Unlocks};
 use crate::mode::Mode;
 use crate::words::Words;
-use rows_trait::rows::Rows;
-use version_latch::Hold;
+use lean_proto::rows_trait::rows::Rows;
+use lean_proto::version_latch::Hold;
 
 // Stores a word if it is another than it was.
 fn store_changed<R: Rows>(

@@ -1,22 +1,22 @@
 //! At the end of a transaction: its lock rows are latched, and once its end record is staged they are given up.
 ghost use Rattle.std.specs.Prelude.{◌≡◌, ◌<◌, ◌≤◌, ◌+◌, ◌%◌, ◌^◌, ℕ, Bool, List, true, false, ◌∷◌, [], length, replicate, slice_set, IsOk, IfOk, IfErr, OnOk, OnErr};
-ghost use Rattle.core_state.specs.Needs.{holds_row};
-ghost use Rattle.row_words.specs.declared.event.Event.TheVariants.{Miss, Unlock};
-ghost use Rattle.row_words.specs.Openings.{opening};
-ghost use Rattle.rows_trait.specs.Layout.{rows_of, width};
-ghost use Rattle.rows_trait.specs.Views.{holds, without, may, state};
-ghost use Rattle.rows_trait.specs.Turns.{Ran};
+ghost use Rattle.lean_proto.specs.core_state.Needs.{holds_row};
+ghost use Rattle.lean_proto.specs.row_words.declared.event.Event.TheVariants.{Miss, Unlock};
+ghost use Rattle.lean_proto.specs.row_words.Openings.{opening};
+ghost use Rattle.lean_proto.specs.rows_trait.Layout.{rows_of, width};
+ghost use Rattle.lean_proto.specs.rows_trait.Views.{holds, without, may, state};
+ghost use Rattle.lean_proto.specs.rows_trait.Turns.{Ran};
 ghost use Rattle.key_locks.specs.Rows.{Spans, Sized};
 ghost use Rattle.key_locks.specs.Inside.{IsCaught};
 ghost use Rattle.key_locks.specs.Latching.{is_marked, AreLatched, StartsFree, NotLatched, IsAlone, IsGivenUp};
 
 use crate::events::Unlocks;
 use crate::held::unlock_row;
-use rows_trait::rows::Rows;
+use lean_proto::rows_trait::rows::Rows;
+use lean_proto::version_latch::events::{Checks, Misses};
+use lean_proto::version_latch::{Glimpse, Hold, Latched, Moved, Unheld};
 use std::alloc::{AllocError, Global};
 use std::marker::Model;
-use version_latch::events::{Checks, Misses};
-use version_latch::{Glimpse, Hold, Latched, Moved, Unheld};
 
 /// Why a lock row was not latched.
 #[derive(Clone, Copy)]

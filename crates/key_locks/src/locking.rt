@@ -1,15 +1,15 @@
 //! The lock of a key is taken, or refused at once.
 ghost use Rattle.std.specs.Prelude.{◌≡◌, ◌<◌, ◌≤◌, ◌+◌, ◌%◌, ◌^◌, ℕ, true, false, [], Some, IfOk, IfErr};
-ghost use Rattle.core_state.specs.States.{Row};
-ghost use Rattle.core_state.specs.Needs.{may_hold};
-ghost use Rattle.row_words.specs.Openings.{opening};
-ghost use Rattle.rows_trait.specs.declared.view.View.{View};
-ghost use Rattle.rows_trait.specs.Layout.{rows_of, width};
-ghost use Rattle.rows_trait.specs.Views.{IsEven, Has, latest, holds, may, state};
-ghost use Rattle.rows_trait.specs.Causes.{HasFound};
-ghost use Rattle.rows_trait.specs.Turns.{Ran};
+ghost use Rattle.lean_proto.specs.core_state.States.{Row};
+ghost use Rattle.lean_proto.specs.core_state.Needs.{may_hold};
+ghost use Rattle.lean_proto.specs.row_words.Openings.{opening};
+ghost use Rattle.lean_proto.specs.rows_trait.declared.view.View.{View};
+ghost use Rattle.lean_proto.specs.rows_trait.Layout.{rows_of, width};
+ghost use Rattle.lean_proto.specs.rows_trait.Views.{IsEven, Has, latest, holds, may, state};
+ghost use Rattle.lean_proto.specs.rows_trait.Causes.{HasFound};
+ghost use Rattle.lean_proto.specs.rows_trait.Turns.{Ran};
 ghost use Rattle.key_locks.specs.Rows.{IsWorker, IsRow, IsSound, Sized, IsBlocking, core_mode};
-ghost use Rattle.version_latch.specs.Kept.{Kept};
+ghost use Rattle.lean_proto.specs.version_latch.Kept.{Kept};
 ghost use Rattle.key_locks.specs.Inside.{IsSaid, IsAt, AreKnown};
 ghost use Rattle.key_locks.specs.Locking.{HasLock, HasAlready, HasAgain, IsSpent, Refuses, IsUnmet};
 
@@ -17,9 +17,9 @@ use crate::events::Locks;
 use crate::held::publish_lock;
 use crate::mode::Mode;
 use crate::words::Words;
-use rows_trait::rows::Rows;
-use version_latch::events::{Checks, Misses};
-use version_latch::{Glimpse, Latched, Moved, Unheld};
+use lean_proto::rows_trait::rows::Rows;
+use lean_proto::version_latch::events::{Checks, Misses};
+use lean_proto::version_latch::{Glimpse, Latched, Moved, Unheld};
 
 /// What a lock row says to who takes its lock: number and log of its last exclusive end, and the greatest end number of its
 /// readers.

@@ -1,19 +1,19 @@
 //! Whether a worker holds a lock row.
 ghost use Rattle.std.specs.Prelude.{◌≡◌, ◌<◌, ◌+◌, ◌%◌, true, false, [], Some, IfOk, IfErr};
-ghost use Rattle.row_words.specs.Openings.{opening};
-ghost use Rattle.rows_trait.specs.declared.view.View.{View};
-ghost use Rattle.rows_trait.specs.Views.{IsEven, latest, holds, may};
-ghost use Rattle.rows_trait.specs.Causes.{HasFound};
-ghost use Rattle.rows_trait.specs.Turns.{Ran};
+ghost use Rattle.lean_proto.specs.row_words.Openings.{opening};
+ghost use Rattle.lean_proto.specs.rows_trait.declared.view.View.{View};
+ghost use Rattle.lean_proto.specs.rows_trait.Views.{IsEven, latest, holds, may};
+ghost use Rattle.lean_proto.specs.rows_trait.Causes.{HasFound};
+ghost use Rattle.lean_proto.specs.rows_trait.Turns.{Ran};
 ghost use Rattle.key_locks.specs.Rows.{IsWorker, Sized};
 ghost use Rattle.key_locks.specs.Inside.{IsAt, AreKnown};
 ghost use Rattle.key_locks.specs.Seeing.{Sees, NotSeen};
 
 use crate::locking::look;
 use crate::words::Words;
-use rows_trait::rows::Rows;
-use version_latch::events::{Checks, Misses};
-use version_latch::{Glimpse, Latched, Moved};
+use lean_proto::rows_trait::rows::Rows;
+use lean_proto::version_latch::events::{Checks, Misses};
+use lean_proto::version_latch::{Glimpse, Latched, Moved};
 
 /// Why a lock row was not seen.
 #[derive(Clone, Copy)]

@@ -1,9 +1,9 @@
 //! The words of a lock row, and what they say to a worker.
 ghost use Rattle.std.specs.Prelude.{◌≡◌, ◌<◌, ◌≤◌, ◌∷◌, [], ℕ, true, List, max, MatchOption, if◌then◌else◌};
-ghost use Rattle.core_state.specs.States.{Row};
-ghost use Rattle.core_state.specs.Needs.{is_reader, may_hold, holds_row};
-ghost use Rattle.core_state.specs.Steps as core;
-ghost use Rattle.row_words.specs.Words.{mask};
+ghost use Rattle.lean_proto.specs.core_state.States.{Row};
+ghost use Rattle.lean_proto.specs.core_state.Needs.{is_reader, may_hold, holds_row};
+ghost use Rattle.lean_proto.specs.core_state.Steps as core;
+ghost use Rattle.lean_proto.specs.row_words.Words.{mask};
 ghost use Rattle.key_locks.specs.Rows.{IsWorker, IsRow, core_mode, IsBlocking};
 ghost use Rattle.key_locks.specs.Inside.{others, list_of, IsSaid};
 

@@ -3,7 +3,7 @@ use Rattle.std.proofs.Common.{◌≡◌, ◌==◌, ◌||◌, ◌&&◌, not, ltb,
 use Rattle.std.specs.Prelude.{if◌then◌else◌}
 use Rattle.std.proofs.lemmas.Bool.{and_from, or_left, or_right, eq-eqb, eqb-true}
 use Rattle.map_model.specs.Lists.{Has, any}
-use Rattle.image_model.specs.Entries.{Kind, Contents, Entry, touches, written, applied_as}
+use Rattle.core_paging.specs.image_model.Entries.{Kind, Contents, Entry, touches, written, applied_as}
 use Rattle.page_model.specs.Pairs.{Pair, Span, spans, keep, below, onward, put, is_in, without}
 use Rattle.page_model.specs.Nodes.{Format, Node, WellFormed, free, holds}
 use Rattle.page_model.specs.Records as records
@@ -13,16 +13,16 @@ use Rattle.page_model.specs.Needs.{key_at, split_record, lift_record, join_recor
 use Rattle.page_model.specs.Check.{names_page}
 use Rattle.page_model.proofs.Pairs.{keep_has, put_has, has_append}
 use Rattle.page_model.proofs.Spans.{span_pair}
-use Rattle.core_commit.proofs.Events.{names_to}
-use Rattle.core_state.specs.Openings.{Opening}
-use Rattle.core_state.specs.States.{Place, State, Worker, nodes_of, gsns_of, in_frame}
-use Rattle.core_state.specs.Events.{Event, Mode}
-use Rattle.core_state.specs.Needs.{may, needs, are_hot, pages_of, is_held_by, may_put, may_put_back, may_split, may_lift, may_join, may_drop, may_purge, is_single, is_settled, is_dead}
-use Rattle.core_state.specs.Steps.{happens, locked, unlocked, put_back, touch, at_pages, refs_of, moves, write_entry, page_entry}
-use Rattle.core_state.specs.Local.{published, publishes_row}
-use Rattle.row_words.specs.Words.{swip, is_inner, publishes_frame}
-use Rattle.row_words.proofs.Stays as words
-use Rattle.row_words.proofs.Stays.{cases, and_true}
+use Rattle.core_paging.proofs.core_commit_lemmas.Events.{names_to}
+use Rattle.core_paging.specs.core_state.Openings.{Opening}
+use Rattle.core_paging.specs.core_state.States.{Place, State, Worker, nodes_of, gsns_of, in_frame}
+use Rattle.core_paging.specs.core_state.Events.{Event, Mode}
+use Rattle.core_paging.specs.core_state.Needs.{may, needs, are_hot, pages_of, is_held_by, may_put, may_put_back, may_split, may_lift, may_join, may_drop, may_purge, is_single, is_settled, is_dead}
+use Rattle.core_paging.specs.core_state.Steps.{happens, locked, unlocked, put_back, touch, at_pages, refs_of, moves, write_entry, page_entry}
+use Rattle.core_paging.specs.core_state.Local.{published, publishes_row}
+use Rattle.version_latch.specs.row_words.Words.{swip, is_inner, publishes_frame}
+use Rattle.version_latch.proofs.row_words_lemmas.Stays as words
+use Rattle.version_latch.proofs.row_words_lemmas.Stays.{cases, and_true}
 use Rattle.lean_proto.proofs.Near.{SameNear}
 
 -- ## Swips

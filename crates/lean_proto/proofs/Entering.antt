@@ -3,31 +3,31 @@ use Rattle.std.proofs.Common.{◌≡◌, ◌≢◌, ◌<◌, ◌≤◌, ◌+◌,
 use Rattle.std.proofs.lemmas.Bool.{and_from, and_right, ne_eqb, cases_eq, leb-true, le-leb, lt-leb, cond-true, cases_Bool}
 use Rattle.std.specs.Prelude.{if◌then◌else◌}
 use Rattle.map_model.proofs.ListLemmas.{upd_same}
-use Rattle.image_model.specs.Entries.{Entry}
-use Rattle.core_state.specs.Openings.{Opening}
-use Rattle.core_state.specs.States.{State, epoch_of, waits_for}
-use Rattle.core_state.specs.Events as happening
-use Rattle.core_state.specs.Needs as core
-use Rattle.core_state.specs.Needs.{is_worker, is_inside}
-use Rattle.core_state.specs.Local.{publishes_row}
-use Rattle.core_state.specs.Steps.{happens, put_back}
+use Rattle.core_paging.specs.image_model.Entries.{Entry}
+use Rattle.core_paging.specs.core_state.Openings.{Opening}
+use Rattle.core_paging.specs.core_state.States.{State, epoch_of, waits_for}
+use Rattle.core_paging.specs.core_state.Events as happening
+use Rattle.core_paging.specs.core_state.Needs as core
+use Rattle.core_paging.specs.core_state.Needs.{is_worker, is_inside}
+use Rattle.core_paging.specs.core_state.Local.{publishes_row}
+use Rattle.core_paging.specs.core_state.Steps.{happens, put_back}
 use Rattle.core_paging.specs.Paging.{Waiting}
-use Rattle.row_words.specs.declared.event.Event.{Event}
-use Rattle.row_words.specs.declared.event.Event.TheVariants as told
-use Rattle.row_words.specs.declared.event.Event.TheVariants.{Tick, Enter, Leave}
-use Rattle.row_words.specs.declared.event.Met.TheVariants as met
-use Rattle.row_words.specs.declared.given.Given.{Given}
-use Rattle.row_words.specs.Moments.{Moment, event_of, actor_of, pager, by}
-use Rattle.row_words.specs.Openings.{opening}
-use Rattle.row_words.specs.Words.{publishes_frame, epoch_word}
-use Rattle.row_words.specs.Sealed.{stepped, run, changes, heard, sets}
-use Rattle.row_words.specs.Sealed as sealed
-use Rattle.row_words.proofs.Stays.{and_true}
-use Rattle.row_words.proofs.Controls.{every_own}
-use Rattle.row_words.proofs.SealedLemmas.{run_append}
-use Rattle.rows_trait.specs.declared.view.View.{View}
-use Rattle.rows_trait.specs.Views.{Shape, AreApart, NoSync, after_all, may, state}
-use Rattle.rows_trait.specs.Turns.{Heard, MayTurn, Ran}
+use Rattle.version_latch.specs.row_words.declared.event.Event.{Event}
+use Rattle.version_latch.specs.row_words.declared.event.Event.TheVariants as told
+use Rattle.version_latch.specs.row_words.declared.event.Event.TheVariants.{Tick, Enter, Leave}
+use Rattle.version_latch.specs.row_words.declared.event.Met.TheVariants as met
+use Rattle.version_latch.specs.row_words.declared.given.Given.{Given}
+use Rattle.version_latch.specs.row_words.Moments.{Moment, event_of, actor_of, pager, by}
+use Rattle.version_latch.specs.row_words.Openings.{opening}
+use Rattle.version_latch.specs.row_words.Words.{publishes_frame, epoch_word}
+use Rattle.version_latch.specs.row_words.Sealed.{stepped, run, changes, heard, sets}
+use Rattle.version_latch.specs.row_words.Sealed as sealed
+use Rattle.version_latch.proofs.row_words_lemmas.Stays.{and_true}
+use Rattle.version_latch.proofs.row_words_lemmas.Controls.{every_own}
+use Rattle.version_latch.proofs.row_words_lemmas.SealedLemmas.{run_append}
+use Rattle.version_latch.specs.rows_trait.declared.view.View.{View}
+use Rattle.version_latch.specs.rows_trait.Views.{Shape, AreApart, NoSync, after_all, may, state}
+use Rattle.version_latch.specs.rows_trait.Turns.{Heard, MayTurn, Ran}
 use Rattle.lean_proto.specs.Controls.{IsTick, IsEnter, IsLeave, EveryEpoch}
 use Rattle.lean_proto.proofs.Meanwhile.{is_actor, meanwhile}
 use Rattle.lean_proto.proofs.Owns.{none_of}

@@ -4,39 +4,39 @@ use Rattle.std.proofs.Common.{◌≡◌, ◌≢◌, ◌==◌, ◌||◌, ◌&&◌
 use Rattle.std.specs.Prelude.{slice_index, if◌then◌else◌}
 use Rattle.std.proofs.lemmas.Bool.{cond-true, cond-false, eq-eqb, lt-ltb, eqb-true, leb-true, le-leb, and_from}
 use Rattle.map_model.specs.Lists.{upd}
-use Rattle.image_model.specs.Entries.{Contents, Entry}
+use Rattle.core_paging.specs.image_model.Entries.{Contents, Entry}
 use Rattle.page_model.specs.Tree.{Names, IsTree}
 use Rattle.page_model.specs.Check.{names_page}
 use Rattle.page_model.proofs.Tree.{child_page, only}
-use Rattle.btree_node.specs.Words.{words_of}
-use Rattle.core_state.specs.Lists.{all_below}
-use Rattle.core_state.specs.Openings.{Opening}
-use Rattle.core_state.specs.States.{Place, State, flushed_by_all, nodes_of, is_hot, is_cooling, is_cold, in_frame, frame_of, waits_for, left_by}
-use Rattle.core_state.specs.Events as happening
-use Rattle.core_state.specs.Needs as core
-use Rattle.core_state.specs.Needs.{has_hot_parent, has_hot_child, is_empty_frame, is_dirty, is_inside}
-use Rattle.core_state.specs.Steps.{happens, put_back}
-use Rattle.core_state.specs.Steps as steps
-use Rattle.core_state.specs.Local.{publishes_row}
-use Rattle.core_state.proofs.Locality.{every_local}
-use Rattle.core_commit.proofs.Controls.{least_mono}
-use Rattle.core_commit.proofs.Events.{names_to}
+use Rattle.version_latch.specs.btree_node.Words.{words_of}
+use Rattle.core_paging.specs.core_state.Lists.{all_below}
+use Rattle.core_paging.specs.core_state.Openings.{Opening}
+use Rattle.core_paging.specs.core_state.States.{Place, State, flushed_by_all, nodes_of, is_hot, is_cooling, is_cold, in_frame, frame_of, waits_for, left_by}
+use Rattle.core_paging.specs.core_state.Events as happening
+use Rattle.core_paging.specs.core_state.Needs as core
+use Rattle.core_paging.specs.core_state.Needs.{has_hot_parent, has_hot_child, is_empty_frame, is_dirty, is_inside}
+use Rattle.core_paging.specs.core_state.Steps.{happens, put_back}
+use Rattle.core_paging.specs.core_state.Steps as steps
+use Rattle.core_paging.specs.core_state.Local.{publishes_row}
+use Rattle.core_paging.proofs.core_state_lemmas.Locality.{every_local}
+use Rattle.core_paging.proofs.core_commit_lemmas.Controls.{least_mono}
+use Rattle.core_paging.proofs.core_commit_lemmas.Events.{names_to}
 use Rattle.core_paging.specs.Paging.{Residence}
 use Rattle.core_paging.proofs.Places.{left_frame, left_waits, left_no_more, own_frame, in_own, hot_not_cold, cooling_not_cold}
-use Rattle.row_words.specs.declared.event.Event.{Event}
-use Rattle.row_words.specs.declared.event.Event.TheVariants as told
-use Rattle.row_words.specs.declared.event.Met.TheVariants as met
-use Rattle.row_words.specs.Moments.{Moment, event_of, actor_of, pager}
-use Rattle.row_words.specs.Openings.{opening}
-use Rattle.row_words.specs.Sealed.{stepped, run, Shown, changes, sets}
-use Rattle.row_words.specs.Words.{swip, framed as as_framed, ShowsPage, ShowsFrame, Shows, has_parent_in, publishes, publishes_frame}
-use Rattle.row_words.proofs.Frames.{hot_place, framed_same}
-use Rattle.row_words.proofs.Stays as words
-use Rattle.row_words.proofs.Stays.{cases, some_below, and_true}
-use Rattle.rows_trait.specs.declared.view.View.{View}
-use Rattle.rows_trait.specs.Views.{Shape, after_all, state, AreApart, holds, held_at, may}
-use Rattle.rows_trait.specs.Turns.{Leaves, MayPublish}
-use Rattle.rows_trait.proofs.EventLemmas.{apart_sync}
+use Rattle.version_latch.specs.row_words.declared.event.Event.{Event}
+use Rattle.version_latch.specs.row_words.declared.event.Event.TheVariants as told
+use Rattle.version_latch.specs.row_words.declared.event.Met.TheVariants as met
+use Rattle.version_latch.specs.row_words.Moments.{Moment, event_of, actor_of, pager}
+use Rattle.version_latch.specs.row_words.Openings.{opening}
+use Rattle.version_latch.specs.row_words.Sealed.{stepped, run, Shown, changes, sets}
+use Rattle.version_latch.specs.row_words.Words.{swip, framed as as_framed, ShowsPage, ShowsFrame, Shows, has_parent_in, publishes, publishes_frame}
+use Rattle.version_latch.proofs.row_words_lemmas.Frames.{hot_place, framed_same}
+use Rattle.version_latch.proofs.row_words_lemmas.Stays as words
+use Rattle.version_latch.proofs.row_words_lemmas.Stays.{cases, some_below, and_true}
+use Rattle.version_latch.specs.rows_trait.declared.view.View.{View}
+use Rattle.version_latch.specs.rows_trait.Views.{Shape, after_all, state, AreApart, holds, held_at, may}
+use Rattle.version_latch.specs.rows_trait.Turns.{Leaves, MayPublish}
+use Rattle.version_latch.proofs.rows_trait_lemmas.EventLemmas.{apart_sync}
 use Rattle.lean_proto.specs.Ready.{IsReady}
 use Rattle.lean_proto.proofs.Growing.{flushed_on}
 use Rattle.lean_proto.proofs.Loads.{SamePlaces, places_none, places_on, place_on, all_same, names_from}
@@ -416,7 +416,7 @@ module _ (z : Shape) (v : View) (row p : ℕ) (e : Event) (it : IsReady z v row 
 
 -- ## The four events
 
-no_words_of : (e : Event) → ((c i : ℕ) → Rattle.row_words.specs.Laws.sets e c i ≡ false) → (c i : ℕ) → sets e c i ≡ false
+no_words_of : (e : Event) → ((c i : ℕ) → Rattle.version_latch.specs.row_words.Laws.sets e c i ≡ false) → (c i : ℕ) → sets e c i ≡ false
 unfolding sets
 no_words_of e h c i = h c i
 

@@ -2,34 +2,34 @@
 use Rattle.std.proofs.Common.{◌≡◌, ◌≢◌, ◌||◌, ltb, ◌<◌, ◌-◌, ℕ, suc, max, Bool, true, false, List, [], ◌∷◌, refl, sym, ap, subst, ◌∙◌, true≢false, arith}
 use Rattle.std.specs.Prelude.{slice_index, if◌then◌else◌}
 use Rattle.std.proofs.lemmas.Bool.{cond-true, lt-ltb, eqb-true}
-use Rattle.image_model.specs.Entries.{Contents}
+use Rattle.core_paging.specs.image_model.Entries.{Contents}
 use Rattle.page_model.specs.Nodes.{Node}
 use Rattle.page_model.specs.Pairs.{put}
-use Rattle.btree_node.specs.Words.{words_of}
-use Rattle.core_state.specs.Openings.{Opening}
-use Rattle.core_state.specs.States.{Place, State, Worker, is_cooling, in_frame}
-use Rattle.core_state.specs.Events as happening
-use Rattle.core_state.specs.Needs as core
+use Rattle.version_latch.specs.btree_node.Words.{words_of}
+use Rattle.core_paging.specs.core_state.Openings.{Opening}
+use Rattle.core_paging.specs.core_state.States.{Place, State, Worker, is_cooling, in_frame}
+use Rattle.core_paging.specs.core_state.Events as happening
+use Rattle.core_paging.specs.core_state.Needs as core
 use Rattle.map_model.specs.Lists.{any}
-use Rattle.core_state.specs.Needs.{is_held_by}
-use Rattle.core_state.specs.Steps.{happens}
-use Rattle.core_state.specs.Steps as steps
-use Rattle.core_state.specs.Local.{publishes_row}
-use Rattle.core_state.proofs.Locality.{every_local}
-use Rattle.row_words.specs.declared.event.Event.{Event}
-use Rattle.row_words.specs.Moments.{Moment, event_of, actor_of}
-use Rattle.row_words.specs.Openings.{opening}
-use Rattle.row_words.specs.Sealed.{stepped, run, Shown, changes}
-use Rattle.row_words.specs.Words.{framed, framed_page, ShowsPage, Shows, publishes, publishes_frame}
-use Rattle.row_words.proofs.Stays as words
-use Rattle.row_words.proofs.Controls.{every_own}
-use Rattle.row_words.proofs.SealedLemmas.{hot_kept}
-use Rattle.rows_trait.specs.declared.view.View.{View}
-use Rattle.rows_trait.specs.Layout.{width}
-use Rattle.rows_trait.specs.Views.{Shape, may, state, IsApart, AreApart, holds, held_at}
-use Rattle.rows_trait.specs.Turns.{Leaves, MayPublish}
+use Rattle.core_paging.specs.core_state.Needs.{is_held_by}
+use Rattle.core_paging.specs.core_state.Steps.{happens}
+use Rattle.core_paging.specs.core_state.Steps as steps
+use Rattle.core_paging.specs.core_state.Local.{publishes_row}
+use Rattle.core_paging.proofs.core_state_lemmas.Locality.{every_local}
+use Rattle.version_latch.specs.row_words.declared.event.Event.{Event}
+use Rattle.version_latch.specs.row_words.Moments.{Moment, event_of, actor_of}
+use Rattle.version_latch.specs.row_words.Openings.{opening}
+use Rattle.version_latch.specs.row_words.Sealed.{stepped, run, Shown, changes}
+use Rattle.version_latch.specs.row_words.Words.{framed, framed_page, ShowsPage, Shows, publishes, publishes_frame}
+use Rattle.version_latch.proofs.row_words_lemmas.Stays as words
+use Rattle.version_latch.proofs.row_words_lemmas.Controls.{every_own}
+use Rattle.version_latch.proofs.row_words_lemmas.SealedLemmas.{hot_kept}
+use Rattle.version_latch.specs.rows_trait.declared.view.View.{View}
+use Rattle.version_latch.specs.rows_trait.Layout.{width}
+use Rattle.version_latch.specs.rows_trait.Views.{Shape, may, state, IsApart, AreApart, holds, held_at}
+use Rattle.version_latch.specs.rows_trait.Turns.{Leaves, MayPublish}
 use Rattle.lean_proto.specs.Changes.{changed, IsChange, EveryChange}
-use Rattle.row_words.proofs.Frames.{hot_place, framed_leaf}
+use Rattle.version_latch.proofs.row_words_lemmas.Frames.{hot_place, framed_leaf}
 use Rattle.lean_proto.proofs.Owns.{holder_next}
 use Rattle.lean_proto.specs.declared.change.Write.{Write}
 use Rattle.lean_proto.specs.Writes.{event_by, MayWrite}

@@ -4,14 +4,14 @@ use Rattle.std.specs.Prelude.{if◌then◌else◌}
 use Rattle.std.proofs.lemmas.Bool.{and_from, leb-true, le-leb, eq-eqb, cond-true}
 use Rattle.page_model.specs.Pairs.{is_in}
 use Rattle.page_model.specs.Redo.{all_keys}
-use Rattle.core_state.specs.Lists.{is_empty}
-use Rattle.core_state.specs.Openings.{Opening}
-use Rattle.core_state.specs.States.{State, nodes_of, flushed_by_all}
-use Rattle.core_state.specs.Events as happening
-use Rattle.core_state.specs.Needs.{may, needs, are_hot, pages_of, may_purge, is_settled, is_free}
-use Rattle.core_commit.proofs.Lists.{le_least}
-use Rattle.core_commit.proofs.Controls.{least_mono}
-use Rattle.row_words.proofs.Stays.{cases, and_true}
+use Rattle.core_paging.specs.core_state.Lists.{is_empty}
+use Rattle.core_paging.specs.core_state.Openings.{Opening}
+use Rattle.core_paging.specs.core_state.States.{State, nodes_of, flushed_by_all}
+use Rattle.core_paging.specs.core_state.Events as happening
+use Rattle.core_paging.specs.core_state.Needs.{may, needs, are_hot, pages_of, may_purge, is_settled, is_free}
+use Rattle.core_paging.proofs.core_commit_lemmas.Lists.{le_least}
+use Rattle.core_paging.proofs.core_commit_lemmas.Controls.{least_mono}
+use Rattle.version_latch.proofs.row_words_lemmas.Stays.{cases, and_true}
 use Rattle.lean_proto.specs.Purges.{CanPurge}
 
 -- what holds of each key that is in the list

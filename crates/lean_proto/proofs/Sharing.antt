@@ -4,23 +4,23 @@ use Rattle.std.specs.Prelude.{if◌then◌else◌}
 use Rattle.std.proofs.lemmas.Bool.{cond-true, cond-false, or_left, or_right, eqb-true, ne_eqb}
 use Rattle.std.proofs.lemmas.Bool.Decides.{nat_tests}
 use Rattle.map_model.specs.Lists.{any, keep, upd}
-use Rattle.image_model.specs.Entries.{Entry}
-use Rattle.core_state.specs.Openings.{Opening}
-use Rattle.core_state.specs.States.{State, Row}
-use Rattle.core_state.specs.Events.{Mode}
-use Rattle.core_state.specs.Needs as core
-use Rattle.core_state.specs.Needs.{is_held_by, is_free, is_reader, holds_row, may_hold}
-use Rattle.core_state.specs.Steps.{happens, locked, unlocked, put_back}
-use Rattle.row_words.specs.declared.event.Event.{Event}
-use Rattle.row_words.specs.declared.event.Event.TheVariants as told
-use Rattle.row_words.specs.declared.event.Mode.TheVariants as mode
-use Rattle.row_words.specs.declared.event.Met.TheVariants as met
-use Rattle.row_words.specs.declared.given.Given.{Given}
-use Rattle.row_words.specs.Moments.{Moment, event_of, actor_of, by}
-use Rattle.row_words.specs.Openings.{opening}
-use Rattle.row_words.specs.Sealed.{stepped, run}
-use Rattle.row_words.proofs.Stays as words
-use Rattle.row_words.proofs.Stays.{cases}
+use Rattle.core_paging.specs.image_model.Entries.{Entry}
+use Rattle.core_paging.specs.core_state.Openings.{Opening}
+use Rattle.core_paging.specs.core_state.States.{State, Row}
+use Rattle.core_paging.specs.core_state.Events.{Mode}
+use Rattle.core_paging.specs.core_state.Needs as core
+use Rattle.core_paging.specs.core_state.Needs.{is_held_by, is_free, is_reader, holds_row, may_hold}
+use Rattle.core_paging.specs.core_state.Steps.{happens, locked, unlocked, put_back}
+use Rattle.version_latch.specs.row_words.declared.event.Event.{Event}
+use Rattle.version_latch.specs.row_words.declared.event.Event.TheVariants as told
+use Rattle.version_latch.specs.row_words.declared.event.Mode.TheVariants as mode
+use Rattle.version_latch.specs.row_words.declared.event.Met.TheVariants as met
+use Rattle.version_latch.specs.row_words.declared.given.Given.{Given}
+use Rattle.version_latch.specs.row_words.Moments.{Moment, event_of, actor_of, by}
+use Rattle.version_latch.specs.row_words.Openings.{opening}
+use Rattle.version_latch.specs.row_words.Sealed.{stepped, run}
+use Rattle.version_latch.proofs.row_words_lemmas.Stays as words
+use Rattle.version_latch.proofs.row_words_lemmas.Stays.{cases}
 
 -- ## Lists of readers
 
@@ -115,7 +115,7 @@ module _ (v : Given) (a : ℕ) where
   unfolding stepped
   has_next j m e ne h = go (core.may (opening v) m.core (event_of e)) refl
     where
-      go : (b : Bool) → core.may (opening v) m.core (event_of e) ≡ b → holds_row ((Rattle.core_state.specs.Steps.step (opening v) m.core (event_of e)).row j) a ≡ true
+      go : (b : Bool) → core.may (opening v) m.core (event_of e) ≡ b → holds_row ((Rattle.core_paging.specs.core_state.Steps.step (opening v) m.core (event_of e)).row j) a ≡ true
       go true ok = ap (λ s. holds_row (s.row j) a) (cond-true (core.may (opening v) m.core (event_of e)) (happens (opening v) m.core (event_of e)) m.core ok) ∙ has_on (opening v) m.core a j h e ne ok
       go false off_it = ap (λ s. holds_row (s.row j) a) (cond-false (core.may (opening v) m.core (event_of e)) (happens (opening v) m.core (event_of e)) m.core off_it) ∙ h
 

@@ -4,27 +4,27 @@ use Rattle.std.specs.Prelude.{if◌then◌else◌}
 use Rattle.std.proofs.lemmas.Bool.{eqb-true}
 use Rattle.map_model.specs.Lists.{Has}
 use Rattle.map_model.proofs.ListLemmas.{any_has, all_to}
-use Rattle.image_model.specs.Entries.{Entry}
-use Rattle.core_state.specs.Openings.{Opening}
-use Rattle.core_state.specs.States.{Place, State, is_hot, is_cooling, is_cold, in_frame, epoch_of, waits_for, left_by}
-use Rattle.core_state.specs.Needs as core
-use Rattle.core_state.specs.Needs.{pages_of, are_hot, needs}
-use Rattle.core_state.specs.Steps.{happens, put_back}
-use Rattle.core_state.specs.Local.{published, publishes_page}
-use Rattle.core_state.proofs.Locality.{every_local}
+use Rattle.core_paging.specs.image_model.Entries.{Entry}
+use Rattle.core_paging.specs.core_state.Openings.{Opening}
+use Rattle.core_paging.specs.core_state.States.{Place, State, is_hot, is_cooling, is_cold, in_frame, epoch_of, waits_for, left_by}
+use Rattle.core_paging.specs.core_state.Needs as core
+use Rattle.core_paging.specs.core_state.Needs.{pages_of, are_hot, needs}
+use Rattle.core_paging.specs.core_state.Steps.{happens, put_back}
+use Rattle.core_paging.specs.core_state.Local.{published, publishes_page}
+use Rattle.core_paging.proofs.core_state_lemmas.Locality.{every_local}
 use Rattle.core_paging.proofs.Places.{left_hot, left_cooling, left_cold, left_frame}
-use Rattle.row_words.specs.declared.event.Event.{Event}
-use Rattle.row_words.specs.declared.event.Event.TheVariants as told
-use Rattle.row_words.specs.declared.event.Met.TheVariants as met
-use Rattle.row_words.specs.declared.given.Given.{Given}
-use Rattle.row_words.specs.Moments.{Moment, event_of, actor_of, pager, by}
-use Rattle.row_words.specs.Openings.{opening}
-use Rattle.row_words.specs.Sealed.{begun, stepped, run}
-use Rattle.row_words.proofs.Stays.{cases, and_true}
-use Rattle.row_words.proofs.SealedLemmas.{run_append}
-use Rattle.rows_trait.specs.declared.view.View.{View}
-use Rattle.rows_trait.specs.Views.{after_all, state}
-use Rattle.rows_trait.specs.Turns.{Ran}
+use Rattle.version_latch.specs.row_words.declared.event.Event.{Event}
+use Rattle.version_latch.specs.row_words.declared.event.Event.TheVariants as told
+use Rattle.version_latch.specs.row_words.declared.event.Met.TheVariants as met
+use Rattle.version_latch.specs.row_words.declared.given.Given.{Given}
+use Rattle.version_latch.specs.row_words.Moments.{Moment, event_of, actor_of, pager, by}
+use Rattle.version_latch.specs.row_words.Openings.{opening}
+use Rattle.version_latch.specs.row_words.Sealed.{begun, stepped, run}
+use Rattle.version_latch.proofs.row_words_lemmas.Stays.{cases, and_true}
+use Rattle.version_latch.proofs.row_words_lemmas.SealedLemmas.{run_append}
+use Rattle.version_latch.specs.rows_trait.declared.view.View.{View}
+use Rattle.version_latch.specs.rows_trait.Views.{after_all, state}
+use Rattle.version_latch.specs.rows_trait.Turns.{Ran}
 use Rattle.lean_proto.specs.Still.{IsStill, EveryStood}
 use Rattle.lean_proto.proofs.Entering.{epoch_same}
 use Rattle.lean_proto.proofs.Loads.{place_same, saved_same}

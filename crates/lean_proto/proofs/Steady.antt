@@ -4,34 +4,34 @@ use Rattle.std.specs.Prelude.{slice_index, if◌then◌else◌}
 use Rattle.std.proofs.lemmas.Bool.{cond-true, cond-false, lt-ltb, le-ltb}
 use Rattle.map_model.specs.Lists.{Has, any}
 use Rattle.map_model.proofs.ListLemmas.{any_has, has_any, all_to}
-use Rattle.core_state.specs.Openings.{Opening}
-use Rattle.core_state.specs.States.{Place, State, is_hot, in_frame}
-use Rattle.core_state.specs.Events as happening
-use Rattle.core_state.specs.Needs as core
-use Rattle.core_state.specs.Needs.{is_held_by, is_empty_frame, pages_of, are_hot, needs}
-use Rattle.core_state.specs.Steps.{happens}
-use Rattle.core_state.specs.Steps as steps
-use Rattle.core_state.specs.Local.{published, publishes_row}
-use Rattle.core_state.proofs.Locality.{every_local}
+use Rattle.core_paging.specs.core_state.Openings.{Opening}
+use Rattle.core_paging.specs.core_state.States.{Place, State, is_hot, in_frame}
+use Rattle.core_paging.specs.core_state.Events as happening
+use Rattle.core_paging.specs.core_state.Needs as core
+use Rattle.core_paging.specs.core_state.Needs.{is_held_by, is_empty_frame, pages_of, are_hot, needs}
+use Rattle.core_paging.specs.core_state.Steps.{happens}
+use Rattle.core_paging.specs.core_state.Steps as steps
+use Rattle.core_paging.specs.core_state.Local.{published, publishes_row}
+use Rattle.core_paging.proofs.core_state_lemmas.Locality.{every_local}
 use Rattle.core_paging.specs.Paging.{Residence}
-use Rattle.row_words.specs.declared.event.Event.{Event}
-use Rattle.row_words.specs.declared.event.Event.TheVariants as told
-use Rattle.row_words.specs.Moments.{Moment, event_of, actor_of, is_sync, mode_of}
-use Rattle.row_words.specs.Openings.{opening}
-use Rattle.row_words.specs.Sealed.{IsTame, stepped, run, Shown, changes, sets}
-use Rattle.row_words.specs.Words.{ShowsPage, Shows, publishes, publishes_frame, lock_words}
-use Rattle.row_words.proofs.Stays as words
-use Rattle.row_words.proofs.Stays.{cases, and_true}
-use Rattle.rows_trait.specs.declared.view.View.{View}
-use Rattle.rows_trait.specs.Views.{Shape, after_all, state, AreApart, IsApart, holds, held_at, may}
-use Rattle.rows_trait.specs.Turns.{Leaves, MayPublish}
-use Rattle.rows_trait.proofs.EventLemmas.{none_apart, apart_sync, by_none}
+use Rattle.version_latch.specs.row_words.declared.event.Event.{Event}
+use Rattle.version_latch.specs.row_words.declared.event.Event.TheVariants as told
+use Rattle.version_latch.specs.row_words.Moments.{Moment, event_of, actor_of, is_sync, mode_of}
+use Rattle.version_latch.specs.row_words.Openings.{opening}
+use Rattle.version_latch.specs.row_words.Sealed.{IsTame, stepped, run, Shown, changes, sets}
+use Rattle.version_latch.specs.row_words.Words.{ShowsPage, Shows, publishes, publishes_frame, lock_words}
+use Rattle.version_latch.proofs.row_words_lemmas.Stays as words
+use Rattle.version_latch.proofs.row_words_lemmas.Stays.{cases, and_true}
+use Rattle.version_latch.specs.rows_trait.declared.view.View.{View}
+use Rattle.version_latch.specs.rows_trait.Views.{Shape, after_all, state, AreApart, IsApart, holds, held_at, may}
+use Rattle.version_latch.specs.rows_trait.Turns.{Leaves, MayPublish}
+use Rattle.version_latch.proofs.rows_trait_lemmas.EventLemmas.{none_apart, apart_sync, by_none}
 use Rattle.lean_proto.specs.Ready.{is_steady, IsReady, EveryReady}
 use Rattle.lean_proto.specs.Purges.{EveryPurge}
 use Rattle.lean_proto.proofs.Levels.{level_with}
 use Rattle.lean_proto.proofs.Growing.{flushed_on}
 use Rattle.lean_proto.proofs.Settling.{settled_on, can_purge}
-use Rattle.row_words.proofs.Frames.{hot_place}
+use Rattle.version_latch.proofs.row_words_lemmas.Frames.{hot_place}
 use Rattle.lean_proto.proofs.Near.{SameNear, near_none, near_on, hot_at, shows_near}
 use Rattle.lean_proto.proofs.Again.{agree_child, IsPlain, Rest, Again, plain_lock, plain_unlock, plain_change, plain_back, plain_split, plain_lift, plain_join, plain_drop, plain_purge, again_lock, again_unlock, again_change, again_back, again_split, again_lift, again_join, again_drop, again_purge}
 use Rattle.lean_proto.proofs.Meanwhile.{meanwhile}

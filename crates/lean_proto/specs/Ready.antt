@@ -2,17 +2,17 @@
 -- all held, have the words that it leaves there. What it rests on stays under events apart from it.
 use Rattle.std.specs.Prelude.{◌≡◌, ℕ, Bool, true, false, List}
 use Rattle.page_model.specs.Tree.{IsTree}
-use Rattle.core_state.specs.States.{nodes_of}
-use Rattle.core_state.specs.Needs as core
+use Rattle.core_paging.specs.core_state.States.{nodes_of}
+use Rattle.core_paging.specs.core_state.Needs as core
 use Rattle.core_paging.specs.Paging.{Residence}
-use Rattle.row_words.specs.declared.event.Event.{Event}
-use Rattle.row_words.specs.declared.event.Event.TheVariants.{Lock, Unlock, Change, PutBack, Split, Lift, Join, Drop, Load, Cool, Rescue, Save, Evict}
-use Rattle.row_words.specs.Moments.{event_of, actor_of}
-use Rattle.row_words.specs.Openings.{opening}
-use Rattle.row_words.specs.Sealed.{IsTame}
-use Rattle.rows_trait.specs.declared.view.View.{View}
-use Rattle.rows_trait.specs.Views.{Shape, after_all, state, may}
-use Rattle.rows_trait.specs.Turns.{Leaves, MayPublish}
+use Rattle.version_latch.specs.row_words.declared.event.Event.{Event}
+use Rattle.version_latch.specs.row_words.declared.event.Event.TheVariants.{Lock, Unlock, Change, PutBack, Split, Lift, Join, Drop, Load, Cool, Rescue, Save, Evict}
+use Rattle.version_latch.specs.row_words.Moments.{event_of, actor_of}
+use Rattle.version_latch.specs.row_words.Openings.{opening}
+use Rattle.version_latch.specs.row_words.Sealed.{IsTame}
+use Rattle.version_latch.specs.rows_trait.declared.view.View.{View}
+use Rattle.version_latch.specs.rows_trait.Views.{Shape, after_all, state, may}
+use Rattle.version_latch.specs.rows_trait.Turns.{Leaves, MayPublish}
 
 -- its need and what it makes of its rows hang on these rows, on its worker and on the locks that the worker holds; that of an event of
 -- the pager on where pages are and on what is saved of them, which the pager alone changes, and on flushed numbers, which never fall

@@ -1,11 +1,11 @@
 -- What is known of where pages stand stays while the pager appends nothing, whatever workers do.
 use Rattle.std.specs.Prelude.{◌≡◌, ℕ, Bool, true, false, List, []}
-use Rattle.core_state.specs.States.{is_hot, is_cooling, is_cold, in_frame, epoch_of, waits_for}
-use Rattle.row_words.specs.declared.event.Event.{Event}
-use Rattle.row_words.specs.Moments.{pager, by}
-use Rattle.rows_trait.specs.declared.view.View.{View}
-use Rattle.rows_trait.specs.Views.{Shape, state}
-use Rattle.rows_trait.specs.Turns.{Ran}
+use Rattle.core_paging.specs.core_state.States.{is_hot, is_cooling, is_cold, in_frame, epoch_of, waits_for}
+use Rattle.version_latch.specs.row_words.declared.event.Event.{Event}
+use Rattle.version_latch.specs.row_words.Moments.{pager, by}
+use Rattle.version_latch.specs.rows_trait.declared.view.View.{View}
+use Rattle.version_latch.specs.rows_trait.Views.{Shape, state}
+use Rattle.version_latch.specs.rows_trait.Turns.{Ran}
 
 -- the queue, the global epoch, where pages stand and what is saved of them; and a page that is not hot is as it was
 pub record Stood (v u : View) : Type 0 where

@@ -16,6 +16,12 @@ ghost use Rattle.lean_proto.specs.Purges.{EveryPurge};
 ghost use Rattle.lean_proto.specs.Ready.{EveryReady};
 ghost use Rattle.lean_proto.specs.Still.{EveryStood};
 
+// Passed on to the crates above.
+pub use core_paging;
+pub use core_paging::image_model;
+pub use version_latch;
+pub use version_latch::{btree_node, rows_trait};
+
 /// Who is ready to publish a steady event may publish it: its need is met at the state that the seat has seen, and its rows, all
 /// held, have the words that it leaves there. Whatever others did meanwhile, the need is met still, and the words are right. Steady
 /// are the lock and the unlock of a row, the change of a key and a change that is put back, the split of a page, the lift of the

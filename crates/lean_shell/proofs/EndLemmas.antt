@@ -1,6 +1,6 @@
 -- How `format` ends, from what it did and what went out.
 use Rattle.std.proofs.Common.{◌≡◌, ◌⊎◌, inl, inr, ⊎_elim, ◌<◌, ℕ, refl, sym, ◌∙◌, ap, subst, arith}
-use Rattle.image_model.specs.Fair.{piece}
+use Rattle.disk_runs.specs.image_model.Fair.{piece}
 use Rattle.lean_disk.specs.Area.{Area}
 use Rattle.lean_disk.specs.Faults.{HasCause}
 use Rattle.lean_disk.specs.Moments.{LeavesOnly}

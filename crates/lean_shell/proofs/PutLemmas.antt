@@ -7,7 +7,7 @@ use Rattle.lean_disk.specs.Story.{Crash, IsLawful, LeavesNow, Story}
 use Rattle.lean_disk.proofs.MomentLemmas.{goes_on_by}
 use Rattle.lean_edge.specs.declared.sink.Put.{Put}
 use Rattle.lean_edge.specs.declared.sink.Put.TheVariants.{Done, Failed}
-use Rattle.image_model.specs.Fair.{piece, IsFair}
+use Rattle.disk_runs.specs.image_model.Fair.{piece, IsFair}
 use Rattle.disk_format.specs.Formatted.{FormatLeaves, HasFairMasters, HasMaster, HasPages, IsFormatted, IsMaster, IsSealedMaster, writes_since}
 use Rattle.lean_disk.specs.Told.{OnlyNotes}
 use Rattle.disk_format.specs.declared.shape.Shape.{Shape}

@@ -2,7 +2,7 @@
 use Rattle.std.specs.Prelude.{◌≡◌, ◌⊎◌, ◌++◌, ◌<◌, ◌+◌, ℕ, suc, List, [], ◌∷◌, length, take, IsTrue, Some}
 use Rattle.map_model.specs.Maps.{key_end}
 use Rattle.page_model.specs.Pairs.{Pair, Rising}
-use Rattle.image_model.specs.Images.{won_by, lost_by, map_of}
+use Rattle.disk_runs.specs.image_model.Images.{won_by, lost_by, map_of}
 use Rattle.pair_walk.specs.Listings.{ArePairsOf}
 use Rattle.lean_disk.specs.Faults.{Rose}
 use Rattle.lean_disk.specs.Moments.{LeavesOnly}
@@ -10,9 +10,9 @@ use Rattle.lean_disk.specs.Story.{Crash, Story, areas_of}
 use Rattle.lean_disk.specs.Told.{TellsOn}
 use Rattle.lean_edge.specs.Outside.{Held}
 use Rattle.script_lang.specs.Notices.{Notice}
-use Rattle.disk_slots.specs.declared.master.Master.{Master}
-use Rattle.disk_image.specs.MasterSlots.{master_on}
-use Rattle.disk_image.specs.Shown.{image_by, IsCleanDisk, IsSoundDisk}
+use Rattle.disk_runs.specs.disk_slots.declared.master.Master.{Master}
+use Rattle.disk_runs.specs.disk_image.MasterSlots.{master_on}
+use Rattle.disk_runs.specs.disk_image.Shown.{image_by, IsCleanDisk, IsSoundDisk}
 use Rattle.recovery.specs.Crashes.{RecoveryLeaves}
 use Rattle.recovery.specs.Installed.{HasInstalled}
 use Rattle.recovery.specs.Masters.{IsOpenable}

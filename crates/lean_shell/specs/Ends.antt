@@ -4,8 +4,8 @@ use Rattle.lean_disk.specs.Moments.{LeavesOnly}
 use Rattle.lean_disk.specs.Story.{Story, areas_of}
 use Rattle.lean_disk.specs.Told.{TellsOn}
 use Rattle.lean_edge.specs.Outside.{Feed, Held}
-use Rattle.disk_slots.specs.declared.master.Master.{Master}
-use Rattle.disk_image.specs.Shown.{IsCleanDisk}
+use Rattle.disk_runs.specs.disk_slots.declared.master.Master.{Master}
+use Rattle.disk_runs.specs.disk_image.Shown.{IsCleanDisk}
 use Rattle.recovery.specs.Telling.{TellsAll}
 use Rattle.paged_engine.specs.declared.opening.Size.{Size}
 use Rattle.lean_shell.specs.Crashes.{IsYoung, MasterLeaves, TellsCrashes}

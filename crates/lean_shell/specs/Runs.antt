@@ -1,37 +1,37 @@
 -- How a run of a script ended.
 use Rattle.std.specs.Prelude.{◌≡◌, ◌++◌, ◌+◌, ◌<◌, ◌≤◌, ◌^◌, ℕ, suc, Bool, true, false, List, [], ◌∷◌, length, take, IsTrue, Option, None, Some}
-use Rattle.image_model.specs.Images.{won_by, lost_by, map_of}
+use Rattle.disk_runs.specs.image_model.Images.{won_by, lost_by, map_of}
 use Rattle.lean_disk.specs.Faults.{Rose}
 use Rattle.lean_disk.specs.Story.{Story, areas_of}
 use Rattle.lean_edge.specs.Outside.{Feed}
 use Rattle.script_lang.specs.Notices.{Notice}
-use Rattle.disk_slots.specs.declared.master.Master.{Master}
-use Rattle.disk_image.specs.MasterSlots.{master_on}
-use Rattle.disk_image.specs.Runs.{Block, block_at}
-use Rattle.disk_image.specs.Shown.{Areas, image_by, IsCleanDisk, IsSoundDisk}
+use Rattle.disk_runs.specs.disk_slots.declared.master.Master.{Master}
+use Rattle.disk_runs.specs.disk_image.MasterSlots.{master_on}
+use Rattle.disk_runs.specs.disk_image.Runs.{Block, block_at}
+use Rattle.disk_runs.specs.disk_image.Shown.{Areas, image_by, IsCleanDisk, IsSoundDisk}
 use Rattle.disk_runs.specs.Logs.{IsLogOf}
-use Rattle.log_block.specs.Block.{records_text}
-use Rattle.log_record.specs.declared.record.Record.{Record}
+use Rattle.disk_runs.specs.log_block.Block.{records_text}
+use Rattle.disk_runs.specs.log_record.declared.record.Record.{Record}
 use Rattle.recovery.specs.Masters.{IsOpenable, next_master}
 use Rattle.recovery.specs.Opened.{IsRefusal, IsUntouched}
 use Rattle.recovery.specs.Telling.{TellsAll}
 use Rattle.recovery.specs.declared.opening.Unrecovered.{Unrecovered}
 use Rattle.recovery.specs.declared.opening.Unrecovered.TheVariants as why
-use Rattle.core_crash.specs.Crashes.{from_head, log_of}
-use Rattle.core_state.specs.Events.{Event}
-use Rattle.core_state.specs.Needs.{may, value_in}
-use Rattle.core_state.specs.Openings.{Opening, first_map}
-use Rattle.core_state.specs.States.{State}
-use Rattle.core_state.specs.Steps.{run, state_after}
+use Rattle.disk_runs.specs.core_crash.Crashes.{from_head, log_of}
+use Rattle.disk_runs.specs.core_state.Events.{Event}
+use Rattle.disk_runs.specs.core_state.Needs.{may, value_in}
+use Rattle.disk_runs.specs.core_state.Openings.{Opening, first_map}
+use Rattle.disk_runs.specs.core_state.States.{State}
+use Rattle.disk_runs.specs.core_state.Steps.{run, state_after}
 use Rattle.core_calls.specs.Deeds.{answered, asked}
 use Rattle.core_calls.specs.Fronts.{Done, front}
 use Rattle.core_calls.specs.LineCounts.{is_scan_call}
 use Rattle.core_calls.specs.Printed.{printed}
 use Rattle.core_calls.specs.Scans.{HoldsMet, is_scan}
 use Rattle.run_crashes.specs.Lines.{next_of}
-use Rattle.worker_log.specs.Accounts.{joined, spelled_from}
-use Rattle.worker_log.specs.Laws.{entries_onto}
-use Rattle.worker_log.specs.Logs.{Log}
+use Rattle.disk_runs.specs.worker_log.Accounts.{joined, spelled_from}
+use Rattle.disk_runs.specs.worker_log.Laws.{entries_onto}
+use Rattle.disk_runs.specs.worker_log.Logs.{Log}
 use Rattle.map_model.specs.Lists.{Has, keep}
 use Rattle.map_model.specs.Maps.{MapAnswer}
 use Rattle.map_model.specs.Outputs.{Reply}

@@ -1,21 +1,21 @@
 -- What stands of a run's calls on the disk that it leaves.
 use Rattle.std.specs.Prelude.{◌≡◌, ◌≤◌, ◌++◌, ◌+◌, ◌<◌, ◌%◌, ℕ, false, List, ◌∷◌, length, Option, Some, None}
-use Rattle.image_model.specs.Entries.{Contents, Entry}
-use Rattle.image_model.specs.Slots.{base_of}
+use Rattle.disk_runs.specs.image_model.Entries.{Contents, Entry}
+use Rattle.disk_runs.specs.image_model.Slots.{base_of}
 use Rattle.lean_disk.specs.Story.{Crash, Story, areas_of}
-use Rattle.disk_slots.specs.declared.master.Master.{Master}
-use Rattle.disk_image.specs.MasterSlots.{master_on}
-use Rattle.disk_image.specs.Shown.{Areas, image_by, shown_by}
-use Rattle.core_disk.specs.Held.{IsVersion}
-use Rattle.core_disk.specs.MasterFloors.{IsFloorOf}
+use Rattle.disk_runs.specs.disk_slots.declared.master.Master.{Master}
+use Rattle.disk_runs.specs.disk_image.MasterSlots.{master_on}
+use Rattle.disk_runs.specs.disk_image.Shown.{Areas, image_by, shown_by}
+use Rattle.disk_runs.specs.core_disk.Held.{IsVersion}
+use Rattle.disk_runs.specs.core_disk.MasterFloors.{IsFloorOf}
 use Rattle.disk_runs.specs.Masters.{IsNoEarlier}
 use Rattle.recovery.specs.Crashes.{IsNextOf}
 use Rattle.recovery.specs.Starts.{IsStartOf}
-use Rattle.core_state.specs.Openings.{Opening}
-use Rattle.core_state.specs.Events.{Event}
-use Rattle.core_state.specs.States.{State}
-use Rattle.core_state.specs.Steps.{state_after}
-use Rattle.core_crash.specs.Crashes.{from_head, log_of}
+use Rattle.disk_runs.specs.core_state.Openings.{Opening}
+use Rattle.disk_runs.specs.core_state.Events.{Event}
+use Rattle.disk_runs.specs.core_state.States.{State}
+use Rattle.disk_runs.specs.core_state.Steps.{state_after}
+use Rattle.disk_runs.specs.core_crash.Crashes.{from_head, log_of}
 use Rattle.core_calls.specs.Deeds.{answered, asked}
 use Rattle.core_calls.specs.Fronts.{Done, front, outcomes}
 use Rattle.core_calls.specs.Printed.{durable_lines, printed}

@@ -14,6 +14,7 @@ use crate::engine_lines::{put_last, put_opened};
 use crate::lines::put_reason;
 use crate::program::Ended;
 use buffered_engine::{Engine, Hosts, Opened, Size, Unopened};
+use disk_runs::{core_commit, core_disk, disk_image, worker_log};
 use engine_front::calls::Calls;
 use lean_disk::Disk;
 use lean_edge::{Put, Sink, Source};

@@ -2,7 +2,7 @@
 ghost use Rattle.std.specs.Prelude.{◌≡◌, length};
 ghost use Rattle.page_model.specs.Tree.{value};
 ghost use Rattle.lean_disk.specs.Faults.{HasCause, IsBlamed};
-ghost use Rattle.disk_image.specs.Formats.{format_of};
+ghost use Rattle.disk_runs.specs.disk_image.Formats.{format_of};
 ghost use Rattle.node_tree.specs.Nodes.{nodes_of};
 ghost use Rattle.recovery.specs.Opened.{IsWhole};
 ghost use Rattle.lean_shell.specs.Dumps.{DumpEnds};
@@ -11,6 +11,7 @@ ghost use Rattle.lean_shell.specs.Inside.Puts.{PutsDump, counts_of};
 use crate::disk_run::status_of;
 use crate::lines::{put_opened, put_reason};
 use crate::pairs::put_map;
+use disk_runs::image_model;
 use lean_disk::Disk;
 use lean_edge::{Put, Sink};
 use page_model::limits::SESSIONS;

@@ -1,6 +1,6 @@
 // The lines that a run puts of itself, as an engine has the disk.
 ghost use Rattle.std.specs.Prelude.{◌≡◌, ◌≤◌, ℕ, List};
-ghost use Rattle.core_state.specs.Openings.{Opening};
+ghost use Rattle.disk_runs.specs.core_state.Openings.{Opening};
 ghost use Rattle.core_calls.specs.Fronts.{Done};
 ghost use Rattle.map_model.specs.Journals.{Name};
 ghost use Rattle.lean_disk.specs.Faults.{HasCause};

@@ -5,19 +5,19 @@ use Rattle.std.specs.Result.{IsErrAnd, OnOk}
 use Rattle.lean_disk.specs.Moments.{CrashIn, Framed, LeavesOnly}
 use Rattle.lean_disk.specs.Story.{Crash, Story, Tells}
 use Rattle.lean_disk.proofs.MomentLemmas.{weaker}
-use Rattle.log_record.specs.declared.record.Record.{Record}
-use Rattle.core_state.specs.Openings.{Opening}
-use Rattle.core_state.specs.Events.{Event}
-use Rattle.disk_image.specs.Laws.{EverySealed}
-use Rattle.worker_log.specs.Accounts.{Account}
-use Rattle.worker_log.specs.Calls.{After, flushed_log}
-use Rattle.worker_log.specs.Logs.{Log, limit, used}
-use Rattle.worker_log.specs.Causes.{IsFull, IsLogFull}
-use Rattle.worker_log.specs.declared.log.Staging.{Staging}
-use Rattle.log_block.specs.Block.{records_text}
-use Rattle.worker_log.specs.Kept.{IsInRange, IsKept, LeavesBlocks, StagesTo, flushed}
-use Rattle.worker_log.specs.Laws.{EveryFlushed, EveryKept, EveryPrefix, EveryStaged}
-use Rattle.core_disk.specs.Versions.{EveryVersion}
+use Rattle.disk_runs.specs.log_record.declared.record.Record.{Record}
+use Rattle.disk_runs.specs.core_state.Openings.{Opening}
+use Rattle.disk_runs.specs.core_state.Events.{Event}
+use Rattle.disk_runs.specs.disk_image.Laws.{EverySealed}
+use Rattle.disk_runs.specs.worker_log.Accounts.{Account}
+use Rattle.disk_runs.specs.worker_log.Calls.{After, flushed_log}
+use Rattle.disk_runs.specs.worker_log.Logs.{Log, limit, used}
+use Rattle.disk_runs.specs.worker_log.Causes.{IsFull, IsLogFull}
+use Rattle.disk_runs.specs.worker_log.declared.log.Staging.{Staging}
+use Rattle.disk_runs.specs.log_block.Block.{records_text}
+use Rattle.disk_runs.specs.worker_log.Kept.{IsInRange, IsKept, LeavesBlocks, StagesTo, flushed}
+use Rattle.disk_runs.specs.worker_log.Laws.{EveryFlushed, EveryKept, EveryPrefix, EveryStaged}
+use Rattle.disk_runs.specs.core_disk.Versions.{EveryVersion}
 use Rattle.disk_runs.specs.Stands.{Known}
 use Rattle.disk_runs.proofs.StandLemmas.{every_flush, every_log_call, every_stage}
 use Rattle.log_calls.specs.Calls.{Anything, FlushesOn, IsLog, KeepsMoments, KeepsNotes, KeepsWithin, StagesOn}

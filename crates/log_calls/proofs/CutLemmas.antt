@@ -1,14 +1,14 @@
 -- The master of a cut is the next of a run.
 use Rattle.std.proofs.Common.{◌≡◌}
-use Rattle.core_state.specs.Events.{Event}
-use Rattle.disk_image.specs.Laws.{EverySealed}
-use Rattle.disk_slots.specs.declared.master.Master.{Master}
+use Rattle.disk_runs.specs.core_state.Events.{Event}
+use Rattle.disk_runs.specs.disk_image.Laws.{EverySealed}
+use Rattle.disk_runs.specs.disk_slots.declared.master.Master.{Master}
 use Rattle.lean_disk.specs.Story.{Story}
 use Rattle.lean_disk.specs.declared.disk.Did.{Did}
 use Rattle.lean_disk.specs.declared.disk.Did.TheVariants as did
-use Rattle.worker_log.specs.Laws.{EveryKept, EveryPassed, EveryPrefix}
-use Rattle.worker_log.specs.Laws as logs
-use Rattle.core_disk.specs.Versions.{EveryVersion}
+use Rattle.disk_runs.specs.worker_log.Laws.{EveryKept, EveryPassed, EveryPrefix}
+use Rattle.disk_runs.specs.worker_log.Laws as logs
+use Rattle.disk_runs.specs.core_disk.Versions.{EveryVersion}
 use Rattle.disk_runs.specs.MasterLaws.{WritesNext, with_cut}
 use Rattle.disk_runs.specs.Rings.{heads_of, passed_of}
 use Rattle.disk_runs.proofs.CutLemmas.{every_cut}

@@ -1,19 +1,19 @@
 -- The master of a sync is the next of a run.
 use Rattle.std.proofs.Common.{◌≡◌, ◌*◌, ◌%◌}
-use Rattle.core_state.specs.Events.{Event}
-use Rattle.disk_image.specs.Laws.{EverySealed}
-use Rattle.disk_slots.specs.declared.master.Master.{Master}
+use Rattle.disk_runs.specs.core_state.Events.{Event}
+use Rattle.disk_runs.specs.disk_image.Laws.{EverySealed}
+use Rattle.disk_runs.specs.disk_slots.declared.master.Master.{Master}
 use Rattle.lean_disk.specs.Moments.{CrashIn, LeavesOnly}
 use Rattle.lean_disk.specs.Story.{Story}
 use Rattle.lean_disk.specs.declared.disk.Did.{Did}
 use Rattle.lean_disk.specs.declared.disk.Did.TheVariants as did
-use Rattle.worker_log.specs.Laws.{EveryKept, EveryPrefix}
-use Rattle.core_disk.specs.Versions.{EveryVersion}
+use Rattle.disk_runs.specs.worker_log.Laws.{EveryKept, EveryPrefix}
+use Rattle.disk_runs.specs.core_disk.Versions.{EveryVersion}
 use Rattle.disk_runs.specs.MasterLaws.{WritesNext, with_sync}
 use Rattle.disk_runs.proofs.NextLemmas.{every_next_master, every_sync}
 use Rattle.lean_disk.proofs.MomentLemmas.{weaker}
-use Rattle.disk_slots.specs.Masters.{master_slot}
-use Rattle.master_store.specs.Masters.{WritesOnce}
+use Rattle.disk_runs.specs.disk_slots.Masters.{master_slot}
+use Rattle.disk_runs.specs.master_store.Masters.{WritesOnce}
 use Rattle.log_calls.specs.Calls.{Anything}
 use Rattle.log_calls.specs.Syncs.{KeepsEither, SyncsOn}
 

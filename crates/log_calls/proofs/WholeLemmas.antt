@@ -4,26 +4,26 @@ use Rattle.std.proofs.lemmas.List.{append-nil, nil_from_length}
 use Rattle.std.proofs.lemmas.Bool.{cases_lt, and_from, eq-eqb, ne_eqb, le-leb, cond-true, cond-false}
 use Rattle.map_model.specs.Lists.{Has, any}
 use Rattle.map_model.proofs.ListLemmas.{has_any, has_left, has_right, upd_same, upd_other}
-use Rattle.image_model.specs.Entries.{is_record}
+use Rattle.disk_runs.specs.image_model.Entries.{is_record}
 use Rattle.lean_disk.specs.Area.{Area}
 use Rattle.lean_disk.specs.Moments.{CrashIn}
 use Rattle.lean_disk.specs.Story.{Crash, IsLawful, Story}
 use Rattle.lean_disk.proofs.MomentLemmas.{started}
-use Rattle.log_record.specs.declared.record.Record.{Record}
-use Rattle.disk_image.specs.Laws.{EverySealed}
-use Rattle.worker_log.specs.Accounts.{Account, joined}
-use Rattle.worker_log.specs.Calls.{flushed_log}
-use Rattle.worker_log.specs.Kept.{IsKept, flushed}
-use Rattle.worker_log.specs.Laws.{EveryKept, EveryPrefix}
-use Rattle.worker_log.specs.Logs.{Log}
-use Rattle.worker_log.proofs.ListLemmas.{has_first, rise-has, none_left, fit_blocks-drop, joined-dropped}
-use Rattle.core_state.specs.Openings.{Opening}
-use Rattle.core_state.specs.States.{State, start}
-use Rattle.core_state.specs.Events.{Event}
-use Rattle.core_state.specs.Needs.{may}
-use Rattle.core_state.specs.Steps.{AllMet, happens, state_after}
-use Rattle.core_state.proofs.Runs.{run_more}
-use Rattle.core_disk.specs.Versions.{then}
+use Rattle.disk_runs.specs.log_record.declared.record.Record.{Record}
+use Rattle.disk_runs.specs.disk_image.Laws.{EverySealed}
+use Rattle.disk_runs.specs.worker_log.Accounts.{Account, joined}
+use Rattle.disk_runs.specs.worker_log.Calls.{flushed_log}
+use Rattle.disk_runs.specs.worker_log.Kept.{IsKept, flushed}
+use Rattle.disk_runs.specs.worker_log.Laws.{EveryKept, EveryPrefix}
+use Rattle.disk_runs.specs.worker_log.Logs.{Log}
+use Rattle.disk_runs.proofs.worker_log_lemmas.ListLemmas.{has_first, rise-has, none_left, fit_blocks-drop, joined-dropped}
+use Rattle.disk_runs.specs.core_state.Openings.{Opening}
+use Rattle.disk_runs.specs.core_state.States.{State, start}
+use Rattle.disk_runs.specs.core_state.Events.{Event}
+use Rattle.disk_runs.specs.core_state.Needs.{may}
+use Rattle.disk_runs.specs.core_state.Steps.{AllMet, happens, state_after}
+use Rattle.disk_runs.proofs.core_state_lemmas.Runs.{run_more}
+use Rattle.disk_runs.specs.core_disk.Versions.{then}
 use Rattle.disk_runs.specs.Laws.{with_log}
 use Rattle.disk_runs.specs.Logs.{Flushes}
 use Rattle.disk_runs.specs.MasterLaws.{IsAllSynced}

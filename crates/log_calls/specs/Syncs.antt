@@ -1,11 +1,11 @@
 -- The master of a sync.
 use Rattle.std.specs.Prelude.{ℕ, List}
-use Rattle.core_state.specs.Openings.{Opening}
-use Rattle.core_state.specs.Events.{Event}
+use Rattle.disk_runs.specs.core_state.Openings.{Opening}
+use Rattle.disk_runs.specs.core_state.Events.{Event}
 use Rattle.lean_disk.specs.Moments.{LeavesOnly}
 use Rattle.lean_disk.specs.Story.{Crash, Story}
-use Rattle.disk_slots.specs.declared.master.Master.{Master}
-use Rattle.core_disk.specs.Versions.{then}
+use Rattle.disk_runs.specs.disk_slots.declared.master.Master.{Master}
+use Rattle.disk_runs.specs.core_disk.Versions.{then}
 use Rattle.disk_runs.specs.MasterLaws.{IsSync, LeavesEither, with_sync}
 use Rattle.disk_runs.specs.Stands.{Known, Stands}
 

@@ -1,13 +1,13 @@
 -- A flush of all that a log has, where it has something new, as a sync needs of each log.
 use Rattle.std.specs.Prelude.{◌≡◌, ℕ, true, ◌==◌, List, [], ◌∷◌, ◌++◌, if◌then◌else◌}
 use Rattle.map_model.specs.Lists.{Has}
-use Rattle.image_model.specs.Entries.{Entry, is_record}
-use Rattle.core_state.specs.Openings.{Opening}
-use Rattle.core_state.specs.States.{State}
-use Rattle.core_state.specs.Events.{Event}
-use Rattle.core_state.specs.Steps.{AllMet, state_after}
+use Rattle.disk_runs.specs.image_model.Entries.{Entry, is_record}
+use Rattle.disk_runs.specs.core_state.Openings.{Opening}
+use Rattle.disk_runs.specs.core_state.States.{State}
+use Rattle.disk_runs.specs.core_state.Events.{Event}
+use Rattle.disk_runs.specs.core_state.Steps.{AllMet, state_after}
 use Rattle.lean_disk.specs.Story.{Crash, Story}
-use Rattle.worker_log.specs.Logs.{Log}
+use Rattle.disk_runs.specs.worker_log.Logs.{Log}
 use Rattle.disk_runs.specs.MasterLaws.{IsAllSynced}
 use Rattle.disk_runs.specs.Stands.{Known, Stands}
 use Rattle.log_calls.specs.Calls.{IsLog}

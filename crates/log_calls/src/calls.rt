@@ -2,17 +2,18 @@
 ghost use Rattle.std.specs.Prelude.{◌≡◌, ◌≤◌, ◌<◌, ◌+◌, ◌↔◌, Err, IfOk, IsErr, IsErrAnd, OnOk};
 ghost use Rattle.lean_disk.specs.Faults.{HasCause};
 ghost use Rattle.lean_disk.specs.Moments.{Framed};
-ghost use Rattle.log_record.specs.Spelling.{Fits};
-ghost use Rattle.worker_log.specs.Calls.{After, flushed_log};
-ghost use Rattle.worker_log.specs.Causes.{IsFull, IsLogFull};
-ghost use Rattle.worker_log.specs.Kept.{IsInRange};
-ghost use Rattle.worker_log.specs.Logs.{used};
+ghost use Rattle.disk_runs.specs.log_record.Spelling.{Fits};
+ghost use Rattle.disk_runs.specs.worker_log.Calls.{After, flushed_log};
+ghost use Rattle.disk_runs.specs.worker_log.Causes.{IsFull, IsLogFull};
+ghost use Rattle.disk_runs.specs.worker_log.Kept.{IsInRange};
+ghost use Rattle.disk_runs.specs.worker_log.Logs.{used};
 ghost use Rattle.log_calls.specs.Calls.{FlushesOn, KeepsMoments, KeepsNotes, KeepsWithin, StagesOn};
 
 use crate::parts::{flush_on, stage_end_on, stage_on};
+use disk_runs::log_record::Record;
+use disk_runs::worker_log::{DiskFault, Staging, WorkerLog};
+use disk_runs::{core_disk, disk_image, worker_log};
 use lean_disk::Disk;
-use log_record::Record;
-use worker_log::{DiskFault, Staging, WorkerLog};
 
 /// Puts the record of a change into log `number`.
 pub fn stage<D: Disk>(

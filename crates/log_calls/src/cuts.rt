@@ -6,7 +6,8 @@ ghost use Rattle.log_calls.specs.Calls.{Anything};
 ghost use Rattle.log_calls.specs.Cuts.{CutsOn, KeepsCut};
 
 use crate::syncs::write_on;
-use disk_slots::Master;
+use disk_runs::disk_slots::Master;
+use disk_runs::{core_disk, disk_image, worker_log};
 use lean_disk::{Did, Disk};
 
 /// Writes the master of a cut, the next one of the run, and syncs it. Behind it the head of each log passes the blocks that

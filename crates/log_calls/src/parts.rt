@@ -3,16 +3,16 @@ ghost use Rattle.std.specs.Prelude.{◌≡◌, ◌≤◌, ◌<◌, ◌+◌, ◌�
 ghost use Rattle.lean_disk.specs.Faults.{HasCause};
 ghost use Rattle.lean_disk.specs.Moments.{CrashIn, Framed, LeavesOnly};
 ghost use Rattle.lean_disk.specs.Story.{Tells};
-ghost use Rattle.log_record.specs.Spelling.{Fits};
-ghost use Rattle.worker_log.specs.Accounts.{Account};
-ghost use Rattle.worker_log.specs.Calls.{After, flushed_log};
-ghost use Rattle.worker_log.specs.Causes.{IsFull, IsLogFull};
-ghost use Rattle.worker_log.specs.Kept.{IsInRange, IsKept, LeavesBlocks, StagesTo, flushed};
-ghost use Rattle.worker_log.specs.Logs.{used};
+ghost use Rattle.disk_runs.specs.log_record.Spelling.{Fits};
+ghost use Rattle.disk_runs.specs.worker_log.Accounts.{Account};
+ghost use Rattle.disk_runs.specs.worker_log.Calls.{After, flushed_log};
+ghost use Rattle.disk_runs.specs.worker_log.Causes.{IsFull, IsLogFull};
+ghost use Rattle.disk_runs.specs.worker_log.Kept.{IsInRange, IsKept, LeavesBlocks, StagesTo, flushed};
+ghost use Rattle.disk_runs.specs.worker_log.Logs.{used};
 
+use disk_runs::log_record::Record;
+use disk_runs::worker_log::{DiskFault, Staging, WorkerLog};
 use lean_disk::{AreaOf, Disk};
-use log_record::Record;
-use worker_log::{DiskFault, Staging, WorkerLog};
 
 pub(crate) fn stage_on<D: Disk>(
     disk: &mut D,

@@ -4,14 +4,15 @@ ghost use Rattle.lean_disk.specs.Area.{synced, written};
 ghost use Rattle.lean_disk.specs.Faults.{HasCause};
 ghost use Rattle.lean_disk.specs.Moments.{CrashIn, Framed, LeavesOnly};
 ghost use Rattle.lean_disk.specs.Story.{Tells};
-ghost use Rattle.disk_slots.specs.Masters.{master_slot};
-ghost use Rattle.master_store.specs.Masters.{WritesOnce};
+ghost use Rattle.disk_runs.specs.disk_slots.Masters.{master_slot};
+ghost use Rattle.disk_runs.specs.master_store.Masters.{WritesOnce};
 ghost use Rattle.log_calls.specs.Calls.{Anything};
 ghost use Rattle.log_calls.specs.Syncs.{KeepsEither, SyncsOn};
 
-use disk_slots::Master;
+use disk_runs::disk_slots::Master;
+use disk_runs::master_store::write_next;
+use disk_runs::{core_disk, disk_image, worker_log};
 use lean_disk::{AreaOf, Did, Disk};
-use master_store::write_next;
 
 pub(crate) fn write_on<D: Disk>(disk: &mut D, master: &Master) -> Did
     ensures any_moment { LeavesOnly (D.story disk.old) (D.story disk.new) (CrashIn (D.story disk.old) 0 (WritesOnce (1024 * (master.now.sequence % 2)) (master_slot master.now) ((D.story disk.old).area 0))) }

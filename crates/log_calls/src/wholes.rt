@@ -1,15 +1,16 @@
 // A flush of log `number` as a sync needs it.
 ghost use Rattle.std.specs.Prelude.{◌≡◌, ◌≤◌, ◌+◌, IsErr, OnOk};
 ghost use Rattle.lean_disk.specs.Faults.{HasCause};
-ghost use Rattle.worker_log.specs.Calls.{flushed_log};
-ghost use Rattle.worker_log.specs.Kept.{IsInRange};
+ghost use Rattle.disk_runs.specs.worker_log.Calls.{flushed_log};
+ghost use Rattle.disk_runs.specs.worker_log.Kept.{IsInRange};
 ghost use Rattle.lean_disk.specs.Moments.{Framed};
 ghost use Rattle.log_calls.specs.Calls.{KeepsMoments, KeepsNotes, KeepsWithin};
 ghost use Rattle.log_calls.specs.Wholes.{FlushesWhole};
 
 use crate::calls::flush;
+use disk_runs::worker_log::{DiskFault, WorkerLog};
+use disk_runs::{disk_image, worker_log};
 use lean_disk::Disk;
-use worker_log::{DiskFault, WorkerLog};
 
 /// Flushes log `number`, if something of it is not flushed yet: nothing is left then, and no device is called where nothing was.
 pub fn flush_whole<D: Disk>(disk: &mut D, log: &mut WorkerLog, number: u32) -> Result<(), DiskFault>

@@ -1,16 +1,16 @@
 -- A slot that is read is one that stands there.
 use Rattle.std.proofs.Common.{◌≡◌, ◌+◌, ◌-◌, ◌*◌, ◌++◌, List, ℕ, Option, Some, None, codes, drop, length, min, take, refl, sym, ap, subst, ◌∙◌, arith}
-use Rattle.image_model.specs.Fair.{piece}
+use Rattle.page_store.specs.image_model.Fair.{piece}
 use Rattle.page_store.specs.Saved.{place_of}
 use Rattle.page_store.proofs.PieceLemmas.{read_piece}
-use Rattle.disk_slots.specs.Laws.{EveryMaster}
-use Rattle.disk_slots.specs.Masters.{IsMasterSlot}
-use Rattle.disk_slots.specs.Slots.{IsSealed}
-use Rattle.disk_slots.specs.declared.master.Master.{Master}
-use Rattle.disk_slots.specs.declared.refusal.Refusal.{Refusal}
-use Rattle.disk_slots.specs.declared.refusal.Refusal.TheVariants.{NoSeal, Malformed}
-use Rattle.disk_image.specs.Laws.{EveryMasterIn}
-use Rattle.disk_image.specs.MasterSlots.{master_in}
+use Rattle.page_store.specs.disk_slots.Laws.{EveryMaster}
+use Rattle.page_store.specs.disk_slots.Masters.{IsMasterSlot}
+use Rattle.page_store.specs.disk_slots.Slots.{IsSealed}
+use Rattle.page_store.specs.disk_slots.declared.master.Master.{Master}
+use Rattle.page_store.specs.disk_slots.declared.refusal.Refusal.{Refusal}
+use Rattle.page_store.specs.disk_slots.declared.refusal.Refusal.TheVariants.{NoSeal, Malformed}
+use Rattle.page_store.specs.disk_image.Laws.{EveryMasterIn}
+use Rattle.page_store.specs.disk_image.MasterSlots.{master_in}
 
 -- bytes that are refused hold no master
 pub no_master : EveryMaster → EveryMasterIn → (slot : ℕ) (bytes : List ℕ) (e : Refusal) → (e ≡ NoSeal → IsSealed (codes "LEANMAST") bytes → ⊥)

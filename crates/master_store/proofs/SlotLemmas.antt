@@ -2,13 +2,13 @@
 use Rattle.std.proofs.Common.{◌≡◌, ◌⊎◌, ◌≤◌, ◌<◌, ◌+◌, ◌-◌, ◌*◌, ◌%◌, ℕ, zero, suc, Bool, true, false, cond, ltb, List, [], length, Option, Some, None, refl, sym, ap, ◌∙◌, subst, inl, inr, ⊎_elim, arith}
 use Rattle.std.proofs.lemmas.Bool.{cases_lt, lt-ltb, le-ltb, cond-true, cond-false}
 use Rattle.std.proofs.lemmas.Option.{none-some}
-use Rattle.image_model.specs.Fair.{piece}
+use Rattle.page_store.specs.image_model.Fair.{piece}
 use Rattle.lean_disk.specs.Area.{Area, Leaves, torn, IsApart}
-use Rattle.disk_slots.specs.Masters.{IsMaster, IsMasterSlot, master_slot}
-use Rattle.disk_slots.specs.declared.master.Master.{Master}
-use Rattle.disk_slots.proofs.LawLemmas.{every_master}
-use Rattle.disk_image.specs.MasterSlots.{master_in, master_on, newer}
-use Rattle.disk_image.proofs.MasterSlotLemmas.{every_master_in}
+use Rattle.page_store.specs.disk_slots.Masters.{IsMaster, IsMasterSlot, master_slot}
+use Rattle.page_store.specs.disk_slots.declared.master.Master.{Master}
+use Rattle.page_store.proofs.disk_slots_lemmas.LawLemmas.{every_master}
+use Rattle.page_store.specs.disk_image.MasterSlots.{master_in, master_on, newer}
+use Rattle.page_store.proofs.disk_image_lemmas.MasterSlotLemmas.{every_master_in}
 use Rattle.page_store.proofs.PieceLemmas.{same_piece, piece_within}
 use Rattle.master_store.specs.Masters.{IsOfSlot}
 

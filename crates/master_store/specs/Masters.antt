@@ -1,11 +1,11 @@
 -- The master's area: the masters that a run has written, which of them counts, and what a crash leaves.
 use Rattle.std.specs.Prelude.{◌≡◌, ◌⊎◌, ◌*◌, ◌%◌, ℕ, suc, List, [], ◌∷◌, ◌++◌, length, Option, Some, None, codes}
-use Rattle.image_model.specs.Fair.{IsFair}
+use Rattle.page_store.specs.image_model.Fair.{IsFair}
 use Rattle.lean_disk.specs.Area.{Area, Leaves, Write, torn}
-use Rattle.disk_slots.specs.Masters.{IsMaster, master_slot}
-use Rattle.disk_slots.specs.Slots.{IsSealed}
-use Rattle.disk_slots.specs.declared.master.Master.{Master}
-use Rattle.disk_image.specs.MasterSlots.{master_on}
+use Rattle.page_store.specs.disk_slots.Masters.{IsMaster, master_slot}
+use Rattle.page_store.specs.disk_slots.Slots.{IsSealed}
+use Rattle.page_store.specs.disk_slots.declared.master.Master.{Master}
+use Rattle.page_store.specs.disk_image.MasterSlots.{master_on}
 
 -- a master of one of the slots
 abbrev pub IsOfSlot : Master → Type 0

@@ -1,16 +1,16 @@
 // The master that counts.
 ghost use Rattle.std.specs.Prelude.{◌≡◌, ◌<◌, ◌*◌, ℕ, IfOk, IfSome, IsErr};
-ghost use Rattle.image_model.specs.Fair.{piece};
+ghost use Rattle.page_store.specs.image_model.Fair.{piece};
 ghost use Rattle.lean_disk.specs.Faults.{HasCause};
 ghost use Rattle.lean_disk.specs.Moments.{OnlyReads};
 ghost use Rattle.lean_disk.specs.Story.{Tells};
-ghost use Rattle.disk_image.specs.MasterSlots.{master_in, master_on};
-ghost use Rattle.disk_image.specs.MasterSlots as slots;
+ghost use Rattle.page_store.specs.disk_image.MasterSlots.{master_in, master_on};
+ghost use Rattle.page_store.specs.disk_image.MasterSlots as slots;
 ghost use Rattle.master_store.specs.Masters.{IsOfSlot};
 
-use disk_image::every_master_in;
-use disk_slots::{Master, every_master, read_master};
 use lean_disk::{Part, Read};
+use page_store::disk_image::every_master_in;
+use page_store::disk_slots::{Master, every_master, read_master};
 
 /// The disk answered no.
 #[derive(Clone, Copy, Debug, PartialEq, Eq)]

@@ -4,11 +4,11 @@ ghost use Rattle.lean_disk.specs.Area.{synced, written};
 ghost use Rattle.lean_disk.specs.Faults.{HasCause};
 ghost use Rattle.lean_disk.specs.Moments.{CrashIn, Framed, LeavesOnly};
 ghost use Rattle.lean_disk.specs.Story.{Tells};
-ghost use Rattle.disk_slots.specs.Masters.{master_slot};
+ghost use Rattle.page_store.specs.disk_slots.Masters.{master_slot};
 ghost use Rattle.master_store.specs.Masters.{Account, IsKept, IsNextOf, LeavesMasters, WritesOnce, wrote};
 
-use disk_slots::{Master, master_bytes};
 use lean_disk::{Did, Part};
+use page_store::disk_slots::{Master, master_bytes};
 
 /// Writes a master to the slot of its sequence number, and syncs it.
 pub fn write_next<P: Part>(dev: &mut P, master: &Master) -> Did

@@ -4,7 +4,7 @@ use Rattle.std.proofs.lemmas.Bool.{cond-true, cond-false, eq-eqb, ne_eqb}
 use Rattle.std.proofs.lemmas.List.{length_push, map-set, get_or-map}
 use Rattle.std.proofs.Math.Seq.{map-set_same}
 use Rattle.std.specs.declared.alloc.Global.{Global}
-use Rattle.image_model.specs.Entries.{Entry, is_record}
+use Rattle.core_commit.specs.image_model.Entries.{Entry, is_record}
 use Rattle.mem_journal.specs.declared.log.Record.{Record}
 use Rattle.mem_journal.specs.Logs.{count_of, records_of, with_record}
 use Rattle.mem_journal.proofs.WorkerLemmas.{each_set}

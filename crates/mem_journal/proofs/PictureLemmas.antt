@@ -3,12 +3,12 @@ use Rattle.std.proofs.Common.{◌≡◌, ℕ, suc, ◌<◌, ◌≤◌, Bool, tru
 use Rattle.std.proofs.lemmas.Bool.{cond-false}
 use Rattle.map_model.specs.Lists.{upd}
 use Rattle.page_model.specs.Pairs.{find, put}
-use Rattle.image_model.specs.Entries.{Kind, Entry, is_commit, is_record, Contents}
-use Rattle.core_state.specs.States.{State, Worker, is_hot}
-use Rattle.core_state.specs.Openings.{Opening}
-use Rattle.core_state.specs.Events.{Event}
-use Rattle.core_state.specs.Needs.{is_held_by}
-use Rattle.core_state.specs.Steps.{touch, at_pages, at_row, begun, finished, end_entry, read_entry, write_entry, writes, reads, happens}
+use Rattle.core_commit.specs.image_model.Entries.{Kind, Entry, is_commit, is_record, Contents}
+use Rattle.core_commit.specs.core_state.States.{State, Worker, is_hot}
+use Rattle.core_commit.specs.core_state.Openings.{Opening}
+use Rattle.core_commit.specs.core_state.Events.{Event}
+use Rattle.core_commit.specs.core_state.Needs.{is_held_by}
+use Rattle.core_commit.specs.core_state.Steps.{touch, at_pages, at_row, begun, finished, end_entry, read_entry, write_entry, writes, reads, happens}
 use Rattle.flush_avoidance.specs.Clocks as clocks
 use Rattle.transactions.specs.declared.hindrance.Mode as modes
 use Rattle.transactions.specs.Memory.{mode_of}
@@ -81,7 +81,7 @@ begins g s v w f p l =
 
 pub looks : (g : Opening) (s : State) (v : View) (w k : ℕ) (answer : Option ℕ) → Pictures g s v → w < length v.workers → Pictures g (happens g s (Event.Read w 0 k answer)) (after_read v w)
 looks g s v w k answer p l =
-    let r = read_entry w (at_pages s w (s.worker w) (0 ∷ [])) k (Rattle.image_model.specs.Entries.word_in g.format (s.page 0).node k) (is_held_by (s.row (g.row_of k)).holder w) in
+    let r = read_entry w (at_pages s w (s.worker w) (0 ∷ [])) k (Rattle.core_commit.specs.image_model.Entries.word_in g.format (s.page 0).node k) (is_held_by (s.row (g.row_of k)).holder w) in
     stepped g s (happens g s (Event.Read w 0 k answer)) v w (touch w (s.worker w) (s.page 0).gsn (s.page 0).last) (record (worker_at v w) { clock = clocks.after_touch w (worker_at v w).clock v.number v.log }) p l
     refl refl (λ i n h. record_more r s.entries i n h) (met w s v g (s.worker w) (worker_at v w) p (p.worker w l).like) refl refl refl refl refl refl (λ i. refl)
 
@@ -134,7 +134,7 @@ unlocks g s v w i p l few n =
       log = p.log;
       hot = p.hot;
       row = each_set (λ j x. IsRow (s.row j) x) (λ j x. IsRow (t.row j) x) v.rows no_row i now n (λ j ne x y. subst (λ o. IsRow o x) (sym (upd_apart s.row i j _ ne)) y) p.row
-          (subst (λ o. IsRow o now) (sym (upd_here s.row i _)) (subst (λ (m : ℕ). IsRow (Rattle.core_state.specs.Steps.unlocked (s.row i) w m) now) (sym (p.worker w l).like.end) (unlocked_row (s.row i) r w (worker_at v w).end few (p.row i n))));
+          (subst (λ o. IsRow o now) (sym (upd_here s.row i _)) (subst (λ (m : ℕ). IsRow (Rattle.core_commit.specs.core_state.Steps.unlocked (s.row i) w m) now) (sym (p.worker w l).like.end) (unlocked_row (s.row i) r w (worker_at v w).end few (p.row i n))));
       worker = λ j m. let x = p.worker j m in record { like = x.like; flushed = x.flushed; ended = x.ended };
       other = p.other;
       records = p.records;
@@ -243,5 +243,5 @@ changes g s v w k x p l in_log =
 pub puts_back : (g : Opening) (s : State) (v : View) (w : ℕ) (c : Entry) (cs : List Entry) → (s.worker w).changes ≡ c ∷ cs → Pictures g s v → w < length v.workers → w < length v.logs → Pictures g (happens g s (Event.Put_back w 0)) (after_write v w c.key c.before)
 puts_back g s v w c cs e p l in_log =
     let r = write_entry g Kind.Put_back s w (at_pages s w (s.worker w) (0 ∷ [])) 0 c.key c.before in
-    subst (λ (t : State). Pictures g t (after_write v w c.key c.before)) (sym (ap (Rattle.core_state.specs.Steps.put_back g s w 0) e))
+    subst (λ (t : State). Pictures g t (after_write v w c.key c.before)) (sym (ap (Rattle.core_commit.specs.core_state.Steps.put_back g s w 0) e))
     (wrote g s (writes g s Kind.Put_back w 0 c.key c.before (λ _. cs)) v w c.key c.before r cs p l in_log refl refl refl refl refl refl refl refl refl)

@@ -6,14 +6,14 @@ use Rattle.page_model.specs.Pairs.{Pair, find}
 use Rattle.page_model.specs.Redo.{is_some}
 use Rattle.page_model.specs.Tree.{value_of}
 use Rattle.rfa_model.specs.Reaches.{least}
-use Rattle.image_model.specs.Entries.{Entry}
-use Rattle.core_state.specs.States.{State, start, flushed_by_all, is_hot}
-use Rattle.core_state.specs.Openings.{Opening}
-use Rattle.core_state.specs.Events.{Event}
-use Rattle.core_state.specs.Lists.{is_empty}
-use Rattle.core_state.specs.Needs.{is_worker, holds_row, is_held_by, is_reader, may_hold, may, is_value, value_in}
-use Rattle.core_state.specs.Steps.{happens, state_after}
-use Rattle.core_state.proofs.Runs.{run_more}
+use Rattle.core_commit.specs.image_model.Entries.{Entry}
+use Rattle.core_commit.specs.core_state.States.{State, start, flushed_by_all, is_hot}
+use Rattle.core_commit.specs.core_state.Openings.{Opening}
+use Rattle.core_commit.specs.core_state.Events.{Event}
+use Rattle.core_commit.specs.core_state.Lists.{is_empty}
+use Rattle.core_commit.specs.core_state.Needs.{is_worker, holds_row, is_held_by, is_reader, may_hold, may, is_value, value_in}
+use Rattle.core_commit.specs.core_state.Steps.{happens, state_after}
+use Rattle.core_commit.proofs.core_state_lemmas.Runs.{run_more}
 use Rattle.core_commit.proofs.FloorLemmas.{every_floor}
 use Rattle.core_commit.proofs.HolderLemmas.{every_holder}
 use Rattle.transactions.specs.declared.hindrance.Hindrance.{Hindrance}
@@ -89,8 +89,8 @@ pages g s v p = lt-ltb 0 g.format.pages p.pages
 
 may_read : (g : Opening) (s : State) (v : View) (w k : ℕ) (answer : Option ℕ) → Pictures g s v → k < v.keys → answer ≡ live_value (find k v.pairs) → (s.worker w).is_open ≡ true → holds_row (s.row (g.row_of k)) w ≡ true → may g s (Event.Read w 0 k answer) ≡ true
 may_read g s v w k answer p l e o h =
-    and_from (is_hot (s.place 0) && true) (Rattle.core_state.specs.Needs.may_read g s w 0 k && is_value answer (value_in g.format (s.page 0).node k)) (hot g s v p)
-    (and_from (Rattle.core_state.specs.Needs.may_read g s w 0 k) (is_value answer (value_in g.format (s.page 0).node k))
+    and_from (is_hot (s.place 0) && true) (Rattle.core_commit.specs.core_state.Needs.may_read g s w 0 k && is_value answer (value_in g.format (s.page 0).node k)) (hot g s v p)
+    (and_from (Rattle.core_commit.specs.core_state.Needs.may_read g s w 0 k) (is_value answer (value_in g.format (s.page 0).node k))
     (and_from (s.worker w).is_open (holds_row (s.row (g.row_of k)) w && (ltb 0 g.format.pages && holds (s.page 0).node k)) o
     (and_from (holds_row (s.row (g.row_of k)) w) (ltb 0 g.format.pages && holds (s.page 0).node k) h (and_from (ltb 0 g.format.pages) (holds (s.page 0).node k) (pages g s v p) (node_holds g s v k p l))))
     (ap₂ is_value e (value_live g s v k p) ∙ same_value (live_value (find k v.pairs))))
@@ -114,9 +114,9 @@ may_change g s v w k x p l small fits o few held =
 may_back : (g : Opening) (s : State) (v : View) (w k : ℕ) (c : Entry) (cs : List Entry) → Pictures g s v → k < v.keys → is_some (find k v.pairs) ≡ true → (s.worker w).is_open ≡ true → (s.worker w).changes ≡ c ∷ cs → c.key ≡ k → may g s (Event.Put_back w 0) ≡ true
 may_back g s v w k c cs p l has o e q =
     let n = (s.page 0).node in
-    and_from (is_hot (s.place 0) && true) ((s.worker w).is_open && Rattle.core_state.specs.Needs.may_put_back g n 0 (s.worker w).changes) (hot g s v p)
-    (and_from (s.worker w).is_open (Rattle.core_state.specs.Needs.may_put_back g n 0 (s.worker w).changes) o
-    (ap (Rattle.core_state.specs.Needs.may_put_back g n 0) e
+    and_from (is_hot (s.place 0) && true) ((s.worker w).is_open && Rattle.core_commit.specs.core_state.Needs.may_put_back g n 0 (s.worker w).changes) (hot g s v p)
+    (and_from (s.worker w).is_open (Rattle.core_commit.specs.core_state.Needs.may_put_back g n 0 (s.worker w).changes) o
+    (ap (Rattle.core_commit.specs.core_state.Needs.may_put_back g n 0) e
     ∙ and_from (ltb 0 g.format.pages) (holds n c.key && is_some (find c.key n.pairs)) (pages g s v p)
     (and_from (holds n c.key) (is_some (find c.key n.pairs)) (ap (holds n) q ∙ node_holds g s v k p l) (ap₂ (λ (j : ℕ) (ps : List Pair). is_some (find j ps)) q p.pairs ∙ has))))
 

@@ -2,10 +2,10 @@
 use Rattle.std.proofs.Common.{◌≡◌, ℕ, zero, suc, ◌<◌, Bool, true, false, cond, not, ◌&&◌, ◌||◌, ◌==◌, max, List, [], ◌∷◌, length, get_or, replicate, set, length-set, Option, Some, None, MatchOption, refl, sym, ap, ap₂, ◌∙◌, subst, inl, inr, arith, true≢false}
 use Rattle.std.proofs.lemmas.Bool.{cond-true, cond-false, eqb-true, eq-eqb}
 use Rattle.map_model.specs.Lists.{any, keep}
-use Rattle.core_state.specs.States as core
-use Rattle.core_state.specs.Events.{Mode}
-use Rattle.core_state.specs.Needs.{is_held_by, is_free, is_reader, may_hold}
-use Rattle.core_state.specs.Steps.{locked, unlocked}
+use Rattle.core_commit.specs.core_state.States as core
+use Rattle.core_commit.specs.core_state.Events.{Mode}
+use Rattle.core_commit.specs.core_state.Needs.{is_held_by, is_free, is_reader, may_hold}
+use Rattle.core_commit.specs.core_state.Steps.{locked, unlocked}
 use Rattle.transactions.specs.declared.hindrance.Mode as modes
 use Rattle.transactions.specs.declared.hindrance.Mode.TheVariants.{Shared, Alone}
 use Rattle.transactions.specs.Memory.{mode_of}

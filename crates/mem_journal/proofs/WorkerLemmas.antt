@@ -4,9 +4,9 @@ use Rattle.std.proofs.lemmas.Bool.{cases_eq, cond-false, eq-eqb, ne_eqb}
 use Rattle.std.proofs.lemmas.List.{get_or-set_same, get_or-set_other}
 use Rattle.map_model.specs.Lists.{upd, any}
 use Rattle.rfa_model.specs.Stamps.{owed, debt_at_begin, need_of}
-use Rattle.image_model.specs.Entries.{Kind, Entry, is_record}
-use Rattle.core_state.specs.States.{State, Row, Worker}
-use Rattle.core_state.specs.Steps.{touch, at_row, begun, finished, end_entry}
+use Rattle.core_commit.specs.image_model.Entries.{Kind, Entry, is_record}
+use Rattle.core_commit.specs.core_state.States.{State, Row, Worker}
+use Rattle.core_commit.specs.core_state.Steps.{touch, at_row, begun, finished, end_entry}
 use Rattle.flush_avoidance.specs.Clocks as clocks
 use Rattle.transactions.specs.declared.hindrance.Receipt.{Receipt}
 use Rattle.mem_journal.specs.declared.worker.Worker as own

@@ -1,7 +1,7 @@
 -- Logs in memory, and the core's records.
 use Rattle.std.specs.Prelude.{ℕ, suc, ◌==◌, ◌&&◌, List, [], ◌∷◌, ◌++◌, map, slice_index_or, slice_set, Vec, if◌then◌else◌}
 use Rattle.std.specs.declared.alloc.Global.{Global}
-use Rattle.image_model.specs.Entries.{Entry, is_record}
+use Rattle.core_commit.specs.image_model.Entries.{Entry, is_record}
 use Rattle.mem_journal.specs.declared.log.Record.{Record}
 
 -- each log's records, the oldest first

@@ -1,7 +1,7 @@
 -- An opening with one empty leaf.
 use Rattle.std.specs.Prelude.{◌<◌, ◌≤◌, ℕ}
 use Rattle.map_model.specs.Maps.{key_end}
-use Rattle.core_state.specs.Openings.{Opening}
+use Rattle.core_commit.specs.core_state.Openings.{Opening}
 use Rattle.transactions.specs.Memory.{IsUsual}
 use Rattle.mem_journal.specs.Places.{IsEmpty}
 

@@ -1,9 +1,9 @@
 -- For which events a place in memory stands.
 use Rattle.std.specs.Prelude.{◌≡◌, ◌≤◌, ◌<◌, ◌^◌, ℕ, suc, Bool, true, ltb, List, [], length}
-use Rattle.core_state.specs.States.{State, is_hot}
-use Rattle.core_state.specs.Openings.{Opening}
-use Rattle.core_state.specs.Events.{Event, Mode}
-use Rattle.core_state.specs.Steps.{state_after}
+use Rattle.core_commit.specs.core_state.States.{State, is_hot}
+use Rattle.core_commit.specs.core_state.Openings.{Opening}
+use Rattle.core_commit.specs.core_state.Events.{Event, Mode}
+use Rattle.core_commit.specs.core_state.Steps.{state_after}
 use Rattle.transactions.specs.declared.hindrance.Hindrance.{Hindrance}
 use Rattle.transactions.specs.declared.hindrance.Hindrance.TheVariants.{Conflict, NoPages, DiskFault}
 use Rattle.mem_journal.specs.declared.place.MemJournal.{MemJournal}

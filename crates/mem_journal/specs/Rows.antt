@@ -1,8 +1,8 @@
 -- Lock rows in memory, and the core's.
 use Rattle.std.specs.Prelude.{if◌then◌else◌, ◌≡◌, ◌<◌, ◌⊎◌, ◌==◌, ℕ, max, Bool, true, false, List, length, replicate, slice_index_or, slice_set, Some, None}
-use Rattle.core_state.specs.States as core
-use Rattle.core_state.specs.Events.{Mode}
-use Rattle.core_state.specs.Needs.{is_held_by, is_free, is_reader, may_hold}
+use Rattle.core_commit.specs.core_state.States as core
+use Rattle.core_commit.specs.core_state.Events.{Mode}
+use Rattle.core_commit.specs.core_state.Needs.{is_held_by, is_free, is_reader, may_hold}
 use Rattle.transactions.specs.declared.hindrance.Mode as modes
 use Rattle.transactions.specs.declared.hindrance.Mode.TheVariants.{Shared, Alone}
 use Rattle.mem_journal.specs.declared.row.Row.{Row}

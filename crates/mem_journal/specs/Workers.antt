@@ -1,8 +1,8 @@
 -- Workers in memory, and the core's.
 use Rattle.std.specs.Prelude.{◌≡◌, ◌<◌, ◌==◌, ◌&&◌, ℕ, true, List, if◌then◌else◌, [], ◌∷◌, ◌++◌}
 use Rattle.map_model.specs.Lists.{any}
-use Rattle.image_model.specs.Entries.{Entry, is_record, is_commit}
-use Rattle.core_state.specs.States as core
+use Rattle.core_commit.specs.image_model.Entries.{Entry, is_record, is_commit}
+use Rattle.core_commit.specs.core_state.States as core
 use Rattle.transactions.specs.declared.hindrance.Receipt.{Receipt}
 use Rattle.mem_journal.specs.declared.worker.Worker.{Worker}
 

@@ -1,8 +1,8 @@
 // The place: its parts, and what each event makes of them.
 ghost use Rattle.std.specs.Prelude.{◌≡◌, ◌+◌, ◌-◌, ◌<◌, ◌≤◌, ◌^◌, ℕ, suc, length, ltb, ◌||◌, true, IfOk};
 ghost use Rattle.rfa_model.specs.Reaches.{least};
-ghost use Rattle.core_state.specs.States.{start};
-ghost use Rattle.core_state.specs.Openings.{Opening};
+ghost use Rattle.core_commit.specs.core_state.States.{start};
+ghost use Rattle.core_commit.specs.core_state.Openings.{Opening};
 ghost use Rattle.page_model.specs.Pairs.{find};
 ghost use Rattle.page_model.specs.Redo.{is_some};
 ghost use Rattle.mem_journal.specs.Views.{view_of, worker_at, row_at, used_of, IsSession, after_begin, after_lock, after_read, after_write, after_end, after_unlock, after_flush, receipt_at};

@@ -1,7 +1,7 @@
 // Lock rows.
 ghost use Rattle.std.specs.Prelude.{◌≡◌, ◌<◌, length, MatchOption, true};
-ghost use Rattle.core_state.specs.States as core;
-ghost use Rattle.core_state.specs.Needs.{is_held_by, may_hold};
+ghost use Rattle.core_commit.specs.core_state.States as core;
+ghost use Rattle.core_commit.specs.core_state.Needs.{is_held_by, may_hold};
 ghost use Rattle.transactions.specs.Memory.{mode_of};
 ghost use Rattle.mem_journal.specs.Rows.{row_locked, row_unlocked, IsRow, IsLeastOther, IsInTheWay, HasNoOther};
 

@@ -5,7 +5,7 @@ use Rattle.page_model.specs.Needs.{key_at}
 use Rattle.page_model.specs.Nodes.{Format, Node}
 use Rattle.page_model.specs.Page.{Page, word_at}
 use Rattle.page_model.specs.Check.{all, is_rising, word_ok, is_child}
-use Rattle.btree_node.specs.Words.{IsOrdered}
+use Rattle.disk_image.specs.btree_node.Words.{IsOrdered}
 use Rattle.std.proofs.lemmas.Bool.{and_from, le-leb}
 use Rattle.node_tree.specs.Nodes.{nodes_of}
 use Rattle.node_tree.specs.Inside.{stands_below, fence_behind}

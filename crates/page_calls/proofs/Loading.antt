@@ -2,23 +2,23 @@
 use Rattle.std.proofs.Common.{◌≡◌, ◌<◌, ◌≤◌, ◌-◌, ℕ, Bool, true, false, not, cond, List, Option, Some, None, Result, Ok, Err, IfOk, slice_get, length, refl, sym, ap, subst, ◌∙◌, arith}
 use Rattle.std.proofs.lemmas.Option.{same_Some}
 use Rattle.page_model.specs.Page.{Page}
-use Rattle.core_state.specs.Openings.{Opening}
-use Rattle.core_state.specs.Events.{Event}
-use Rattle.core_state.specs.Steps.{state_after}
+use Rattle.disk_runs.specs.core_state.Openings.{Opening}
+use Rattle.disk_runs.specs.core_state.Events.{Event}
+use Rattle.disk_runs.specs.core_state.Steps.{state_after}
 use Rattle.lean_disk.specs.Moments.{AsAt, OnlyReads}
 use Rattle.lean_disk.specs.Story.{Crash, Story, Tells}
 use Rattle.lean_disk.proofs.MomentLemmas.{weaker}
-use Rattle.disk_image.specs.Laws.{EverySealed}
-use Rattle.disk_image.specs.PageSlots.{page_in}
-use Rattle.disk_image.specs.Shown.{page_slot_in}
-use Rattle.page_store.specs.Bases.{image_page}
-use Rattle.page_store.specs.Slots.{EverySeal, HasSeal, HoldsIn, IsOf, slot_bytes}
-use Rattle.page_store.specs.declared.known.Lost.{Lost}
-use Rattle.page_store.specs.declared.known.Lost.TheVariants as lost
-use Rattle.page_store.specs.declared.slot.Held.TheVariants as held
-use Rattle.page_store.specs.declared.slot.Seal.{Seal}
-use Rattle.page_store.specs.declared.slot.Seal.TheVariants as seal
-use Rattle.worker_log.specs.Laws.{EveryKept, EveryPrefix}
+use Rattle.disk_runs.specs.disk_image.Laws.{EverySealed}
+use Rattle.disk_runs.specs.disk_image.PageSlots.{page_in}
+use Rattle.disk_runs.specs.disk_image.Shown.{page_slot_in}
+use Rattle.disk_runs.specs.page_store.Bases.{image_page}
+use Rattle.disk_runs.specs.page_store.Slots.{EverySeal, HasSeal, HoldsIn, IsOf, slot_bytes}
+use Rattle.disk_runs.specs.page_store.declared.known.Lost.{Lost}
+use Rattle.disk_runs.specs.page_store.declared.known.Lost.TheVariants as lost
+use Rattle.disk_runs.specs.page_store.declared.slot.Held.TheVariants as held
+use Rattle.disk_runs.specs.page_store.declared.slot.Seal.{Seal}
+use Rattle.disk_runs.specs.page_store.declared.slot.Seal.TheVariants as seal
+use Rattle.disk_runs.specs.worker_log.Laws.{EveryKept, EveryPrefix}
 use Rattle.disk_runs.specs.Pages.{IsFirm, IsSpare, last_saved}
 use Rattle.disk_runs.specs.Stands.{Known, LeavesRun, Stands}
 use Rattle.disk_runs.proofs.StandLemmas.{every_rest, every_same}

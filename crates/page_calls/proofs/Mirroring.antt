@@ -6,25 +6,25 @@ use Rattle.std.proofs.lemmas.Option.{same_Some}
 use Rattle.map_model.specs.Lists.{Has, upd}
 use Rattle.map_model.proofs.ListLemmas.{upd_same, upd_other}
 use Rattle.page_model.specs.Page.{Page}
-use Rattle.image_model.specs.Entries.{Contents}
-use Rattle.image_model.specs.Fair.{piece}
-use Rattle.core_state.specs.Openings.{Opening}
-use Rattle.core_state.specs.Events.{Event}
-use Rattle.core_state.specs.Steps.{state_after}
+use Rattle.disk_runs.specs.image_model.Entries.{Contents}
+use Rattle.disk_runs.specs.image_model.Fair.{piece}
+use Rattle.disk_runs.specs.core_state.Openings.{Opening}
+use Rattle.disk_runs.specs.core_state.Events.{Event}
+use Rattle.disk_runs.specs.core_state.Steps.{state_after}
 use Rattle.lean_disk.specs.Area.{Area, IsApart, put_over}
 use Rattle.lean_disk.specs.Calls.{Synced, Wrote}
 use Rattle.lean_disk.specs.Moments.{OnlyReads}
 use Rattle.lean_disk.specs.Story.{Crash, IsLawful, Story, Tells}
 use Rattle.lean_disk.specs.declared.disk.Did.{Did}
 use Rattle.lean_disk.specs.declared.disk.Did.TheVariants as did
-use Rattle.disk_slots.specs.Laws.{EveryPage}
-use Rattle.disk_slots.specs.Pages.{IsPage, page_slot}
-use Rattle.disk_image.specs.PageSlots.{page_in}
-use Rattle.page_store.specs.Bases.{image_page}
-use Rattle.page_store.specs.Laws.{EveryRead, EveryWhole, IsRead}
-use Rattle.page_store.specs.Saved.{AreSaves, IsSave, Reaches, Save, place_of, saved}
-use Rattle.page_store.specs.Slots.{HoldsIn, slot_bytes}
-use Rattle.page_store.specs.declared.slot.Held.TheVariants as held
+use Rattle.disk_runs.specs.disk_slots.Laws.{EveryPage}
+use Rattle.disk_runs.specs.disk_slots.Pages.{IsPage, page_slot}
+use Rattle.disk_runs.specs.disk_image.PageSlots.{page_in}
+use Rattle.disk_runs.specs.page_store.Bases.{image_page}
+use Rattle.disk_runs.specs.page_store.Laws.{EveryRead, EveryWhole, IsRead}
+use Rattle.disk_runs.specs.page_store.Saved.{AreSaves, IsSave, Reaches, Save, place_of, saved}
+use Rattle.disk_runs.specs.page_store.Slots.{HoldsIn, slot_bytes}
+use Rattle.disk_runs.specs.page_store.declared.slot.Held.TheVariants as held
 use Rattle.disk_runs.specs.Pages.{IsFirm}
 use Rattle.disk_runs.specs.Stands.{Known}
 use Rattle.page_calls.specs.declared.slots.Slot.{Slot}

@@ -2,21 +2,21 @@
 use Rattle.std.proofs.Common.{◌≡◌, ◌<◌, ◌≤◌, ◌-◌, ℕ, Bool, true, false, List, map, Option, Some, None, slice_get, length, refl, sym, ap, subst, ◌∙◌, arith, inl, inr, true≢false}
 use Rattle.std.proofs.lemmas.Bool.{cases_eq}
 use Rattle.page_model.specs.Page.{Page}
-use Rattle.core_state.specs.Openings.{Opening}
-use Rattle.core_state.specs.Events.{Event}
-use Rattle.core_state.specs.Steps.{state_after}
+use Rattle.disk_runs.specs.core_state.Openings.{Opening}
+use Rattle.disk_runs.specs.core_state.Events.{Event}
+use Rattle.disk_runs.specs.core_state.Steps.{state_after}
 use Rattle.lean_disk.specs.Calls.{Synced, Wrote}
 use Rattle.lean_disk.specs.Moments.{CrashIn}
 use Rattle.lean_disk.proofs.MomentLemmas.{crash_in, framed, framed_wrote, goes_on, started}
 use Rattle.lean_disk.specs.Story.{Crash, IsLawful, Story}
 use Rattle.lean_disk.specs.declared.disk.Did.{Did}
 use Rattle.lean_disk.specs.declared.disk.Did.TheVariants as did
-use Rattle.disk_image.specs.Laws.{EverySealed}
-use Rattle.disk_slots.specs.Pages.{page_slot}
-use Rattle.page_store.specs.Bases.{image_page}
-use Rattle.page_store.specs.Saved.{place_of}
-use Rattle.worker_log.specs.Laws.{EveryKept, EveryPrefix}
-use Rattle.core_disk.specs.Versions.{EveryVersion}
+use Rattle.disk_runs.specs.disk_image.Laws.{EverySealed}
+use Rattle.disk_runs.specs.disk_slots.Pages.{page_slot}
+use Rattle.disk_runs.specs.page_store.Bases.{image_page}
+use Rattle.disk_runs.specs.page_store.Saved.{place_of}
+use Rattle.disk_runs.specs.worker_log.Laws.{EveryKept, EveryPrefix}
+use Rattle.disk_runs.specs.core_disk.Versions.{EveryVersion}
 use Rattle.disk_runs.specs.Pages.{IsBehind, last_saved}
 use Rattle.disk_runs.specs.PageLaws.{IsSave}
 use Rattle.disk_runs.specs.PageLaws as disk

@@ -1,23 +1,23 @@
 -- What a save of a page, a sync of all saves, and a load mean to a run of the core. In each, old and new are what the device tells before the call and after it.
 use Rattle.std.specs.Prelude.{◌≡◌, ◌<◌, ◌≤◌, ◌-◌, ℕ, true, List, length, map, Some, None, Result, Err, IfOk, slice_get, slice_index}
 use Rattle.page_model.specs.Page.{Page}
-use Rattle.core_state.specs.Openings.{Opening}
-use Rattle.core_state.specs.Events.{Event}
-use Rattle.core_state.specs.Needs.{may}
-use Rattle.core_state.specs.Steps.{state_after}
+use Rattle.disk_runs.specs.core_state.Openings.{Opening}
+use Rattle.disk_runs.specs.core_state.Events.{Event}
+use Rattle.disk_runs.specs.core_state.Needs.{may}
+use Rattle.disk_runs.specs.core_state.Steps.{state_after}
 use Rattle.lean_disk.specs.Area.{Write}
 use Rattle.lean_disk.specs.Moments.{CrashIn, LeavesOnly}
 use Rattle.lean_disk.specs.Story.{Crash, Story}
-use Rattle.disk_slots.specs.Pages.{IsPage}
-use Rattle.page_store.specs.Bases.{image_page}
-use Rattle.page_store.specs.Slots.{HasSeal, HoldsIn, slot_bytes}
-use Rattle.page_store.specs.declared.slot.Held.TheVariants as held
-use Rattle.page_store.specs.declared.known.Lost.{Lost}
-use Rattle.page_store.specs.declared.known.Lost.TheVariants as lost
-use Rattle.page_store.specs.declared.slot.Bounds.{Bounds}
-use Rattle.page_store.specs.declared.slot.Seal.{Seal}
-use Rattle.page_store.specs.declared.slot.Seal.TheVariants as seal
-use Rattle.core_disk.specs.Versions.{then}
+use Rattle.disk_runs.specs.disk_slots.Pages.{IsPage}
+use Rattle.disk_runs.specs.page_store.Bases.{image_page}
+use Rattle.disk_runs.specs.page_store.Slots.{HasSeal, HoldsIn, slot_bytes}
+use Rattle.disk_runs.specs.page_store.declared.slot.Held.TheVariants as held
+use Rattle.disk_runs.specs.page_store.declared.known.Lost.{Lost}
+use Rattle.disk_runs.specs.page_store.declared.known.Lost.TheVariants as lost
+use Rattle.disk_runs.specs.page_store.declared.slot.Bounds.{Bounds}
+use Rattle.disk_runs.specs.page_store.declared.slot.Seal.{Seal}
+use Rattle.disk_runs.specs.page_store.declared.slot.Seal.TheVariants as seal
+use Rattle.disk_runs.specs.core_disk.Versions.{then}
 use Rattle.disk_runs.specs.PageLaws.{with_late, with_settled}
 use Rattle.disk_runs.specs.Stands.{Known, LeavesRun, Stands}
 use Rattle.page_calls.specs.declared.slots.Slot.{Slot}

@@ -3,17 +3,17 @@
 use Rattle.std.specs.Prelude.{◌≡◌, ◌<◌, ◌≤◌, ◌+◌, ℕ, List, length, map, Some, slice_get, slice_index, false}
 use Rattle.map_model.specs.Lists.{upd}
 use Rattle.page_model.specs.Page.{Page}
-use Rattle.image_model.specs.Entries.{Contents}
-use Rattle.core_state.specs.Openings.{Opening}
-use Rattle.core_state.specs.Events.{Event}
-use Rattle.core_state.specs.Steps.{state_after}
+use Rattle.disk_runs.specs.image_model.Entries.{Contents}
+use Rattle.disk_runs.specs.core_state.Openings.{Opening}
+use Rattle.disk_runs.specs.core_state.Events.{Event}
+use Rattle.disk_runs.specs.core_state.Steps.{state_after}
 use Rattle.lean_disk.specs.Area.{Area, IsApart}
 use Rattle.lean_disk.specs.Story.{Crash, Story, Tells}
-use Rattle.disk_slots.specs.Pages.{IsPage}
-use Rattle.page_store.specs.Bases.{image_page}
-use Rattle.page_store.specs.Saved.{Reaches, place_of}
-use Rattle.page_store.specs.Slots.{HoldsIn, slot_bytes}
-use Rattle.page_store.specs.declared.slot.Held.TheVariants as held
+use Rattle.disk_runs.specs.disk_slots.Pages.{IsPage}
+use Rattle.disk_runs.specs.page_store.Bases.{image_page}
+use Rattle.disk_runs.specs.page_store.Saved.{Reaches, place_of}
+use Rattle.disk_runs.specs.page_store.Slots.{HoldsIn, slot_bytes}
+use Rattle.disk_runs.specs.page_store.declared.slot.Held.TheVariants as held
 use Rattle.disk_runs.specs.Stands.{Known}
 use Rattle.page_calls.specs.declared.slots.Slot.{Slot}
 use Rattle.page_calls.specs.Slots.{last_slot, opened_slot}

@@ -3,18 +3,19 @@ ghost use Rattle.std.specs.Prelude.{◌≡◌, ◌<◌, ◌^◌, ℕ, length, tr
 ghost use Rattle.lean_disk.specs.Faults.{HasCause};
 ghost use Rattle.lean_disk.specs.Moments.{Framed, OnlyReads};
 ghost use Rattle.lean_disk.specs.Story.{Tells};
-ghost use Rattle.page_store.specs.Slots.{HoldsIn, IsOf, slot_bytes};
-ghost use Rattle.page_store.specs.declared.slot.Held.{Held};
-ghost use Rattle.page_store.specs.declared.slot.Seal.{Seal};
+ghost use Rattle.disk_runs.specs.page_store.Slots.{HoldsIn, IsOf, slot_bytes};
+ghost use Rattle.disk_runs.specs.page_store.declared.slot.Held.{Held};
+ghost use Rattle.disk_runs.specs.page_store.declared.slot.Seal.{Seal};
 ghost use Rattle.page_calls.specs.declared.slots.Slot.{Slot};
 ghost use Rattle.page_calls.specs.Slots.{last_slot, saved_slot, settled_slot};
 ghost use Rattle.page_calls.specs.Calls.{IsDamaged, KeepsMoments, KeepsWithin, LoadsOn, ReadsOn, SavesMoments, SavesOn, SettlesOn, bounds_of};
 ghost use Rattle.page_calls.specs.Mirrors.{FailsMirrors, LoadsMirrored, KeepsMirrors, SavesMirrors};
 
 use crate::slots::{Slots, last_slot};
-use btree_node::Node;
+use disk_runs::btree_node::Node;
+use disk_runs::page_store::{Bounds, Lost, fetch_known};
+use disk_runs::{core_disk, disk_image, disk_slots, page_store, worker_log};
 use lean_disk::{Did, Part};
-use page_store::{Bounds, Lost, fetch_known};
 
 // The slot that is not this one.
 fn other(second: bool) -> u32

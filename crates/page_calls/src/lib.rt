@@ -11,6 +11,7 @@ mod calls;
 mod slots;
 
 pub use calls::{load, save, settle};
+use disk_runs::page_store;
 use lean_disk::{Disk, Part};
 pub use slots::{Slot, Slots};
 

@@ -5,27 +5,27 @@ use Rattle.std.proofs.lemmas.Bool.{eqb-true, eq-eqb, cases_eq}
 use Rattle.std.proofs.lemmas.List.{get_or-set_other, get_or-set_same}
 use Rattle.std.proofs.Common.{inl, inr}
 use Rattle.map_model.specs.Lists.{upd}
-use Rattle.core_state.specs.Lists.{all_below}
-use Rattle.core_state.specs.Openings.{Opening}
-use Rattle.core_state.specs.States.{Place, State, is_cooling, in_frame, waits_for}
-use Rattle.core_state.specs.Events as happening
-use Rattle.core_state.specs.Needs as core
-use Rattle.core_state.specs.Needs.{is_dirty}
-use Rattle.core_state.specs.Steps.{happens}
-use Rattle.core_paging.specs.Paging.{Residence}
-use Rattle.row_words.specs.declared.event.Event.{Event}
-use Rattle.row_words.specs.declared.event.Event.TheVariants as told
-use Rattle.row_words.specs.declared.given.Given.{Given}
-use Rattle.row_words.specs.Moments.{Moment, event_of, actor_of, pager, is_rising}
-use Rattle.row_words.specs.Openings.{opening}
-use Rattle.row_words.specs.Sealed.{stepped, Shown, changes}
-use Rattle.row_words.specs.Words.{ShowsPage, publishes_frame}
-use Rattle.row_words.proofs.Stays as words
-use Rattle.row_words.proofs.SealedLemmas.{run_append, calm_tame}
-use Rattle.rows_trait.specs.declared.view.View.{View}
-use Rattle.rows_trait.specs.Layout.{width}
-use Rattle.rows_trait.specs.Views.{Shape, Spells, state, after_all, holds, held_at, may}
-use Rattle.rows_trait.specs.Turns.{MayPublish}
+use Rattle.lean_proto.specs.core_state.Lists.{all_below}
+use Rattle.lean_proto.specs.core_state.Openings.{Opening}
+use Rattle.lean_proto.specs.core_state.States.{Place, State, is_cooling, in_frame, waits_for}
+use Rattle.lean_proto.specs.core_state.Events as happening
+use Rattle.lean_proto.specs.core_state.Needs as core
+use Rattle.lean_proto.specs.core_state.Needs.{is_dirty}
+use Rattle.lean_proto.specs.core_state.Steps.{happens}
+use Rattle.lean_proto.specs.core_paging.Paging.{Residence}
+use Rattle.lean_proto.specs.row_words.declared.event.Event.{Event}
+use Rattle.lean_proto.specs.row_words.declared.event.Event.TheVariants as told
+use Rattle.lean_proto.specs.row_words.declared.given.Given.{Given}
+use Rattle.lean_proto.specs.row_words.Moments.{Moment, event_of, actor_of, pager, is_rising}
+use Rattle.lean_proto.specs.row_words.Openings.{opening}
+use Rattle.lean_proto.specs.row_words.Sealed.{stepped, Shown, changes}
+use Rattle.lean_proto.specs.row_words.Words.{ShowsPage, publishes_frame}
+use Rattle.lean_proto.proofs.row_words_lemmas.Stays as words
+use Rattle.lean_proto.proofs.row_words_lemmas.SealedLemmas.{run_append, calm_tame}
+use Rattle.lean_proto.specs.rows_trait.declared.view.View.{View}
+use Rattle.lean_proto.specs.rows_trait.Layout.{width}
+use Rattle.lean_proto.specs.rows_trait.Views.{Shape, Spells, state, after_all, holds, held_at, may}
+use Rattle.lean_proto.specs.rows_trait.Turns.{MayPublish}
 use Rattle.lean_proto.specs.Ready.{IsReady}
 use Rattle.lean_proto.proofs.Moves.{Stays, save_again, row_changes, lone, first_of}
 use Rattle.lean_proto.proofs.Steady.{every_ready}
@@ -43,17 +43,17 @@ row_is s p q h = go (in_frame (s.place p) q) h
     go true x = refl
     go false x = x
 
-frame_changes : (v : Given) (m : Moment) (e : Event) (p q : ℕ) → ((r : ℕ) → publishes_frame (opening v) m.core (event_of e) r ≡ lone m.core p r) → ((j : ℕ) → Rattle.core_state.specs.Local.publishes_row (event_of e) j ≡ false) → changes v m e q ≡ true → in_frame (m.core.place p) q ≡ true
+frame_changes : (v : Given) (m : Moment) (e : Event) (p q : ℕ) → ((r : ℕ) → publishes_frame (opening v) m.core (event_of e) r ≡ lone m.core p r) → ((j : ℕ) → Rattle.lean_proto.specs.core_state.Local.publishes_row (event_of e) j ≡ false) → changes v m e q ≡ true → in_frame (m.core.place p) q ≡ true
 unfolding changes
 frame_changes v m e p q is none h = go (ltb q (opening v).frames) refl
   where
     go : (b : Bool) → ltb q (opening v).frames ≡ b → in_frame (m.core.place p) q ≡ true
-    go true t = row_is m.core p q (sym (is q) ∙ (sym (Rattle.std.proofs.lemmas.Bool.cond-true (ltb q (opening v).frames) (publishes_frame (opening v) m.core (event_of e) q) (Rattle.core_state.specs.Local.publishes_row (event_of e) (Rattle.std.proofs.Common.◌-◌ q (opening v).frames)) t) ∙ h))
-    go false t = absurd (true≢false (sym h ∙ (Rattle.std.proofs.lemmas.Bool.cond-false (ltb q (opening v).frames) (publishes_frame (opening v) m.core (event_of e) q) (Rattle.core_state.specs.Local.publishes_row (event_of e) (Rattle.std.proofs.Common.◌-◌ q (opening v).frames)) t ∙ none (Rattle.std.proofs.Common.◌-◌ q (opening v).frames))))
+    go true t = row_is m.core p q (sym (is q) ∙ (sym (Rattle.std.proofs.lemmas.Bool.cond-true (ltb q (opening v).frames) (publishes_frame (opening v) m.core (event_of e) q) (Rattle.lean_proto.specs.core_state.Local.publishes_row (event_of e) (Rattle.std.proofs.Common.◌-◌ q (opening v).frames)) t) ∙ h))
+    go false t = absurd (true≢false (sym h ∙ (Rattle.std.proofs.lemmas.Bool.cond-false (ltb q (opening v).frames) (publishes_frame (opening v) m.core (event_of e) q) (Rattle.lean_proto.specs.core_state.Local.publishes_row (event_of e) (Rattle.std.proofs.Common.◌-◌ q (opening v).frames)) t ∙ none (Rattle.std.proofs.Common.◌-◌ q (opening v).frames))))
 
 -- What is to be shown of an event of one row: its need at the later view, and the words of the row behind it.
 module _ {z : Shape} {v u : View} (row p : ℕ) (e : Event) (ws : List ℕ) (t : HoldsOne z v row) (on : IsPager z v) (here : IsIn v row p) (k : Wrote z.alone row ws v u)
-    (moves : actor_of e ≡ pager) (calm : is_rising e ≡ false) (is : (q : ℕ) → publishes_frame (opening v.given) (state u).core (event_of e) q ≡ lone (state u).core p q) (none : (j : ℕ) → Rattle.core_state.specs.Local.publishes_row (event_of e) j ≡ false) where
+    (moves : actor_of e ≡ pager) (calm : is_rising e ≡ false) (is : (q : ℕ) → publishes_frame (opening v.given) (state u).core (event_of e) q ≡ lone (state u).core p q) (none : (j : ℕ) → Rattle.lean_proto.specs.core_state.Local.publishes_row (event_of e) j ≡ false) where
   abbrev g : Opening
   g = opening v.given
 
@@ -126,7 +126,7 @@ module _ {z : Shape} {v u : View} (row p number : ℕ) (t : HoldsOne z v row) (c
     where
       residence : Residence g1 (stepped v.given (state u) (told.Save p)).core
       residence =
-          let e : stepped v.given (state u) (told.Save p) ≡ after_all v.given ((v.seen ++ k.waited.between) ++ told.Save p ∷ []) = ap (λ m. stepped v.given m (told.Save p)) (moment_is k.waited) ∙ sym (run_append v.given (Rattle.row_words.specs.Sealed.begun v.given) (v.seen ++ k.waited.between) (told.Save p ∷ [])) in
+          let e : stepped v.given (state u) (told.Save p) ≡ after_all v.given ((v.seen ++ k.waited.between) ++ told.Save p ∷ []) = ap (λ m. stepped v.given m (told.Save p)) (moment_is k.waited) ∙ sym (run_append v.given (Rattle.lean_proto.specs.row_words.Sealed.begun v.given) (v.seen ++ k.waited.between) (told.Save p ∷ [])) in
           subst (λ (m : Moment). Residence g1 m.core) (sym e) (c.on.order ((v.seen ++ k.waited.between) ++ told.Save p ∷ [])).places
 
       same : (j : ℕ) → j ≢ 127 → slice_index ws j ≡ slice_index (held_at v.held row).was j

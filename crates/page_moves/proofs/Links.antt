@@ -9,20 +9,20 @@ use Rattle.page_model.specs.Page.{word_at}
 use Rattle.page_model.specs.Tree.{Names, IsTree}
 use Rattle.page_model.specs.Check.{names_page}
 use Rattle.page_model.proofs.Tree.{only}
-use Rattle.btree_node.specs.Words.{words_of}
-use Rattle.core_state.specs.Openings.{Opening}
-use Rattle.core_state.specs.States.{Place, State, nodes_of, is_cooling, in_frame}
-use Rattle.core_state.specs.Local.{publishes_row}
-use Rattle.core_commit.proofs.Events.{names_to}
-use Rattle.core_paging.specs.Paging.{Residence}
-use Rattle.row_words.specs.declared.event.Event.{Event}
-use Rattle.row_words.specs.declared.given.Given.{Given}
-use Rattle.row_words.specs.Moments.{Moment, event_of}
-use Rattle.row_words.specs.Openings.{opening}
-use Rattle.row_words.specs.Sealed.{Shown, changes}
-use Rattle.row_words.specs.Words.{swip, swips, framed, framed_page, is_inner, ShowsPage, has_parent_in, publishes_frame}
-use Rattle.row_words.proofs.Frames.{framed_inner, framed_same, swips_length}
-use Rattle.row_words.proofs.Stays as words
+use Rattle.lean_proto.specs.btree_node.Words.{words_of}
+use Rattle.lean_proto.specs.core_state.Openings.{Opening}
+use Rattle.lean_proto.specs.core_state.States.{Place, State, nodes_of, is_cooling, in_frame}
+use Rattle.lean_proto.specs.core_state.Local.{publishes_row}
+use Rattle.lean_proto.proofs.core_commit_lemmas.Events.{names_to}
+use Rattle.lean_proto.specs.core_paging.Paging.{Residence}
+use Rattle.lean_proto.specs.row_words.declared.event.Event.{Event}
+use Rattle.lean_proto.specs.row_words.declared.given.Given.{Given}
+use Rattle.lean_proto.specs.row_words.Moments.{Moment, event_of}
+use Rattle.lean_proto.specs.row_words.Openings.{opening}
+use Rattle.lean_proto.specs.row_words.Sealed.{Shown, changes}
+use Rattle.lean_proto.specs.row_words.Words.{swip, swips, framed, framed_page, is_inner, ShowsPage, has_parent_in, publishes_frame}
+use Rattle.lean_proto.proofs.row_words_lemmas.Frames.{framed_inner, framed_same, swips_length}
+use Rattle.lean_proto.proofs.row_words_lemmas.Stays as words
 use Rattle.lean_proto.proofs.Lengths.{words-length}
 use Rattle.lean_proto.proofs.Loads.{names_from}
 use Rattle.lean_proto.proofs.Moves.{links, parent_in, any_of, first_of}

@@ -5,36 +5,36 @@ use Rattle.std.proofs.lemmas.Bool.{eq-eqb, eqb-true, ne_eqb, cond-true, cond-fal
 use Rattle.std.proofs.lemmas.List.{get_or-set_other, get_or-set_same, get_or_append_left}
 use Rattle.std.proofs.Math.ListN.{length-set}
 use Rattle.map_model.specs.Lists.{upd}
-use Rattle.image_model.specs.Entries.{Contents}
+use Rattle.lean_proto.specs.image_model.Entries.{Contents}
 use Rattle.page_model.specs.Pairs.{Pair}
 use Rattle.page_model.specs.Nodes.{Node}
 use Rattle.page_model.specs.Page.{word_at}
 use Rattle.page_model.specs.Page as stored
 use Rattle.page_model.specs.Tree.{IsTree}
 use Rattle.page_model.specs.Check.{names_page}
-use Rattle.btree_node.specs.Words.{words_of}
-use Rattle.core_state.specs.Openings.{Opening}
-use Rattle.core_state.specs.States.{Place, State, nodes_of, is_hot, is_cooling, is_cold, in_frame}
-use Rattle.core_state.specs.Events as happening
-use Rattle.core_state.specs.Needs as core
-use Rattle.core_state.specs.Needs.{has_hot_parent, is_empty_frame}
-use Rattle.core_state.specs.Steps.{happens}
-use Rattle.core_state.specs.Local.{publishes_row}
-use Rattle.core_paging.specs.Paging.{Residence}
-use Rattle.row_words.specs.declared.event.Event.{Event}
-use Rattle.row_words.specs.declared.event.Event.TheVariants as told
-use Rattle.row_words.specs.declared.given.Given.{Given}
-use Rattle.row_words.specs.Moments.{Moment, event_of}
-use Rattle.row_words.specs.Openings.{opening}
-use Rattle.row_words.specs.Sealed.{begun, stepped, Shown, changes}
-use Rattle.row_words.specs.Words.{swip, swips, framed, framed_page, is_inner, ShowsPage, has_parent_in, publishes_frame}
-use Rattle.row_words.proofs.Frames.{hot_place}
-use Rattle.row_words.proofs.SealedLemmas.{run_append, calm_tame}
-use Rattle.row_words.proofs.Stays as words
-use Rattle.rows_trait.specs.declared.view.View.{View}
-use Rattle.rows_trait.specs.Layout.{width}
-use Rattle.rows_trait.specs.Views.{Shape, Spells, state, after_all, holds, held_at}
-use Rattle.rows_trait.specs.Turns.{MayPublish}
+use Rattle.lean_proto.specs.btree_node.Words.{words_of}
+use Rattle.lean_proto.specs.core_state.Openings.{Opening}
+use Rattle.lean_proto.specs.core_state.States.{Place, State, nodes_of, is_hot, is_cooling, is_cold, in_frame}
+use Rattle.lean_proto.specs.core_state.Events as happening
+use Rattle.lean_proto.specs.core_state.Needs as core
+use Rattle.lean_proto.specs.core_state.Needs.{has_hot_parent, is_empty_frame}
+use Rattle.lean_proto.specs.core_state.Steps.{happens}
+use Rattle.lean_proto.specs.core_state.Local.{publishes_row}
+use Rattle.lean_proto.specs.core_paging.Paging.{Residence}
+use Rattle.lean_proto.specs.row_words.declared.event.Event.{Event}
+use Rattle.lean_proto.specs.row_words.declared.event.Event.TheVariants as told
+use Rattle.lean_proto.specs.row_words.declared.given.Given.{Given}
+use Rattle.lean_proto.specs.row_words.Moments.{Moment, event_of}
+use Rattle.lean_proto.specs.row_words.Openings.{opening}
+use Rattle.lean_proto.specs.row_words.Sealed.{begun, stepped, Shown, changes}
+use Rattle.lean_proto.specs.row_words.Words.{swip, swips, framed, framed_page, is_inner, ShowsPage, has_parent_in, publishes_frame}
+use Rattle.lean_proto.proofs.row_words_lemmas.Frames.{hot_place}
+use Rattle.lean_proto.proofs.row_words_lemmas.SealedLemmas.{run_append, calm_tame}
+use Rattle.lean_proto.proofs.row_words_lemmas.Stays as words
+use Rattle.lean_proto.specs.rows_trait.declared.view.View.{View}
+use Rattle.lean_proto.specs.rows_trait.Layout.{width}
+use Rattle.lean_proto.specs.rows_trait.Views.{Shape, Spells, state, after_all, holds, held_at}
+use Rattle.lean_proto.specs.rows_trait.Turns.{MayPublish}
 use Rattle.lean_proto.specs.Ready.{IsReady}
 use Rattle.lean_proto.proofs.Lengths.{words-length}
 use Rattle.lean_proto.proofs.Loads.{names_from, all_same}

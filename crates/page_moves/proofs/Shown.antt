@@ -1,18 +1,18 @@
 -- The words of a row in which a page stands.
 use Rattle.std.proofs.Common.{◌≡◌, ◌<◌, not, ℕ, true, sym, subst, ◌∙◌, true≢false}
 use Rattle.std.proofs.lemmas.Bool.{lt-ltb, cond-true}
-use Rattle.core_state.specs.States.{State, in_frame}
-use Rattle.core_state.specs.Needs as core
-use Rattle.core_state.specs.Needs.{is_empty_frame}
-use Rattle.core_state.specs.Steps.{happens}
-use Rattle.core_paging.specs.Paging.{Residence}
-use Rattle.row_words.specs.declared.event.Event.{Event}
-use Rattle.row_words.specs.declared.given.Given.{Given}
-use Rattle.row_words.specs.Moments.{Moment, event_of}
-use Rattle.row_words.specs.Openings.{opening}
-use Rattle.row_words.specs.Sealed.{stepped, Shown}
-use Rattle.row_words.specs.Words.{ShowsPage}
-use Rattle.row_words.proofs.Stays.{below_false, not_true}
+use Rattle.lean_proto.specs.core_state.States.{State, in_frame}
+use Rattle.lean_proto.specs.core_state.Needs as core
+use Rattle.lean_proto.specs.core_state.Needs.{is_empty_frame}
+use Rattle.lean_proto.specs.core_state.Steps.{happens}
+use Rattle.lean_proto.specs.core_paging.Paging.{Residence}
+use Rattle.lean_proto.specs.row_words.declared.event.Event.{Event}
+use Rattle.lean_proto.specs.row_words.declared.given.Given.{Given}
+use Rattle.lean_proto.specs.row_words.Moments.{Moment, event_of}
+use Rattle.lean_proto.specs.row_words.Openings.{opening}
+use Rattle.lean_proto.specs.row_words.Sealed.{stepped, Shown}
+use Rattle.lean_proto.specs.row_words.Words.{ShowsPage}
+use Rattle.lean_proto.proofs.row_words_lemmas.Stays.{below_false, not_true}
 use Rattle.swips.specs.Hints.{mark}
 
 -- what a row shows of the page that stands in it

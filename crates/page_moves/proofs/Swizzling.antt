@@ -5,27 +5,27 @@ use Rattle.std.proofs.lemmas.Bool.{ne_eqb}
 use Rattle.map_model.specs.Lists.{upd}
 use Rattle.page_model.specs.Page.{word_at}
 use Rattle.page_model.specs.Tree.{IsTree}
-use Rattle.core_state.specs.Openings.{Opening}
-use Rattle.core_state.specs.States.{Place, State, nodes_of, is_cooling, in_frame, frame_of}
-use Rattle.core_state.specs.Events as happening
-use Rattle.core_state.specs.Needs as core
-use Rattle.core_state.specs.Needs.{is_inside, has_hot_child, has_hot_parent}
-use Rattle.core_state.specs.Local.{publishes_row}
-use Rattle.core_paging.specs.Paging.{Residence}
-use Rattle.core_paging.proofs.Places.{framed, framed_not_cold, own_frame}
-use Rattle.row_words.specs.declared.event.Event.{Event}
-use Rattle.row_words.specs.declared.event.Event.TheVariants as told
-use Rattle.row_words.specs.declared.given.Given.{Given}
-use Rattle.row_words.specs.Moments.{Moment, event_of, actor_of, pager, is_rising}
-use Rattle.row_words.specs.Openings.{opening}
-use Rattle.row_words.specs.Sealed.{begun, stepped, Shown, changes}
-use Rattle.row_words.specs.Words.{swip, is_inner}
-use Rattle.row_words.proofs.Frames.{hot_place}
-use Rattle.row_words.proofs.SealedLemmas.{run_append, calm_tame}
-use Rattle.rows_trait.specs.declared.view.View.{View}
-use Rattle.rows_trait.specs.Layout.{width}
-use Rattle.rows_trait.specs.Views.{Shape, Spells, state, after_all, holds, held_at, may}
-use Rattle.rows_trait.specs.Turns.{MayPublish}
+use Rattle.lean_proto.specs.core_state.Openings.{Opening}
+use Rattle.lean_proto.specs.core_state.States.{Place, State, nodes_of, is_cooling, in_frame, frame_of}
+use Rattle.lean_proto.specs.core_state.Events as happening
+use Rattle.lean_proto.specs.core_state.Needs as core
+use Rattle.lean_proto.specs.core_state.Needs.{is_inside, has_hot_child, has_hot_parent}
+use Rattle.lean_proto.specs.core_state.Local.{publishes_row}
+use Rattle.lean_proto.specs.core_paging.Paging.{Residence}
+use Rattle.lean_proto.proofs.core_paging_lemmas.Places.{framed, framed_not_cold, own_frame}
+use Rattle.lean_proto.specs.row_words.declared.event.Event.{Event}
+use Rattle.lean_proto.specs.row_words.declared.event.Event.TheVariants as told
+use Rattle.lean_proto.specs.row_words.declared.given.Given.{Given}
+use Rattle.lean_proto.specs.row_words.Moments.{Moment, event_of, actor_of, pager, is_rising}
+use Rattle.lean_proto.specs.row_words.Openings.{opening}
+use Rattle.lean_proto.specs.row_words.Sealed.{begun, stepped, Shown, changes}
+use Rattle.lean_proto.specs.row_words.Words.{swip, is_inner}
+use Rattle.lean_proto.proofs.row_words_lemmas.Frames.{hot_place}
+use Rattle.lean_proto.proofs.row_words_lemmas.SealedLemmas.{run_append, calm_tame}
+use Rattle.lean_proto.specs.rows_trait.declared.view.View.{View}
+use Rattle.lean_proto.specs.rows_trait.Layout.{width}
+use Rattle.lean_proto.specs.rows_trait.Views.{Shape, Spells, state, after_all, holds, held_at, may}
+use Rattle.lean_proto.specs.rows_trait.Turns.{MayPublish}
 use Rattle.lean_proto.specs.Ready.{IsReady, is_steady}
 use Rattle.lean_proto.proofs.Moves.{Stays, Around, around, cool_again, rescue_again}
 use Rattle.lean_proto.proofs.Steady.{every_ready}
@@ -182,7 +182,7 @@ module _ {z : Shape} {v u1 u2 : View} {a b at p : ℕ} (t : HoldsTwo z v a b) (c
   abbrev x1 : Place
   x1 = Place.Cooling (frame_of (s1.place p)) s1.epoch (λ w. is_inside (s1.inside w))
 
-  after1 : (stepped v.given (state u2) (told.Cool p)).core ≡ Rattle.core_state.specs.Steps.happens (opening v.given) s1 (happening.Event.Cool p)
+  after1 : (stepped v.given (state u2) (told.Cool p)).core ≡ Rattle.lean_proto.specs.core_state.Steps.happens (opening v.given) s1 (happening.Event.Cool p)
   after1 = stepped_is v.given (state u2) (told.Cool p) met1
 
   pub unlink_may : MayPublish z a (told.Cool p) u2
@@ -205,7 +205,7 @@ module _ {z : Shape} {v u1 u2 : View} {a b at p : ℕ} (t : HoldsTwo z v a b) (c
   abbrev x2 : Place
   x2 = Place.Hot (frame_of (s2.place p))
 
-  after2 : (stepped v.given (state u2) (told.Rescue p)).core ≡ Rattle.core_state.specs.Steps.happens (opening v.given) s2 (happening.Event.Rescue p)
+  after2 : (stepped v.given (state u2) (told.Rescue p)).core ≡ Rattle.lean_proto.specs.core_state.Steps.happens (opening v.given) s2 (happening.Event.Rescue p)
   after2 = stepped_is v.given (state u2) (told.Rescue p) met2
 
   pub relink_may : MayPublish z a (told.Rescue p) u2

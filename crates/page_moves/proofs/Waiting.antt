@@ -1,14 +1,14 @@
 -- What stays for the pager while others step.
 use Rattle.std.proofs.Common.{◌<◌, ℕ, [], sym, subst, ◌∙◌}
 use Rattle.page_model.specs.Tree.{IsTree}
-use Rattle.core_state.specs.States.{nodes_of}
-use Rattle.core_paging.specs.Paging.{Residence}
-use Rattle.row_words.specs.declared.given.Given.{Given}
-use Rattle.row_words.specs.Moments.{Moment, pager}
-use Rattle.row_words.specs.Openings.{opening}
-use Rattle.rows_trait.specs.declared.view.View.{View}
-use Rattle.rows_trait.specs.Views.{Shape, after_all, state}
-use Rattle.version_latch.proofs.Keeping.{may_ran}
+use Rattle.lean_proto.specs.core_state.States.{nodes_of}
+use Rattle.lean_proto.specs.core_paging.Paging.{Residence}
+use Rattle.lean_proto.specs.row_words.declared.given.Given.{Given}
+use Rattle.lean_proto.specs.row_words.Moments.{Moment, pager}
+use Rattle.lean_proto.specs.row_words.Openings.{opening}
+use Rattle.lean_proto.specs.rows_trait.declared.view.View.{View}
+use Rattle.lean_proto.specs.rows_trait.Views.{Shape, after_all, state}
+use Rattle.lean_proto.proofs.version_latch_lemmas.Keeping.{may_ran}
 use Rattle.lean_proto.proofs.Moves.{Stays, stays_all}
 use Rattle.held_rows.specs.Rows.{Waited}
 use Rattle.held_rows.specs.Waits.{moment_is}

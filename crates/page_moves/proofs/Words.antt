@@ -9,10 +9,10 @@ use Rattle.page_model.specs.Nodes.{Format, Node}
 use Rattle.page_model.specs.Tree.{Names, IsTree}
 use Rattle.page_model.specs.Needs.{key_at}
 use Rattle.page_model.proofs.Tree.{only}
-use Rattle.btree_node.specs.Words.{flat, pair_words, words_of}
-use Rattle.core_state.specs.States.{Place}
-use Rattle.row_words.specs.Words.{swip, swips, is_inner}
-use Rattle.row_words.proofs.Stays as words
+use Rattle.lean_proto.specs.btree_node.Words.{flat, pair_words, words_of}
+use Rattle.lean_proto.specs.core_state.States.{Place}
+use Rattle.lean_proto.specs.row_words.Words.{swip, swips, is_inner}
+use Rattle.lean_proto.proofs.row_words_lemmas.Stays as words
 
 -- pair i with another word
 abbrev pub reword : List Pair → ℕ → ℕ → List Pair
@@ -41,8 +41,8 @@ set_words n i w lt =
     let e : 7 + 2 * i ≡ suc (suc (suc (suc (suc (suc (2 * i + 1)))))) = omega arith in
     let m = reword_length n.node.pairs i w in
     ap (λ j. set (words_of n) j w) e
-    ∙ (ap (λ ys. n.number ∷ n.gsn ∷ n.generation ∷ Rattle.btree_node.specs.Words.packed (length n.node.pairs) n.node.level n.last_log (Rattle.btree_node.specs.Words.kind_of n.node.live) ∷ n.node.low ∷ n.node.high ∷ ys) (set_pairs n.node.pairs i w lt)
-    ∙ ap (λ q. n.number ∷ n.gsn ∷ n.generation ∷ Rattle.btree_node.specs.Words.packed q n.node.level n.last_log (Rattle.btree_node.specs.Words.kind_of n.node.live) ∷ n.node.low ∷ n.node.high ∷ pair_words (reword n.node.pairs i w)) (sym m))
+    ∙ (ap (λ ys. n.number ∷ n.gsn ∷ n.generation ∷ Rattle.lean_proto.specs.btree_node.Words.packed (length n.node.pairs) n.node.level n.last_log (Rattle.lean_proto.specs.btree_node.Words.kind_of n.node.live) ∷ n.node.low ∷ n.node.high ∷ ys) (set_pairs n.node.pairs i w lt)
+    ∙ ap (λ q. n.number ∷ n.gsn ∷ n.generation ∷ Rattle.lean_proto.specs.btree_node.Words.packed q n.node.level n.last_log (Rattle.lean_proto.specs.btree_node.Words.kind_of n.node.live) ∷ n.node.low ∷ n.node.high ∷ pair_words (reword n.node.pairs i w)) (sym m))
 
 -- ## Swips
 

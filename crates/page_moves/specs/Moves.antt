@@ -1,18 +1,18 @@
 -- What the pager knows of rows that it holds, before it moves a page or notes that one was saved.
 use Rattle.std.specs.Prelude.{◌≡◌, ◌<◌, ℕ, true, false, List, length}
-use Rattle.image_model.specs.Entries.{Contents}
+use Rattle.lean_proto.specs.image_model.Entries.{Contents}
 use Rattle.page_model.specs.Limits.{frame_bit}
 use Rattle.page_model.specs.Page.{word_at}
 use Rattle.page_model.specs.Page as stored
-use Rattle.core_state.specs.Needs as core
-use Rattle.core_state.specs.States.{Place, in_frame}
-use Rattle.row_words.specs.declared.event.Event.{Event}
-use Rattle.row_words.specs.declared.event.Event.TheVariants.{Load, Cool, Rescue, Save, Evict}
-use Rattle.row_words.specs.Moments.{event_of, pager}
-use Rattle.row_words.specs.Openings.{opening}
-use Rattle.row_words.specs.Words.{is_inner}
-use Rattle.rows_trait.specs.declared.view.View.{View}
-use Rattle.rows_trait.specs.Views.{Shape, may, state}
+use Rattle.lean_proto.specs.core_state.Needs as core
+use Rattle.lean_proto.specs.core_state.States.{Place, in_frame}
+use Rattle.lean_proto.specs.row_words.declared.event.Event.{Event}
+use Rattle.lean_proto.specs.row_words.declared.event.Event.TheVariants.{Load, Cool, Rescue, Save, Evict}
+use Rattle.lean_proto.specs.row_words.Moments.{event_of, pager}
+use Rattle.lean_proto.specs.row_words.Openings.{opening}
+use Rattle.lean_proto.specs.row_words.Words.{is_inner}
+use Rattle.lean_proto.specs.rows_trait.declared.view.View.{View}
+use Rattle.lean_proto.specs.rows_trait.Views.{Shape, may, state}
 use Rattle.lean_proto.specs.Ready.{InOrder}
 
 -- the seat plays the pager, and pages and places are in order at every moment

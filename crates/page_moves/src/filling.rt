@@ -1,16 +1,16 @@
 // A page comes into an empty row.
 ghost use Rattle.std.specs.Prelude.{◌≡◌};
-ghost use Rattle.row_words.specs.declared.event.Event.TheVariants.{Load};
+ghost use Rattle.lean_proto.specs.row_words.declared.event.Event.TheVariants.{Load};
 ghost use Rattle.held_rows.specs.Rows.{HoldsTwo};
 ghost use Rattle.held_rows.specs.Publishing.{Went};
 ghost use Rattle.page_moves.specs.Moves.{CanFill};
 
 use crate::events::Loads;
-use btree_node::Node;
 use held_rows::{publish_two, set_word, store};
-use rows_trait::rows::Rows;
+use lean_proto::btree_node::Node;
+use lean_proto::rows_trait::rows::Rows;
+use lean_proto::version_latch::Hold;
 use swips::Swip;
-use version_latch::Hold;
 
 /// The page, as it was saved, comes into the empty row `own`: pair `at` of the node in the row `parent`, which named its number, names
 /// that frame.

@@ -1,16 +1,16 @@
 // A free page, which no node names: it changes its own row alone.
 ghost use Rattle.std.specs.Prelude.{◌≡◌};
-ghost use Rattle.row_words.specs.declared.event.Event.TheVariants.{Cool, Load, Rescue};
+ghost use Rattle.lean_proto.specs.row_words.declared.event.Event.TheVariants.{Cool, Load, Rescue};
 ghost use Rattle.held_rows.specs.Rows.{HoldsOne};
 ghost use Rattle.held_rows.specs.Publishing.{Went};
 ghost use Rattle.page_moves.specs.Moves.{CanChill, CanFillFree, CanRevive};
 
 use crate::events::{Cools, Loads, Rescues};
-use btree_node::Node;
 use held_rows::{publish_one, set_word, store};
-use rows_trait::rows::Rows;
+use lean_proto::btree_node::Node;
+use lean_proto::rows_trait::rows::Rows;
+use lean_proto::version_latch::Hold;
 use swips::{MARK, NO_HINT};
-use version_latch::Hold;
 
 /// The free page in the row cools.
 pub fn chill<R: Rows>(rows: &mut R, seat: &mut R::Seat, mut own: Hold, page: u32)

@@ -1,15 +1,15 @@
 // What changes the row of the page and that of the node which names it.
 ghost use Rattle.std.specs.Prelude.{◌≡◌};
-ghost use Rattle.row_words.specs.declared.event.Event.TheVariants.{Cool, Rescue};
+ghost use Rattle.lean_proto.specs.row_words.declared.event.Event.TheVariants.{Cool, Rescue};
 ghost use Rattle.held_rows.specs.Rows.{HoldsTwo};
 ghost use Rattle.held_rows.specs.Publishing.{Went};
 ghost use Rattle.page_moves.specs.Moves.{CanUnlink, CanRelink};
 
 use crate::events::{Cools, Rescues};
 use held_rows::{publish_two, set_word};
-use rows_trait::rows::Rows;
+use lean_proto::rows_trait::rows::Rows;
+use lean_proto::version_latch::Hold;
 use swips::{MARK, Swip};
-use version_latch::Hold;
 
 /// The page in the row `own` cools: pair `at` of the node in the row `parent`, which named its frame, names its number.
 pub fn unlink<R: Rows>(

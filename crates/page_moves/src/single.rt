@@ -1,14 +1,14 @@
 // What changes the row of the page alone.
 ghost use Rattle.std.specs.Prelude.{◌≡◌};
-ghost use Rattle.row_words.specs.declared.event.Event.TheVariants.{Save, Evict};
+ghost use Rattle.lean_proto.specs.row_words.declared.event.Event.TheVariants.{Save, Evict};
 ghost use Rattle.held_rows.specs.Rows.{HoldsOne};
 ghost use Rattle.held_rows.specs.Publishing.{Went};
 ghost use Rattle.page_moves.specs.Moves.{CanEvict, CanSave};
 
 use crate::events::{Evicts, Saves};
 use held_rows::{publish_one, set_word};
-use rows_trait::rows::Rows;
-use version_latch::Hold;
+use lean_proto::rows_trait::rows::Rows;
+use lean_proto::version_latch::Hold;
 
 /// Notes that the page in the held row was saved as it stands: its number is that of what is saved, and so the page is clean.
 pub fn note_saved<R: Rows>(rows: &mut R, seat: &mut R::Seat, mut hold: Hold, page: u32, number: u64)

@@ -3,19 +3,19 @@ use Rattle.std.proofs.Common.{◌≡◌, ◌≢◌, ◌<◌, ◌==◌, ◌&&◌,
 use Rattle.std.specs.Prelude.{if◌then◌else◌}
 use Rattle.std.proofs.lemmas.Bool.{eq-eqb, eqb-true, eqb-false, ne_eqb, cases_eq, cond-true, cond-false, ltb-true}
 use Rattle.map_model.specs.Lists.{Has, upd}
-use Rattle.core_state.specs.Lists.{all_below, at_end}
-use Rattle.core_state.specs.Lists as core
-use Rattle.core_state.specs.Openings.{Opening}
-use Rattle.core_state.specs.States.{Place, State, is_hot, is_cooling, is_cold, in_frame, frame_of, epoch_of, waits_for}
-use Rattle.core_state.specs.Events.{Event}
-use Rattle.core_state.specs.Needs.{may, has_hot_parent, has_hot_child, is_empty_frame, is_dirty, is_inside}
-use Rattle.core_state.specs.Steps.{happens}
-use Rattle.core_paging.specs.Paging.{Residence}
-use Rattle.core_paging.proofs.Places.{own_frame, framed, cooling_not_cold, hot_not_cold, hot_not_cooling, in_own}
-use Rattle.row_words.specs.declared.given.Given.{Given}
-use Rattle.row_words.specs.Openings.{opening}
-use Rattle.row_words.proofs.Stays as words
-use Rattle.rows_trait.specs.Views.{state}
+use Rattle.lean_proto.specs.core_state.Lists.{all_below, at_end}
+use Rattle.lean_proto.specs.core_state.Lists as core
+use Rattle.lean_proto.specs.core_state.Openings.{Opening}
+use Rattle.lean_proto.specs.core_state.States.{Place, State, is_hot, is_cooling, is_cold, in_frame, frame_of, epoch_of, waits_for}
+use Rattle.lean_proto.specs.core_state.Events.{Event}
+use Rattle.lean_proto.specs.core_state.Needs.{may, has_hot_parent, has_hot_child, is_empty_frame, is_dirty, is_inside}
+use Rattle.lean_proto.specs.core_state.Steps.{happens}
+use Rattle.lean_proto.specs.core_paging.Paging.{Residence}
+use Rattle.lean_proto.proofs.core_paging_lemmas.Places.{own_frame, framed, cooling_not_cold, hot_not_cold, hot_not_cooling, in_own}
+use Rattle.lean_proto.specs.row_words.declared.given.Given.{Given}
+use Rattle.lean_proto.specs.row_words.Openings.{opening}
+use Rattle.lean_proto.proofs.row_words_lemmas.Stays as words
+use Rattle.lean_proto.specs.rows_trait.Views.{state}
 use Rattle.cooling_stage.specs.declared.stage.Cooling.{Cooling}
 use Rattle.cooling_stage.specs.Queue.{without}
 use Rattle.page_pool.proofs.Numbers.{all_same, has_end, end_keeps, end_has, once_end, once_others, others_to, others_from}

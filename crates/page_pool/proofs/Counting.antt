@@ -3,12 +3,12 @@ use Rattle.std.proofs.Common.{◌≡◌, ◌<◌, not, ℕ, zero, suc, Bool, tru
 use Rattle.std.specs.Prelude.{if◌then◌else◌}
 use Rattle.std.proofs.lemmas.Bool.{cases_eq, eq-eqb}
 use Rattle.map_model.specs.Lists.{Has}
-use Rattle.core_state.specs.Lists.{count_below}
-use Rattle.core_state.specs.Openings.{Opening}
-use Rattle.core_state.specs.States.{Place, State, is_hot, is_cooling, in_frame, frame_of}
-use Rattle.core_state.specs.Needs.{is_empty_frame}
-use Rattle.core_paging.specs.Paging.{Residence}
-use Rattle.row_words.proofs.Stays as words
+use Rattle.lean_proto.specs.core_state.Lists.{count_below}
+use Rattle.lean_proto.specs.core_state.Openings.{Opening}
+use Rattle.lean_proto.specs.core_state.States.{Place, State, is_hot, is_cooling, in_frame, frame_of}
+use Rattle.lean_proto.specs.core_state.Needs.{is_empty_frame}
+use Rattle.lean_proto.specs.core_paging.Paging.{Residence}
+use Rattle.lean_proto.proofs.row_words_lemmas.Stays as words
 use Rattle.cooling_stage.specs.declared.stage.Cooling.{Cooling}
 use Rattle.page_pool.specs.Pools.{Pool, Agrees, AreOnce}
 use Rattle.page_pool.specs.Counts.{EveryFrame}

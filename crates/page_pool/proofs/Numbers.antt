@@ -3,7 +3,7 @@ use Rattle.std.proofs.Common.{◌≡◌, ◌≢◌, ◌<◌, ◌≤◌, ◌==◌
 use Rattle.std.specs.Prelude.{if◌then◌else◌}
 use Rattle.std.proofs.lemmas.Bool.{eq-eqb, eqb-true, eqb-false}
 use Rattle.map_model.specs.Lists.{Has}
-use Rattle.core_state.specs.Lists.{all_below}
+use Rattle.lean_proto.specs.core_state.Lists.{all_below}
 use Rattle.page_pool.specs.Pools.{AreOnce, others}
 use Rattle.page_pool.specs.Queues.{EveryPop}
 

@@ -3,11 +3,11 @@ use Rattle.std.proofs.Common.{◌≡◌, ◌≢◌, ◌<◌, ◌≤◌, ◌==◌
 use Rattle.std.specs.Prelude.{if◌then◌else◌}
 use Rattle.std.proofs.lemmas.Bool.{and_parts, eq-eqb, eqb-true}
 use Rattle.map_model.specs.Lists.{Has, upd}
-use Rattle.core_state.specs.Lists.{all_below, times}
-use Rattle.core_state.specs.Openings.{Opening}
-use Rattle.core_state.specs.States.{Place, State, is_hot, is_cooling, in_frame, frame_of, epoch_of, waits_for}
-use Rattle.core_state.specs.Needs.{has_hot_parent, has_hot_child, is_dirty}
-use Rattle.core_paging.specs.Paging.{Residence, one_if}
+use Rattle.lean_proto.specs.core_state.Lists.{all_below, times}
+use Rattle.lean_proto.specs.core_state.Openings.{Opening}
+use Rattle.lean_proto.specs.core_state.States.{Place, State, is_hot, is_cooling, in_frame, frame_of, epoch_of, waits_for}
+use Rattle.lean_proto.specs.core_state.Needs.{has_hot_parent, has_hot_child, is_dirty}
+use Rattle.lean_proto.specs.core_paging.Paging.{Residence, one_if}
 use Rattle.cooling_stage.specs.declared.stage.Cooling.{Cooling}
 use Rattle.cooling_stage.specs.Queue.{found, IsOnce}
 use Rattle.page_pool.specs.Pools.{Pool, Agrees, AreOnce}

@@ -1,9 +1,9 @@
 -- How many frames are empty, and how many have a page.
 use Rattle.std.specs.Prelude.{◌≡◌, ◌+◌, ℕ, length}
-use Rattle.core_state.specs.Lists.{count_below}
-use Rattle.core_state.specs.Openings.{Opening}
-use Rattle.core_state.specs.States.{State, is_hot}
-use Rattle.core_paging.specs.Paging.{Residence}
+use Rattle.lean_proto.specs.core_state.Lists.{count_below}
+use Rattle.lean_proto.specs.core_state.Openings.{Opening}
+use Rattle.lean_proto.specs.core_state.States.{State, is_hot}
+use Rattle.lean_proto.specs.core_paging.Paging.{Residence}
 use Rattle.page_pool.specs.Pools.{Pool, Agrees}
 
 -- how many pages are hot

@@ -2,9 +2,9 @@
 use Rattle.std.specs.Prelude.{◌≡◌, ◌<◌, ◌≤◌, ◌⊎◌, ℕ, Bool, true, false, Some}
 use Rattle.page_model.specs.Check.{names_page}
 use Rattle.page_model.specs.Tree.{IsTree}
-use Rattle.core_state.specs.Openings.{Opening}
-use Rattle.core_state.specs.States.{State, nodes_of, flushed_by_all, is_hot, is_cooling, in_frame, epoch_of}
-use Rattle.core_state.specs.Needs.{has_hot_child, is_empty_frame}
+use Rattle.lean_proto.specs.core_state.Openings.{Opening}
+use Rattle.lean_proto.specs.core_state.States.{State, nodes_of, flushed_by_all, is_hot, is_cooling, in_frame, epoch_of}
+use Rattle.lean_proto.specs.core_state.Needs.{has_hot_child, is_empty_frame}
 
 -- The pages of a way are those of a descent: with a page, each that names it.
 abbrev pub IsWay : Opening → State → (ℕ → Bool) → Type 0

@@ -1,12 +1,12 @@
 -- What the queue tells of pages, and what its calls are among the pager's events.
 use Rattle.std.specs.Prelude.{◌≡◌, ◌<◌, ℕ, true, false, not, List, [], ◌∷◌, ◌++◌, length, Option, None, Some}
 use Rattle.map_model.specs.Lists.{upd}
-use Rattle.core_state.specs.Openings.{Opening}
-use Rattle.core_state.specs.States.{Place, State, is_hot, is_cooling, in_frame, frame_of, epoch_of}
-use Rattle.core_state.specs.Events.{Event}
-use Rattle.core_state.specs.Needs.{may}
-use Rattle.core_state.specs.Steps.{happens}
-use Rattle.core_paging.specs.Paging.{Residence}
+use Rattle.lean_proto.specs.core_state.Openings.{Opening}
+use Rattle.lean_proto.specs.core_state.States.{Place, State, is_hot, is_cooling, in_frame, frame_of, epoch_of}
+use Rattle.lean_proto.specs.core_state.Events.{Event}
+use Rattle.lean_proto.specs.core_state.Needs.{may}
+use Rattle.lean_proto.specs.core_state.Steps.{happens}
+use Rattle.lean_proto.specs.core_paging.Paging.{Residence}
 use Rattle.cooling_stage.specs.declared.stage.Cooling.{Cooling}
 use Rattle.cooling_stage.specs.Queue.{found, without, IsOnce}
 use Rattle.page_pool.specs.Pools.{Pool, Agrees, AreOnce, others, after}

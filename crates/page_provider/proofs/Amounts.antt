@@ -4,23 +4,23 @@ use Rattle.std.specs.Prelude.{if◌then◌else◌}
 use Rattle.std.proofs.lemmas.Bool.{cases_eq, eq-eqb, eqb-true}
 use Rattle.map_model.specs.Lists.{upd}
 use Rattle.map_model.proofs.ListLemmas.{upd_same, upd_other}
-use Rattle.core_state.specs.Lists.{count_below}
-use Rattle.core_state.specs.Openings.{Opening}
-use Rattle.core_state.specs.States.{Place, State, frame_of, in_frame, is_hot}
-use Rattle.core_state.specs.Events as happening
-use Rattle.core_state.specs.Needs as core
-use Rattle.core_state.specs.Steps.{happens}
-use Rattle.core_paging.specs.Paging.{Residence}
-use Rattle.row_words.specs.declared.event.Event.{Event}
-use Rattle.row_words.specs.declared.event.Event.TheVariants as told
-use Rattle.row_words.specs.Moments.{Moment, actor_of, by, event_of, pager}
-use Rattle.row_words.specs.Openings.{opening}
-use Rattle.row_words.proofs.Stays as words
-use Rattle.rows_trait.specs.declared.view.View.{View}
-use Rattle.rows_trait.specs.Turns.{Ran}
-use Rattle.rows_trait.specs.Views.{Shape, after_all, may, state}
+use Rattle.btree_descent.specs.core_state.Lists.{count_below}
+use Rattle.btree_descent.specs.core_state.Openings.{Opening}
+use Rattle.btree_descent.specs.core_state.States.{Place, State, frame_of, in_frame, is_hot}
+use Rattle.btree_descent.specs.core_state.Events as happening
+use Rattle.btree_descent.specs.core_state.Needs as core
+use Rattle.btree_descent.specs.core_state.Steps.{happens}
+use Rattle.btree_descent.specs.core_paging.Paging.{Residence}
+use Rattle.btree_descent.specs.row_words.declared.event.Event.{Event}
+use Rattle.btree_descent.specs.row_words.declared.event.Event.TheVariants as told
+use Rattle.btree_descent.specs.row_words.Moments.{Moment, actor_of, by, event_of, pager}
+use Rattle.btree_descent.specs.row_words.Openings.{opening}
+use Rattle.btree_descent.proofs.row_words_lemmas.Stays as words
+use Rattle.btree_descent.specs.rows_trait.declared.view.View.{View}
+use Rattle.btree_descent.specs.rows_trait.Turns.{Ran}
+use Rattle.btree_descent.specs.rows_trait.Views.{Shape, after_all, may, state}
 use Rattle.btree_descent.specs.Known.{IsSound}
-use Rattle.lean_proto.specs.Still.{EveryStood}
+use Rattle.btree_descent.specs.lean_proto.Still.{EveryStood}
 use Rattle.page_pool.specs.Counts.{hot_pages}
 use Rattle.page_provider.specs.Amounts.{EveryFew}
 use Rattle.page_provider.specs.Moves.{AreMet, ArePagers, AreTicked, is_pagers, others_in}

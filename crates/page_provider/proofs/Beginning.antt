@@ -2,13 +2,13 @@
 use Rattle.std.proofs.Common.{◌≡◌, ◌≢◌, ◌<◌, ◌≤◌, ◌+◌, ◌-◌, ◌⊎◌, append-nil, append_assoc, ◌==◌, not, ◌&&◌, ℕ, zero, suc, Bool, true, false, List, [], ◌∷◌, ◌++◌, inl, inr, refl, sym, ap, ◌∙◌, arith, true≢false}
 use Rattle.std.proofs.lemmas.Bool.{cases_eq, eq-eqb, eqb-true}
 use Rattle.map_model.specs.Lists.{Has}
-use Rattle.core_state.specs.Lists.{all_below}
-use Rattle.core_state.specs.Openings.{Opening}
-use Rattle.core_state.specs.States.{Place, State, in_frame, is_hot}
-use Rattle.core_state.specs.Needs.{is_empty_frame}
-use Rattle.core_paging.specs.Paging.{Residence}
-use Rattle.row_words.specs.Openings.{opening}
-use Rattle.rows_trait.specs.Views.{state}
+use Rattle.btree_descent.specs.core_state.Lists.{all_below}
+use Rattle.btree_descent.specs.core_state.Openings.{Opening}
+use Rattle.btree_descent.specs.core_state.States.{Place, State, in_frame, is_hot}
+use Rattle.btree_descent.specs.core_state.Needs.{is_empty_frame}
+use Rattle.btree_descent.specs.core_paging.Paging.{Residence}
+use Rattle.btree_descent.specs.row_words.Openings.{opening}
+use Rattle.btree_descent.specs.rows_trait.Views.{state}
 use Rattle.page_pool.specs.Pools.{AreOnce}
 use Rattle.page_provider.specs.Fresh.{EveryFresh, down_to_one}
 
@@ -47,7 +47,7 @@ all_true (suc n) P each = Rattle.std.proofs.lemmas.Bool.and_from (P n) (all_belo
 
 all_at : (n : ℕ) (P : ℕ → Bool) → all_below n P ≡ true → (p : ℕ) → p < n → P p ≡ true
 all_at zero P a p lt = absurd (omega arith)
-all_at (suc n) P a p lt = let k = Rattle.row_words.proofs.Stays.and_true (P n) (all_below n P) a in elim (cases_eq p n) [
+all_at (suc n) P a p lt = let k = Rattle.btree_descent.proofs.row_words_lemmas.Stays.and_true (P n) (all_below n P) a in elim (cases_eq p n) [
   | inl e ↦ ap P e ∙ k.0
   | inr ne ↦ all_at n P k.1 p (omega arith)
 ]

@@ -5,22 +5,22 @@ use Rattle.std.proofs.lemmas.Bool.{cases_eq, eq-eqb, eqb-true}
 use Rattle.map_model.specs.Lists.{Has, any}
 use Rattle.map_model.proofs.ListLemmas.{upd_other}
 use Rattle.rfa_model.specs.Reaches.{least}
-use Rattle.core_state.specs.Events as happening
-use Rattle.core_state.specs.Needs as core
-use Rattle.core_state.specs.Openings.{Opening}
-use Rattle.core_state.specs.States.{Place, State, epoch_of, flushed_by_all, in_frame, is_cooling, is_hot}
-use Rattle.core_state.specs.Steps.{happens, step}
-use Rattle.row_words.specs.declared.event.Event.{Event}
-use Rattle.row_words.specs.declared.event.Event.TheVariants.{Cool, Tick}
-use Rattle.row_words.specs.declared.given.Given.{Given}
-use Rattle.row_words.specs.Moments.{Moment, actor_of, by, pager}
-use Rattle.row_words.specs.Openings.{opening}
-use Rattle.row_words.specs.Sealed.{stepped}
-use Rattle.rows_trait.specs.declared.view.View.{View}
-use Rattle.rows_trait.specs.Turns.{Ran}
-use Rattle.rows_trait.specs.Views.{Shape, may, state}
-use Rattle.rows_trait.proofs.Runs.{ran_append, ran_none}
-use Rattle.lean_proto.specs.Still.{Stood}
+use Rattle.btree_descent.specs.core_state.Events as happening
+use Rattle.btree_descent.specs.core_state.Needs as core
+use Rattle.btree_descent.specs.core_state.Openings.{Opening}
+use Rattle.btree_descent.specs.core_state.States.{Place, State, epoch_of, flushed_by_all, in_frame, is_cooling, is_hot}
+use Rattle.btree_descent.specs.core_state.Steps.{happens, step}
+use Rattle.btree_descent.specs.row_words.declared.event.Event.{Event}
+use Rattle.btree_descent.specs.row_words.declared.event.Event.TheVariants.{Cool, Tick}
+use Rattle.btree_descent.specs.row_words.declared.given.Given.{Given}
+use Rattle.btree_descent.specs.row_words.Moments.{Moment, actor_of, by, pager}
+use Rattle.btree_descent.specs.row_words.Openings.{opening}
+use Rattle.btree_descent.specs.row_words.Sealed.{stepped}
+use Rattle.btree_descent.specs.rows_trait.declared.view.View.{View}
+use Rattle.btree_descent.specs.rows_trait.Turns.{Ran}
+use Rattle.btree_descent.specs.rows_trait.Views.{Shape, may, state}
+use Rattle.btree_descent.proofs.rows_trait_lemmas.Runs.{ran_append, ran_none}
+use Rattle.btree_descent.specs.lean_proto.Still.{Stood}
 use Rattle.cooling_stage.specs.declared.stage.Cooling.{Cooling}
 use Rattle.cooling_stage.specs.Queue.{found}
 use Rattle.page_pool.specs.Full.{IsHeldBack, NoneRipe}
@@ -189,7 +189,7 @@ cooled_step : (g : Opening) (s : State) (p : ℕ) → Cooled s (step g (step g s
 cooled_step g s p = go (core.may g s (happening.Event.Cool p))
   where
     go : (b : Bool) → Cooled s (step g (if b then happens g s (happening.Event.Cool p) else s) happening.Event.Tick) p
-    go true = record { others = λ q ne. upd_other s.place p (Place.Cooling (Rattle.core_state.specs.States.frame_of (s.place p)) s.epoch (λ w. core.is_inside (s.inside w))) q ne; page = λ q. refl; flushed = refl; inside = refl }
+    go true = record { others = λ q ne. upd_other s.place p (Place.Cooling (Rattle.btree_descent.specs.core_state.States.frame_of (s.place p)) s.epoch (λ w. core.is_inside (s.inside w))) q ne; page = λ q. refl; flushed = refl; inside = refl }
     go false = record { others = λ q ne. refl; page = λ q. refl; flushed = refl; inside = refl }
 
 -- right behind a cool and a tick
@@ -212,8 +212,8 @@ ticked_state {z = z} {v = v} {u = u} {entry = entry} alone h =
 
 -- ## How far the logs are flushed
 
-no_syncs : (alone : Bool) {v u : View} {p : ℕ} → (r : Ran alone v (Cool p ∷ (Tick ∷ [])) u) → Rattle.rows_trait.specs.Views.NoSync r.more
-no_syncs true r = subst Rattle.rows_trait.specs.Views.NoSync (sym (r.all refl)) (refl, (refl, tt))
+no_syncs : (alone : Bool) {v u : View} {p : ℕ} → (r : Ran alone v (Cool p ∷ (Tick ∷ [])) u) → Rattle.btree_descent.specs.rows_trait.Views.NoSync r.more
+no_syncs true r = subst Rattle.btree_descent.specs.rows_trait.Views.NoSync (sym (r.all refl)) (refl, (refl, tt))
 no_syncs false r = r.part refl
 
 flushed_on : (v : View) (p : ℕ) → flushed_by_all (opening v.given) (state (ticked v p)).core ≡ flushed_by_all (opening v.given) (state v).core

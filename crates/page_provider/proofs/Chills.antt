@@ -8,28 +8,28 @@ use Rattle.map_model.specs.Lists.{any, upd}
 use Rattle.map_model.proofs.ListLemmas.{upd_same, upd_other}
 use Rattle.page_model.specs.Check.{names_page}
 use Rattle.page_model.specs.Page as stored
-use Rattle.core_state.specs.Lists.{all_below}
-use Rattle.core_state.specs.Openings.{Opening}
-use Rattle.core_state.specs.States.{Place, State, in_frame, is_cold, is_hot}
-use Rattle.core_state.specs.Events as happening
-use Rattle.core_state.specs.Needs as core
-use Rattle.core_state.specs.Needs.{are_hot, has_hot_child, is_inside}
-use Rattle.core_state.specs.Steps.{happens, step}
-use Rattle.core_paging.specs.Paging.{Residence}
-use Rattle.row_words.specs.declared.event.Event.{Event}
-use Rattle.row_words.specs.declared.event.Event.TheVariants as told
-use Rattle.row_words.specs.declared.given.Given.{Given}
-use Rattle.row_words.specs.Moments.{Moment, actor_of, by, event_of, pager}
-use Rattle.row_words.specs.Openings.{opening}
-use Rattle.row_words.specs.Sealed.{run, stepped}
-use Rattle.row_words.proofs.Frames.{framed_live}
-use Rattle.row_words.proofs.SealedLemmas.{by_append}
-use Rattle.rows_trait.specs.declared.view.View.{View}
-use Rattle.rows_trait.specs.Turns.{Ran}
-use Rattle.rows_trait.specs.Views.{AreApart, NoSync, Shape, after_all, held_at, may, state}
-use Rattle.rows_trait.proofs.EventLemmas.{apart_sync, by_none, none_apart, sync_append}
-use Rattle.rows_trait.proofs.Runs.{ran_append}
-use Rattle.version_latch.proofs.Keeping.{may_ran}
+use Rattle.btree_descent.specs.core_state.Lists.{all_below}
+use Rattle.btree_descent.specs.core_state.Openings.{Opening}
+use Rattle.btree_descent.specs.core_state.States.{Place, State, in_frame, is_cold, is_hot}
+use Rattle.btree_descent.specs.core_state.Events as happening
+use Rattle.btree_descent.specs.core_state.Needs as core
+use Rattle.btree_descent.specs.core_state.Needs.{are_hot, has_hot_child, is_inside}
+use Rattle.btree_descent.specs.core_state.Steps.{happens, step}
+use Rattle.btree_descent.specs.core_paging.Paging.{Residence}
+use Rattle.btree_descent.specs.row_words.declared.event.Event.{Event}
+use Rattle.btree_descent.specs.row_words.declared.event.Event.TheVariants as told
+use Rattle.btree_descent.specs.row_words.declared.given.Given.{Given}
+use Rattle.btree_descent.specs.row_words.Moments.{Moment, actor_of, by, event_of, pager}
+use Rattle.btree_descent.specs.row_words.Openings.{opening}
+use Rattle.btree_descent.specs.row_words.Sealed.{run, stepped}
+use Rattle.btree_descent.proofs.row_words_lemmas.Frames.{framed_live}
+use Rattle.btree_descent.proofs.row_words_lemmas.SealedLemmas.{by_append}
+use Rattle.btree_descent.specs.rows_trait.declared.view.View.{View}
+use Rattle.btree_descent.specs.rows_trait.Turns.{Ran}
+use Rattle.btree_descent.specs.rows_trait.Views.{AreApart, NoSync, Shape, after_all, held_at, may, state}
+use Rattle.btree_descent.proofs.rows_trait_lemmas.EventLemmas.{apart_sync, by_none, none_apart, sync_append}
+use Rattle.btree_descent.proofs.rows_trait_lemmas.Runs.{ran_append}
+use Rattle.btree_descent.proofs.version_latch_lemmas.Keeping.{may_ran}
 use Rattle.btree_descent.specs.Known.{IsSound, Sound}
 use Rattle.held_rows.specs.Publishing.{Went}
 use Rattle.held_rows.specs.Rows.{IsFrame}
@@ -37,7 +37,7 @@ use Rattle.held_rows.specs.Waits.{waited_apart, was_on}
 use Rattle.row_image.specs.declared.sight.Sight.{Sight}
 use Rattle.row_image.specs.Hot.{StandsIn}
 use Rattle.row_image.specs.Sights.{EverySight, HasTaken, HasWords}
-use Rattle.lean_proto.specs.Still.{Stood}
+use Rattle.btree_descent.specs.lean_proto.Still.{Stood}
 use Rattle.cooling_stage.specs.declared.stage.Cooling.{Cooling}
 use Rattle.cooling_stage.specs.Queue.{Stage, found, stage}
 use Rattle.free_pages.specs.Pages.{is_in}

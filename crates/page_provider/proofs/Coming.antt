@@ -12,24 +12,24 @@ use Rattle.page_model.specs.Tree.{IsTree, Names}
 use Rattle.page_model.specs.Nodes.{Node}
 use Rattle.page_model.specs.Pairs as pairs
 use Rattle.page_model.specs.Records.{any}
-use Rattle.core_state.specs.Lists.{all_below}
-use Rattle.core_state.specs.Openings.{Opening}
-use Rattle.core_state.specs.States.{Place, State, frame_of, in_frame, is_cold, is_cooling, is_hot, nodes_of}
-use Rattle.core_state.specs.Events as happening
-use Rattle.core_state.specs.Needs as core
-use Rattle.core_state.specs.Needs.{has_hot_parent, is_empty_frame}
-use Rattle.core_state.specs.Steps.{happens}
-use Rattle.row_words.specs.declared.event.Event.{Event}
-use Rattle.row_words.specs.declared.event.Event.TheVariants.{Load, Miss, Rescue}
-use Rattle.row_words.specs.declared.given.Given.{Given}
-use Rattle.row_words.specs.Moments.{Moment, event_of, actor_of, pager, by}
-use Rattle.row_words.specs.Openings.{opening}
-use Rattle.row_words.specs.Sealed.{stepped, run}
-use Rattle.row_words.proofs.Stays.{and_true}
-use Rattle.rows_trait.specs.declared.view.View.{View}
-use Rattle.rows_trait.specs.Views.{Shape, state}
-use Rattle.rows_trait.specs.Turns.{Ran}
-use Rattle.lean_proto.specs.Still.{Stood}
+use Rattle.btree_descent.specs.core_state.Lists.{all_below}
+use Rattle.btree_descent.specs.core_state.Openings.{Opening}
+use Rattle.btree_descent.specs.core_state.States.{Place, State, frame_of, in_frame, is_cold, is_cooling, is_hot, nodes_of}
+use Rattle.btree_descent.specs.core_state.Events as happening
+use Rattle.btree_descent.specs.core_state.Needs as core
+use Rattle.btree_descent.specs.core_state.Needs.{has_hot_parent, is_empty_frame}
+use Rattle.btree_descent.specs.core_state.Steps.{happens}
+use Rattle.btree_descent.specs.row_words.declared.event.Event.{Event}
+use Rattle.btree_descent.specs.row_words.declared.event.Event.TheVariants.{Load, Miss, Rescue}
+use Rattle.btree_descent.specs.row_words.declared.given.Given.{Given}
+use Rattle.btree_descent.specs.row_words.Moments.{Moment, event_of, actor_of, pager, by}
+use Rattle.btree_descent.specs.row_words.Openings.{opening}
+use Rattle.btree_descent.specs.row_words.Sealed.{stepped, run}
+use Rattle.btree_descent.proofs.row_words_lemmas.Stays.{and_true}
+use Rattle.btree_descent.specs.rows_trait.declared.view.View.{View}
+use Rattle.btree_descent.specs.rows_trait.Views.{Shape, state}
+use Rattle.btree_descent.specs.rows_trait.Turns.{Ran}
+use Rattle.btree_descent.specs.lean_proto.Still.{Stood}
 use Rattle.cooling_stage.specs.declared.stage.Cooling.{Cooling}
 use Rattle.cooling_stage.specs.Queue.{Stage, found, stage, without}
 use Rattle.free_pages.specs.Pages.{is_in}

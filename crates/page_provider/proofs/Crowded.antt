@@ -4,21 +4,21 @@ use Rattle.std.specs.Prelude.{if◌then◌else◌}
 use Rattle.std.proofs.lemmas.Bool.{cases_eq, cases_Bool, eq-eqb, eqb-true}
 use Rattle.map_model.specs.Lists.{Has, any}
 use Rattle.map_model.proofs.ListLemmas.{upd_other, upd_same}
-use Rattle.core_paging.specs.Paging.{Residence}
-use Rattle.core_state.specs.Events as happening
-use Rattle.core_state.specs.Lists.{count_below}
-use Rattle.core_state.specs.Needs as core
-use Rattle.core_state.specs.Openings.{Opening}
-use Rattle.core_state.specs.States.{Place, State, frame_of, in_frame, is_hot}
-use Rattle.core_state.specs.Steps.{happens, step}
-use Rattle.row_words.specs.declared.event.Event.{Event}
-use Rattle.row_words.specs.declared.event.Event.TheVariants.{Cool, Tick}
-use Rattle.row_words.specs.declared.given.Given.{Given}
-use Rattle.row_words.specs.Moments.{Moment}
-use Rattle.row_words.specs.Openings.{opening}
-use Rattle.row_words.specs.Sealed.{run, stepped}
-use Rattle.rows_trait.specs.declared.view.View.{View}
-use Rattle.rows_trait.specs.Views.{Shape, state}
+use Rattle.btree_descent.specs.core_paging.Paging.{Residence}
+use Rattle.btree_descent.specs.core_state.Events as happening
+use Rattle.btree_descent.specs.core_state.Lists.{count_below}
+use Rattle.btree_descent.specs.core_state.Needs as core
+use Rattle.btree_descent.specs.core_state.Openings.{Opening}
+use Rattle.btree_descent.specs.core_state.States.{Place, State, frame_of, in_frame, is_hot}
+use Rattle.btree_descent.specs.core_state.Steps.{happens, step}
+use Rattle.btree_descent.specs.row_words.declared.event.Event.{Event}
+use Rattle.btree_descent.specs.row_words.declared.event.Event.TheVariants.{Cool, Tick}
+use Rattle.btree_descent.specs.row_words.declared.given.Given.{Given}
+use Rattle.btree_descent.specs.row_words.Moments.{Moment}
+use Rattle.btree_descent.specs.row_words.Openings.{opening}
+use Rattle.btree_descent.specs.row_words.Sealed.{run, stepped}
+use Rattle.btree_descent.specs.rows_trait.declared.view.View.{View}
+use Rattle.btree_descent.specs.rows_trait.Views.{Shape, state}
 use Rattle.page_pool.specs.Counts.{hot_pages}
 use Rattle.page_pool.specs.Full.{IsWay, NoCandidate}
 use Rattle.page_pool.proofs.Taken.{on_way}

@@ -4,25 +4,25 @@ use Rattle.std.proofs.Common.{◌≡◌, ◌<◌, ◌≤◌, ◌&&◌, not, ltb,
 use Rattle.std.proofs.lemmas.Bool.{and_from, le-leb, ltb-true}
 use Rattle.map_model.proofs.ListLemmas.{upd_same}
 use Rattle.rfa_model.specs.Reaches.{least}
-use Rattle.core_state.specs.Lists.{all_below}
-use Rattle.core_state.specs.Openings.{Opening}
-use Rattle.core_state.specs.States.{Place, State, flushed_by_all, frame_of, in_frame, is_cold, is_cooling, is_hot, waits_for}
-use Rattle.core_state.specs.Events as happening
-use Rattle.core_state.specs.Needs as core
-use Rattle.core_state.specs.Needs.{is_dirty}
-use Rattle.core_state.specs.Steps.{happens}
-use Rattle.core_paging.specs.Paging.{Residence}
-use Rattle.row_words.specs.declared.event.Event.{Event}
-use Rattle.row_words.specs.declared.event.Event.TheVariants as told
-use Rattle.row_words.specs.declared.given.Given.{Given}
-use Rattle.row_words.specs.Openings.{opening}
-use Rattle.row_words.specs.Sealed.{heard}
-use Rattle.rows_trait.specs.declared.view.Act.TheVariants.{Hear}
-use Rattle.rows_trait.specs.declared.view.View.{View}
-use Rattle.rows_trait.specs.Views.{Shape, NoSync, holds, state}
-use Rattle.rows_trait.specs.Turns.{Heard, Ran}
-use Rattle.lean_proto.specs.Controls.{EveryLoad}
-use Rattle.lean_proto.specs.Still.{Stood, EveryStood}
+use Rattle.btree_descent.specs.core_state.Lists.{all_below}
+use Rattle.btree_descent.specs.core_state.Openings.{Opening}
+use Rattle.btree_descent.specs.core_state.States.{Place, State, flushed_by_all, frame_of, in_frame, is_cold, is_cooling, is_hot, waits_for}
+use Rattle.btree_descent.specs.core_state.Events as happening
+use Rattle.btree_descent.specs.core_state.Needs as core
+use Rattle.btree_descent.specs.core_state.Needs.{is_dirty}
+use Rattle.btree_descent.specs.core_state.Steps.{happens}
+use Rattle.btree_descent.specs.core_paging.Paging.{Residence}
+use Rattle.btree_descent.specs.row_words.declared.event.Event.{Event}
+use Rattle.btree_descent.specs.row_words.declared.event.Event.TheVariants as told
+use Rattle.btree_descent.specs.row_words.declared.given.Given.{Given}
+use Rattle.btree_descent.specs.row_words.Openings.{opening}
+use Rattle.btree_descent.specs.row_words.Sealed.{heard}
+use Rattle.btree_descent.specs.rows_trait.declared.view.Act.TheVariants.{Hear}
+use Rattle.btree_descent.specs.rows_trait.declared.view.View.{View}
+use Rattle.btree_descent.specs.rows_trait.Views.{Shape, NoSync, holds, state}
+use Rattle.btree_descent.specs.rows_trait.Turns.{Heard, Ran}
+use Rattle.btree_descent.specs.lean_proto.Controls.{EveryLoad}
+use Rattle.btree_descent.specs.lean_proto.Still.{Stood, EveryStood}
 use Rattle.cooling_stage.specs.Queue.{without}
 use Rattle.page_pool.specs.Pools.{Agrees, EveryPool, EveryStanding}
 use Rattle.page_provider.specs.Providers.{Provider, Keeps, pool}

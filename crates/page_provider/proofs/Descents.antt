@@ -7,19 +7,19 @@ use Rattle.map_model.specs.Lists.{Has, any}
 use Rattle.map_model.proofs.ListLemmas.{any_has, has_any}
 use Rattle.page_model.specs.Check.{names_page}
 use Rattle.page_model.proofs.Tree as page_tree
-use Rattle.core_state.specs.States.{Place, State, in_frame, nodes_of}
-use Rattle.row_words.specs.declared.given.Given.{Given}
-use Rattle.row_words.specs.Moments.{Moment}
-use Rattle.row_words.specs.Openings.{opening}
-use Rattle.rows_trait.specs.Views.{after_all, state}
-use Rattle.lean_proto.specs.Paths.{above}
+use Rattle.btree_descent.specs.core_state.States.{Place, State, in_frame, nodes_of}
+use Rattle.btree_descent.specs.row_words.declared.given.Given.{Given}
+use Rattle.btree_descent.specs.row_words.Moments.{Moment}
+use Rattle.btree_descent.specs.row_words.Openings.{opening}
+use Rattle.btree_descent.specs.rows_trait.Views.{after_all, state}
+use Rattle.btree_descent.specs.lean_proto.Paths.{above}
 use Rattle.btree_descent.specs.Known.{Sound}
 use Rattle.btree_descent.specs.Trails.{IsAbove, IsColdBelow, Routes}
 use Rattle.page_pool.specs.Full.{IsWay}
 use Rattle.page_provider.specs.Descents.{EveryDescent}
 use Rattle.page_provider.specs.Faults.{IsWanted, LeadsTo}
-use Rattle.core_state.specs.Needs.{has_hot_parent}
-use Rattle.core_state.specs.States.{is_hot}
+use Rattle.btree_descent.specs.core_state.Needs.{has_hot_parent}
+use Rattle.btree_descent.specs.core_state.States.{is_hot}
 use Rattle.page_provider.specs.Moves.{is_on, way}
 use Rattle.page_provider.proofs.Coming.{hot_parents, names_to}
 use Rattle.page_provider.proofs.Easing.{in_own}

@@ -3,22 +3,22 @@ use Rattle.std.proofs.Common.{◌≡◌, ◌≤◌, ◌==◌, ℕ, Bool, true, f
 use Rattle.std.specs.Prelude.{if◌then◌else◌}
 use Rattle.std.proofs.lemmas.Bool.{eqb-true}
 use Rattle.map_model.proofs.ListLemmas.{upd_other}
-use Rattle.core_state.specs.Openings.{Opening}
-use Rattle.core_state.specs.States.{Place, State, flushed_by_all, in_frame, is_cold, is_cooling, is_hot}
-use Rattle.core_state.specs.Events as happening
-use Rattle.core_state.specs.Needs as core
-use Rattle.core_state.specs.Needs.{is_dirty}
-use Rattle.core_state.specs.Steps.{happens}
-use Rattle.row_words.specs.declared.event.Event.{Event}
-use Rattle.row_words.specs.declared.event.Event.TheVariants as told
-use Rattle.row_words.specs.declared.given.Given.{Given}
-use Rattle.row_words.specs.Moments.{Moment, by, event_of, pager}
-use Rattle.row_words.specs.Openings.{opening}
-use Rattle.row_words.specs.Sealed.{run, stepped}
-use Rattle.rows_trait.specs.declared.view.View.{View}
-use Rattle.rows_trait.specs.Views.{NoSync, Shape, state}
-use Rattle.rows_trait.specs.Turns.{Ran}
-use Rattle.lean_proto.specs.Still.{Stood}
+use Rattle.btree_descent.specs.core_state.Openings.{Opening}
+use Rattle.btree_descent.specs.core_state.States.{Place, State, flushed_by_all, in_frame, is_cold, is_cooling, is_hot}
+use Rattle.btree_descent.specs.core_state.Events as happening
+use Rattle.btree_descent.specs.core_state.Needs as core
+use Rattle.btree_descent.specs.core_state.Needs.{is_dirty}
+use Rattle.btree_descent.specs.core_state.Steps.{happens}
+use Rattle.btree_descent.specs.row_words.declared.event.Event.{Event}
+use Rattle.btree_descent.specs.row_words.declared.event.Event.TheVariants as told
+use Rattle.btree_descent.specs.row_words.declared.given.Given.{Given}
+use Rattle.btree_descent.specs.row_words.Moments.{Moment, by, event_of, pager}
+use Rattle.btree_descent.specs.row_words.Openings.{opening}
+use Rattle.btree_descent.specs.row_words.Sealed.{run, stepped}
+use Rattle.btree_descent.specs.rows_trait.declared.view.View.{View}
+use Rattle.btree_descent.specs.rows_trait.Views.{NoSync, Shape, state}
+use Rattle.btree_descent.specs.rows_trait.Turns.{Ran}
+use Rattle.btree_descent.specs.lean_proto.Still.{Stood}
 use Rattle.page_provider.specs.Inside.{MayGo}
 use Rattle.page_provider.specs.Laws.{RowLaws}
 use Rattle.page_provider.specs.Moves.{AreMet, KeepsPath, Rested}

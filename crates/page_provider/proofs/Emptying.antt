@@ -1,10 +1,10 @@
 -- A page is chosen that can leave: how the calls that look for one end.
 use Rattle.std.proofs.Common.{◌≡◌, ◌≢◌, ◌<◌, ◌≤◌, ◌+◌, ◌⊎◌, inl, inr, ℕ, true, List, [], length, Some, refl, sym, ap, ◌∙◌, arith, subst, Option}
-use Rattle.core_state.specs.States.{is_cooling}
-use Rattle.row_words.specs.Openings.{opening}
-use Rattle.rows_trait.specs.declared.view.View.{View}
-use Rattle.rows_trait.specs.Turns.{Ran}
-use Rattle.rows_trait.specs.Views.{Shape, state}
+use Rattle.btree_descent.specs.core_state.States.{is_cooling}
+use Rattle.btree_descent.specs.row_words.Openings.{opening}
+use Rattle.btree_descent.specs.rows_trait.declared.view.View.{View}
+use Rattle.btree_descent.specs.rows_trait.Turns.{Ran}
+use Rattle.btree_descent.specs.rows_trait.Views.{Shape, state}
 use Rattle.cooling_stage.specs.declared.stage.Cooling.{Cooling}
 use Rattle.cooling_stage.specs.Queue.{found}
 use Rattle.page_provider.specs.declared.refusal.Refusal.{Refusal}
@@ -25,7 +25,7 @@ use Rattle.page_provider.proofs.Judging.{as_there, entry_is, none_same, tells}
 use Rattle.page_provider.proofs.Keeping.{keeps_ran}
 use Rattle.page_provider.proofs.Unsaved.{few_none, few_quiet, misses_none, misses_quiet}
 use Rattle.page_provider.proofs.Moving.{halts_refused, missed_halts, refused_then, refused_up, stalls_refused}
-use Rattle.rows_trait.proofs.Runs.{ran_append}
+use Rattle.btree_descent.proofs.rows_trait_lemmas.Runs.{ran_append}
 
 -- ## Refusals
 
@@ -111,8 +111,8 @@ module _ {z : Shape} {path : List ℕ} {v u : View} {was k : Provider} {flushed 
     pub stepped_there : found entry.page is.queue ≡ Some entry
     stepped_there = cooled_there laws j.chills.moved.goes.keeps s.cooled
 
-    hot : Rattle.core_state.specs.States.is_hot ((state u).core.place entry.page) ≡ true
-    hot = ap Rattle.core_state.specs.States.is_hot s.cooled.hot
+    hot : Rattle.btree_descent.specs.core_state.States.is_hot ((state u).core.place entry.page) ≡ true
+    hot = ap Rattle.btree_descent.specs.core_state.States.is_hot s.cooled.hot
 
     -- which was judged
     module _ {x : View} where
@@ -134,7 +134,7 @@ module _ {z : Shape} {path : List ℕ} {v u : View} {was k : Provider} {flushed 
 
       -- none of the others can leave
       pub stepped_others : leaves.Tells z w entry.page leave.Yes x → NoOther z x (chosen.Page entry)
-      stepped_others t alone = as_there (ticked u entry.page) x (λ g m. (q : ℕ) → q < (opening g).format.pages → q ≢ entry.page → is_cooling (m.core.place q) ≡ true → (Rattle.core_state.specs.States.flushed_by_all (opening g) m.core < (m.core.page q).gsn) ⊎ Rattle.page_pool.specs.Full.IsHeldBack m.core q)
+      stepped_others t alone = as_there (ticked u entry.page) x (λ g m. (q : ℕ) → q < (opening g).format.pages → q ≢ entry.page → is_cooling (m.core.place q) ≡ true → (Rattle.btree_descent.specs.core_state.States.flushed_by_all (opening g) m.core < (m.core.page q).gsn) ⊎ Rattle.page_pool.specs.Full.IsHeldBack m.core q)
           (given_is t.ran) (state_is alone t.ran) (none_others entry.page (j.none alone) hot (cools alone t.ran))
 
       pub stepped_above : leaves.Tells z w entry.page leave.Above x → IsChilling z path v was flushed (i + 1) n x is
@@ -146,7 +146,7 @@ module _ {z : Shape} {path : List ℕ} {v u : View} {was k : Provider} {flushed 
             many = omega arith;
             few = omega arith;
             none = λ alone. none_same (ticked u entry.page) x (given_is t.ran) (state_is alone t.ran) (none_above entry.page (j.none alone) hot (cools alone t.ran) is
-                (as_there x (ticked u entry.page) (λ g m. Rattle.core_state.specs.States.flushed_by_all (opening g) m.core < (m.core.page entry.page).gsn) (sym (given_is t.ran)) (sym (state_is alone t.ran)) (t.says alone)));
+                (as_there x (ticked u entry.page) (λ g m. Rattle.btree_descent.specs.core_state.States.flushed_by_all (opening g) m.core < (m.core.page entry.page).gsn) (sym (given_is t.ran)) (sym (state_is alone t.ran)) (t.says alone)));
           }
 
       pub stepped_held : leaves.Tells z w entry.page leave.Held x → IsChilling z path v was flushed (i + 1) (n + 1) x is

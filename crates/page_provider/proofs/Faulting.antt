@@ -13,22 +13,22 @@ use Rattle.page_model.specs.Tree.{Names, Parent}
 use Rattle.page_model.proofs.Tree as page_tree
 use Rattle.page_moves.proofs.Words.{is_inner_to, named_at}
 use Rattle.row_image.proofs.Pages.{names_pair}
-use Rattle.core_state.specs.Needs.{has_hot_parent}
-use Rattle.core_state.specs.Openings.{Opening}
-use Rattle.core_state.specs.States.{Place, State, is_cold, is_cooling, is_hot, in_frame, nodes_of}
-use Rattle.row_words.specs.Moments.{Moment}
-use Rattle.row_words.specs.declared.event.Event.TheVariants as told
-use Rattle.row_words.specs.Openings.{opening}
-use Rattle.row_words.specs.Words.{framed_page}
-use Rattle.row_words.specs.declared.given.Given.{Given}
-use Rattle.row_words.proofs.Stays.{below_false}
-use Rattle.rows_trait.specs.declared.view.View.{View}
-use Rattle.rows_trait.specs.Views.{Shape, state}
-use Rattle.rows_trait.specs.Turns.{Ran}
-use Rattle.rows_trait.proofs.Runs.{ran_append}
+use Rattle.btree_descent.specs.core_state.Needs.{has_hot_parent}
+use Rattle.btree_descent.specs.core_state.Openings.{Opening}
+use Rattle.btree_descent.specs.core_state.States.{Place, State, is_cold, is_cooling, is_hot, in_frame, nodes_of}
+use Rattle.btree_descent.specs.row_words.Moments.{Moment}
+use Rattle.btree_descent.specs.row_words.declared.event.Event.TheVariants as told
+use Rattle.btree_descent.specs.row_words.Openings.{opening}
+use Rattle.btree_descent.specs.row_words.Words.{framed_page}
+use Rattle.btree_descent.specs.row_words.declared.given.Given.{Given}
+use Rattle.btree_descent.proofs.row_words_lemmas.Stays.{below_false}
+use Rattle.btree_descent.specs.rows_trait.declared.view.View.{View}
+use Rattle.btree_descent.specs.rows_trait.Views.{Shape, state}
+use Rattle.btree_descent.specs.rows_trait.Turns.{Ran}
+use Rattle.btree_descent.proofs.rows_trait_lemmas.Runs.{ran_append}
 use Rattle.btree_descent.specs.Known.{Sound}
 use Rattle.lean_disk.specs.Story.{IsLawful, Story}
-use Rattle.lean_proto.specs.Still.{Stood}
+use Rattle.btree_descent.specs.lean_proto.Still.{Stood}
 use Rattle.cooling_stage.specs.declared.stage.Cooling.{Cooling}
 use Rattle.cooling_stage.specs.Queue.{found}
 use Rattle.free_pages.specs.Pages.{is_in}

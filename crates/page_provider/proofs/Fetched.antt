@@ -4,7 +4,7 @@ use Rattle.std.specs.Prelude.{if◌then◌else◌}
 use Rattle.std.proofs.lemmas.Bool.{and_from, and_parts, cases_eq, cond-true, cond-false, eq-eqb, eqb-true, le-leb, lt-ltb}
 use Rattle.map_model.specs.Lists.{all, upd}
 use Rattle.map_model.proofs.ListLemmas.{upd_other, upd_same}
-use Rattle.image_model.specs.Entries.{Contents}
+use Rattle.btree_descent.specs.image_model.Entries.{Contents}
 use Rattle.page_model.specs.Check.{is_rising, names_page}
 use Rattle.page_model.specs.Nodes.{Format, Node, is_leaf}
 use Rattle.page_model.specs.Page as stored
@@ -13,31 +13,31 @@ use Rattle.page_model.specs.Pairs.{Pair, Rising, spans}
 use Rattle.page_model.specs.Records.{any}
 use Rattle.page_model.proofs.Check.{rising_from}
 use Rattle.page_model.proofs.Pairs.{rising_le}
-use Rattle.btree_node.specs.Words.{IsOrdered}
+use Rattle.btree_descent.specs.btree_node.Words.{IsOrdered}
 use Rattle.cold_pages.specs.Compared.{IsAsKept}
 use Rattle.cold_pages.specs.Laws.{IsButEntries}
 use Rattle.cold_pages.proofs.KeptLemmas.{every_kept}
-use Rattle.core_state.specs.Lists.{all_below}
-use Rattle.core_state.specs.Openings.{Opening}
-use Rattle.core_state.specs.States.{State, is_cold, is_hot}
-use Rattle.core_state.specs.Events as happening
-use Rattle.core_state.specs.Needs as core
-use Rattle.core_state.specs.Needs.{are_same, are_words, has_hot_parent, may_have}
-use Rattle.core_state.specs.Steps.{happens, step, with_pairs}
+use Rattle.btree_descent.specs.core_state.Lists.{all_below}
+use Rattle.btree_descent.specs.core_state.Openings.{Opening}
+use Rattle.btree_descent.specs.core_state.States.{State, is_cold, is_hot}
+use Rattle.btree_descent.specs.core_state.Events as happening
+use Rattle.btree_descent.specs.core_state.Needs as core
+use Rattle.btree_descent.specs.core_state.Needs.{are_same, are_words, has_hot_parent, may_have}
+use Rattle.btree_descent.specs.core_state.Steps.{happens, step, with_pairs}
 use Rattle.disk_runs.specs.Quiet.{is_quiet}
-use Rattle.disk_slots.specs.Pages.{IsPage}
+use Rattle.disk_runs.specs.disk_slots.Pages.{IsPage}
 use Rattle.lean_disk.specs.Story.{Story, Tells}
-use Rattle.lean_proto.specs.Still.{Stood}
-use Rattle.row_words.specs.declared.event.Event.{Event}
-use Rattle.row_words.specs.declared.given.Given.{Given}
-use Rattle.row_words.specs.Moments.{Moment, event_of, events_of, pager, pairs_of}
-use Rattle.row_words.specs.Openings.{opening}
+use Rattle.btree_descent.specs.lean_proto.Still.{Stood}
+use Rattle.btree_descent.specs.row_words.declared.event.Event.{Event}
+use Rattle.btree_descent.specs.row_words.declared.given.Given.{Given}
+use Rattle.btree_descent.specs.row_words.Moments.{Moment, event_of, events_of, pager, pairs_of}
+use Rattle.btree_descent.specs.row_words.Openings.{opening}
 use Rattle.row_opening.specs.Opened.{entries_of}
-use Rattle.row_words.proofs.SealedLemmas.{calm_tame, silent_changes, silent_sets}
-use Rattle.rows_trait.specs.declared.view.View.{View}
-use Rattle.rows_trait.specs.Turns.{Heard, Ran}
-use Rattle.rows_trait.specs.Views.{AreAside, BeginsTame, Shape, may, state}
-use Rattle.rows_trait.proofs.Runs.{ran_append, ran_goes, ran_none}
+use Rattle.btree_descent.proofs.row_words_lemmas.SealedLemmas.{calm_tame, silent_changes, silent_sets}
+use Rattle.btree_descent.specs.rows_trait.declared.view.View.{View}
+use Rattle.btree_descent.specs.rows_trait.Turns.{Heard, Ran}
+use Rattle.btree_descent.specs.rows_trait.Views.{AreAside, BeginsTame, Shape, may, state}
+use Rattle.btree_descent.proofs.rows_trait_lemmas.Runs.{ran_append, ran_goes, ran_none}
 use Rattle.page_calls.specs.Mirrors.{KeepsMirrors, Mirrors}
 use Rattle.page_moves.specs.Moves.{contents_of}
 use Rattle.page_pool.specs.Pools.{Agrees, Pool}
@@ -46,7 +46,7 @@ use Rattle.page_provider.specs.Ends.{HasRefused}
 use Rattle.page_provider.specs.Faults.{FaultCause, Faulted, IsAltered, IsDescent, LeadsTo}
 use Rattle.page_provider.specs.Fetches.{EveryGivenKept, HasTold, IsFound, WasRead, fetch_of, fetching}
 use Rattle.page_calls.specs.Calls.{bounds_of}
-use Rattle.page_store.specs.Slots.{IsOf}
+use Rattle.disk_runs.specs.page_store.Slots.{IsOf}
 use Rattle.page_provider.specs.Gives.{Gives, Holds}
 use Rattle.page_provider.specs.Laws.{RowLaws}
 use Rattle.page_provider.specs.Mirrored.{KeepsMirrored}

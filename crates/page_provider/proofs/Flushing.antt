@@ -2,13 +2,13 @@
 use Rattle.std.proofs.Common.{◌≡◌, ◌<◌, ◌≤◌, ◌+◌, ℕ, Bool, true, false, [], ◌++◌, append-nil, refl, sym, ap, subst, ◌∙◌, arith, add-one}
 use Rattle.std.specs.Prelude.{min}
 use Rattle.rfa_model.specs.Reaches.{least}
-use Rattle.core_state.specs.States.{flushed_by_all}
-use Rattle.row_words.specs.declared.given.Given.{Given}
-use Rattle.row_words.specs.Openings.{opening}
-use Rattle.rows_trait.specs.declared.view.View.{View}
-use Rattle.rows_trait.specs.Turns.{Heard, Ran}
-use Rattle.rows_trait.specs.Views.{Shape, NoSync, after_all, state}
-use Rattle.rows_trait.proofs.Runs.{ran_append, ran_goes}
+use Rattle.btree_descent.specs.core_state.States.{flushed_by_all}
+use Rattle.btree_descent.specs.row_words.declared.given.Given.{Given}
+use Rattle.btree_descent.specs.row_words.Openings.{opening}
+use Rattle.btree_descent.specs.rows_trait.declared.view.View.{View}
+use Rattle.btree_descent.specs.rows_trait.Turns.{Heard, Ran}
+use Rattle.btree_descent.specs.rows_trait.Views.{Shape, NoSync, after_all, state}
+use Rattle.btree_descent.proofs.rows_trait_lemmas.Runs.{ran_append, ran_goes}
 use Rattle.page_provider.specs.Laws.{RowLaws}
 use Rattle.page_provider.specs.Leaves.{IsFlushed}
 use Rattle.page_provider.specs.Providers.{Provider, Keeps}
@@ -77,5 +77,5 @@ low_flushed {z = z} {v = v} {u = u} {n = n} {number = number} {k = k} c all l =
     }
 
 -- a worker's control words are four
-pub some_words : (w : ℕ) → 0 < Rattle.rows_trait.specs.Layout.count_of (w + 1)
-some_words w = subst (λ n. 0 < Rattle.rows_trait.specs.Layout.count_of n) (sym (add-one w)) (omega arith)
+pub some_words : (w : ℕ) → 0 < Rattle.btree_descent.specs.rows_trait.Layout.count_of (w + 1)
+some_words w = subst (λ n. 0 < Rattle.btree_descent.specs.rows_trait.Layout.count_of n) (sym (add-one w)) (omega arith)

@@ -1,12 +1,12 @@
 -- What a disk gives of a page, where a run of the core stands over it.
 use Rattle.std.proofs.Common.{◌≡◌, ◌<◌, ℕ, zero, suc, List, [], ◌∷◌, length, Some, slice_get, refl, sym, ap, ◌∙◌, arith}
-use Rattle.core_state.specs.States.{State}
-use Rattle.core_state.specs.Steps.{state_after}
+use Rattle.btree_descent.specs.core_state.States.{State}
+use Rattle.btree_descent.specs.core_state.Steps.{state_after}
 use Rattle.lean_disk.specs.Story.{Story}
 use Rattle.page_calls.specs.Calls.{EveryHeld}
 use Rattle.row_opening.specs.Openings.{EveryReached}
-use Rattle.row_words.specs.Openings.{opening}
-use Rattle.rows_trait.specs.Views.{state}
+use Rattle.btree_descent.specs.row_words.Openings.{opening}
+use Rattle.btree_descent.specs.rows_trait.Views.{state}
 use Rattle.page_provider.specs.Disks.{told}
 use Rattle.page_provider.specs.Gives.{EveryGiven}
 

@@ -2,24 +2,24 @@
 use Rattle.std.proofs.Common.{◌≡◌, ◌≢◌, ◌<◌, ◌≤◌, ◌%◌, ◌==◌, cond, ltb, ℕ, Bool, true, false, List, [], ◌∷◌, length, Some, refl, sym, ap, subst, ◌∙◌, arith}
 use Rattle.std.proofs.lemmas.Bool.{cond-true, eq-eqb, eqb-true, lt-ltb}
 use Rattle.btree_descent.specs.Descents.{Sized}
-use Rattle.core_state.specs.States.{in_frame}
-use Rattle.row_words.specs.declared.event.Event.{Event}
-use Rattle.row_words.specs.declared.event.Event.TheVariants.{Miss}
-use Rattle.row_words.specs.declared.given.Given.{Given}
-use Rattle.row_words.specs.Moments.{Moment, pager}
-use Rattle.row_words.specs.Openings.{opening}
-use Rattle.row_words.specs.Sealed.{Shown}
-use Rattle.rows_trait.specs.declared.view.View.{View}
-use Rattle.rows_trait.specs.Causes.{HasFound, HasMoved, IsLatched}
-use Rattle.rows_trait.specs.Layout.{width}
-use Rattle.rows_trait.specs.Turns.{Looked, Ran}
-use Rattle.rows_trait.specs.Views.{Shape, IsEven, Spells, held_at, hold, holds, latest, may, state}
-use Rattle.rows_trait.proofs.Runs.{ran_append}
-use Rattle.version_latch.specs.Named.{missed, checked}
-use Rattle.version_latch.specs.declared.glimpse.Latched.{Latched}
-use Rattle.version_latch.specs.declared.glimpse.Moved.{Moved}
-use Rattle.version_latch.proofs.Naming.{checked_other, missed_even, missed_odd}
-use Rattle.version_latch.proofs.Keeping.{looked_ran, may_ran}
+use Rattle.btree_descent.specs.core_state.States.{in_frame}
+use Rattle.btree_descent.specs.row_words.declared.event.Event.{Event}
+use Rattle.btree_descent.specs.row_words.declared.event.Event.TheVariants.{Miss}
+use Rattle.btree_descent.specs.row_words.declared.given.Given.{Given}
+use Rattle.btree_descent.specs.row_words.Moments.{Moment, pager}
+use Rattle.btree_descent.specs.row_words.Openings.{opening}
+use Rattle.btree_descent.specs.row_words.Sealed.{Shown}
+use Rattle.btree_descent.specs.rows_trait.declared.view.View.{View}
+use Rattle.btree_descent.specs.rows_trait.Causes.{HasFound, HasMoved, IsLatched}
+use Rattle.btree_descent.specs.rows_trait.Layout.{width}
+use Rattle.btree_descent.specs.rows_trait.Turns.{Looked, Ran}
+use Rattle.btree_descent.specs.rows_trait.Views.{Shape, IsEven, Spells, held_at, hold, holds, latest, may, state}
+use Rattle.btree_descent.proofs.rows_trait_lemmas.Runs.{ran_append}
+use Rattle.btree_descent.specs.version_latch.Named.{missed, checked}
+use Rattle.btree_descent.specs.version_latch.declared.glimpse.Latched.{Latched}
+use Rattle.btree_descent.specs.version_latch.declared.glimpse.Moved.{Moved}
+use Rattle.btree_descent.proofs.version_latch_lemmas.Naming.{checked_other, missed_even, missed_odd}
+use Rattle.btree_descent.proofs.version_latch_lemmas.Keeping.{looked_ran, may_ran}
 use Rattle.held_rows.specs.Latching as latching
 use Rattle.held_rows.specs.Latching.{Refused, Took}
 use Rattle.held_rows.specs.declared.latching.Refusal.TheVariants.{RowSpent}

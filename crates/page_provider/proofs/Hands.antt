@@ -5,21 +5,21 @@ use Rattle.std.specs.Prelude.{Result, IfErr}
 use Rattle.std.proofs.lemmas.Bool.{and_from, eqb-true, ltb-true, ltb-false}
 use Rattle.map_model.specs.Lists.{Has, any}
 use Rattle.page_model.specs.Check.{names_page}
-use Rattle.core_state.specs.Lists.{all_below}
-use Rattle.core_state.specs.Openings.{Opening}
-use Rattle.core_state.specs.Needs.{has_hot_child}
-use Rattle.core_state.specs.States.{Place, State, frame_of, in_frame, is_hot}
-use Rattle.core_paging.specs.Paging.{Residence}
-use Rattle.core_paging.proofs.Places.{below}
-use Rattle.row_words.specs.declared.event.Event.{Event}
-use Rattle.row_words.specs.declared.event.Event.TheVariants as told
-use Rattle.row_words.specs.declared.given.Given.{Given}
-use Rattle.row_words.specs.Openings.{opening}
-use Rattle.rows_trait.specs.declared.view.View.{View}
-use Rattle.rows_trait.specs.Views.{Shape, after_all, state}
-use Rattle.rows_trait.specs.Turns.{Ran}
-use Rattle.rows_trait.proofs.Runs.{ran_append, ran_none}
-use Rattle.lean_proto.specs.Still.{Stood}
+use Rattle.btree_descent.specs.core_state.Lists.{all_below}
+use Rattle.btree_descent.specs.core_state.Openings.{Opening}
+use Rattle.btree_descent.specs.core_state.Needs.{has_hot_child}
+use Rattle.btree_descent.specs.core_state.States.{Place, State, frame_of, in_frame, is_hot}
+use Rattle.btree_descent.specs.core_paging.Paging.{Residence}
+use Rattle.btree_descent.proofs.core_paging_lemmas.Places.{below}
+use Rattle.btree_descent.specs.row_words.declared.event.Event.{Event}
+use Rattle.btree_descent.specs.row_words.declared.event.Event.TheVariants as told
+use Rattle.btree_descent.specs.row_words.declared.given.Given.{Given}
+use Rattle.btree_descent.specs.row_words.Openings.{opening}
+use Rattle.btree_descent.specs.rows_trait.declared.view.View.{View}
+use Rattle.btree_descent.specs.rows_trait.Views.{Shape, after_all, state}
+use Rattle.btree_descent.specs.rows_trait.Turns.{Ran}
+use Rattle.btree_descent.proofs.rows_trait_lemmas.Runs.{ran_append, ran_none}
+use Rattle.btree_descent.specs.lean_proto.Still.{Stood}
 use Rattle.row_image.specs.declared.sight.Sight.{Sight}
 use Rattle.row_image.specs.Hot.{IsHotIn}
 use Rattle.cooling_stage.specs.declared.stage.Cooling.{Cooling}
@@ -78,7 +78,7 @@ hot_frame (Place.Cooling f e w) h = absurd (true≢false (sym h))
 hot_frame Place.Cold h = absurd (true≢false (sym h))
 
 pub hot_below : {g : Opening} {s : State} → Residence g s → (p : ℕ) → is_hot (s.place p) ≡ true → (p < g.format.pages) × (frame_of (s.place p) < g.frames)
-hot_below {s = s} r p h = r.within p (frame_of (s.place p)) (ap (λ x. Rattle.core_state.specs.States.in_frame x (frame_of (s.place p))) (hot_frame (s.place p) h) ∙ in_own (frame_of (s.place p)))
+hot_below {s = s} r p h = r.within p (frame_of (s.place p)) (ap (λ x. Rattle.btree_descent.specs.core_state.States.in_frame x (frame_of (s.place p))) (hot_frame (s.place p) h) ∙ in_own (frame_of (s.place p)))
 
 -- ## The way
 

@@ -1,26 +1,26 @@
 -- Lists of events of a call, one after another; and where the first event of its own stands among others'.
 use Rattle.std.proofs.Common.{◌≡◌, ◌≤◌, ◌+◌, ◌==◌, ℕ, Bool, true, false, List, [], ◌∷◌, ◌++◌, length, append-nil, append_assoc, refl, sym, ap, subst, ◌∙◌, arith, true≢false, eq-eqb}
 use Rattle.std.specs.Prelude.{if◌then◌else◌}
-use Rattle.core_state.specs.Openings.{Opening}
-use Rattle.core_state.specs.States.{State}
-use Rattle.core_state.specs.Needs as core
-use Rattle.row_words.specs.declared.event.Event.{Event}
-use Rattle.row_words.specs.declared.event.Event.TheVariants as told
-use Rattle.row_words.specs.declared.given.Given.{Given}
-use Rattle.row_words.specs.Moments.{Moment, actor_of, by, event_of, pager}
-use Rattle.row_words.specs.Openings.{opening}
-use Rattle.row_words.specs.Sealed.{run, stepped}
-use Rattle.row_words.proofs.SealedLemmas.{by_append}
+use Rattle.btree_descent.specs.core_state.Openings.{Opening}
+use Rattle.btree_descent.specs.core_state.States.{State}
+use Rattle.btree_descent.specs.core_state.Needs as core
+use Rattle.btree_descent.specs.row_words.declared.event.Event.{Event}
+use Rattle.btree_descent.specs.row_words.declared.event.Event.TheVariants as told
+use Rattle.btree_descent.specs.row_words.declared.given.Given.{Given}
+use Rattle.btree_descent.specs.row_words.Moments.{Moment, actor_of, by, event_of, pager}
+use Rattle.btree_descent.specs.row_words.Openings.{opening}
+use Rattle.btree_descent.specs.row_words.Sealed.{run, stepped}
+use Rattle.btree_descent.proofs.row_words_lemmas.SealedLemmas.{by_append}
 use Rattle.held_rows.specs.Steps as held
-use Rattle.rows_trait.specs.declared.view.View.{View}
-use Rattle.rows_trait.specs.Views.{NoSync, may, state}
-use Rattle.rows_trait.specs.Turns.{Ran}
-use Rattle.rows_trait.proofs.EventLemmas.{sync_append}
+use Rattle.btree_descent.specs.rows_trait.declared.view.View.{View}
+use Rattle.btree_descent.specs.rows_trait.Views.{NoSync, may, state}
+use Rattle.btree_descent.specs.rows_trait.Turns.{Ran}
+use Rattle.btree_descent.proofs.rows_trait_lemmas.EventLemmas.{sync_append}
 use Rattle.page_provider.specs.Moves.{AreMet, ArePagers, AreTicked, others_in}
 use Rattle.page_provider.specs.Steps.{AreMisses, IsMissAtMost}
 use Rattle.page_provider.proofs.Keeping.{plays}
 use Rattle.page_provider.proofs.Standing.{onward, ran_state, state_on}
-use Rattle.rows_trait.proofs.Runs.{stepped_then}
+use Rattle.btree_descent.proofs.rows_trait_lemmas.Runs.{stepped_then}
 
 -- ## One list behind another
 

@@ -2,20 +2,20 @@
 use Rattle.std.proofs.Common.{◌≡◌, ◌<◌, ◌≤◌, ◌^◌, ◌==◌, ◌||◌, Bool, true, false, List, [], ◌∷◌, ◌++◌, length, append_assoc, refl, sym, ap, subst, ◌∙◌, true≢false}
 use Rattle.std.specs.Prelude.{if◌then◌else◌}
 use Rattle.std.proofs.lemmas.Bool.{eqb-true}
-use Rattle.core_state.specs.States.{Place, State, is_cold, is_hot}
-use Rattle.core_state.specs.Needs as core
-use Rattle.core_state.specs.Steps.{happens, step}
-use Rattle.core_paging.specs.Paging.{Waiting}
-use Rattle.row_words.specs.declared.event.Event.{Event}
-use Rattle.row_words.specs.declared.event.Event.TheVariants as told
-use Rattle.row_words.specs.declared.given.Given.{Given}
-use Rattle.row_words.specs.Moments.{event_of, actor_of, pager, by}
-use Rattle.row_words.specs.Openings.{opening}
-use Rattle.rows_trait.specs.declared.view.View.{View}
-use Rattle.rows_trait.specs.Views.{Shape, NoSync, after_all, may, state}
-use Rattle.rows_trait.specs.Turns.{Ran}
+use Rattle.btree_descent.specs.core_state.States.{Place, State, is_cold, is_hot}
+use Rattle.btree_descent.specs.core_state.Needs as core
+use Rattle.btree_descent.specs.core_state.Steps.{happens, step}
+use Rattle.btree_descent.specs.core_paging.Paging.{Waiting}
+use Rattle.btree_descent.specs.row_words.declared.event.Event.{Event}
+use Rattle.btree_descent.specs.row_words.declared.event.Event.TheVariants as told
+use Rattle.btree_descent.specs.row_words.declared.given.Given.{Given}
+use Rattle.btree_descent.specs.row_words.Moments.{event_of, actor_of, pager, by}
+use Rattle.btree_descent.specs.row_words.Openings.{opening}
+use Rattle.btree_descent.specs.rows_trait.declared.view.View.{View}
+use Rattle.btree_descent.specs.rows_trait.Views.{Shape, NoSync, after_all, may, state}
+use Rattle.btree_descent.specs.rows_trait.Turns.{Ran}
 use Rattle.btree_descent.specs.Known.{IsSound}
-use Rattle.lean_proto.specs.Still.{Stood, EveryStood}
+use Rattle.btree_descent.specs.lean_proto.Still.{Stood, EveryStood}
 use Rattle.page_calls.specs.declared.slots.Slot.{Slot}
 use Rattle.page_pool.specs.Pools.{Agrees, EveryStanding}
 use Rattle.page_provider.specs.Providers.{IsKept, Provider, Keeps, pool}

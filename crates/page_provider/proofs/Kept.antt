@@ -3,14 +3,14 @@ use Rattle.std.proofs.Common.{◌≡◌, ◌<◌, ℕ, true, false, inl, inr, Li
 use Rattle.std.proofs.lemmas.Bool.{cases_eq}
 use Rattle.map_model.specs.Lists.{upd}
 use Rattle.map_model.proofs.ListLemmas.{upd_other, upd_same}
-use Rattle.image_model.specs.Entries.{Contents}
+use Rattle.btree_descent.specs.image_model.Entries.{Contents}
 use Rattle.page_model.specs.Nodes.{Node}
 use Rattle.page_model.specs.Page as stored
 use Rattle.page_model.specs.Tree.{IsTree}
-use Rattle.core_state.specs.Openings.{Opening}
-use Rattle.core_state.specs.States.{Place, State, is_cold, nodes_of}
-use Rattle.core_state.specs.Events as happening
-use Rattle.core_state.specs.Steps.{happens}
+use Rattle.btree_descent.specs.core_state.Openings.{Opening}
+use Rattle.btree_descent.specs.core_state.States.{Place, State, is_cold, nodes_of}
+use Rattle.btree_descent.specs.core_state.Events as happening
+use Rattle.btree_descent.specs.core_state.Steps.{happens}
 use Rattle.cold_pages.specs.declared.kept.Kept.{Kept}
 use Rattle.cold_pages.specs.Kept.{AreWithin, come, left}
 use Rattle.cold_pages.specs.Laws.{IsButEntries, KeptLaws}

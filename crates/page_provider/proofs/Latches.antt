@@ -1,21 +1,21 @@
 -- Rows that were latched as they were seen, or were not, and why.
 use Rattle.std.proofs.Common.{◌≡◌, ◌≢◌, ◌+◌, ◌<◌, ◌≤◌, ◌^◌, ◌==◌, ltb, inl, inr, ℕ, Bool, true, false, List, [], ◌∷◌, ◌++◌, Some, append_assoc, refl, sym, ap, subst, ◌∙◌, arith}
 use Rattle.std.proofs.lemmas.Bool.{cond-true, cond-false, eq-eqb, lt-ltb, ne_eqb}
-use Rattle.row_words.specs.declared.event.Event.TheVariants.{Miss}
-use Rattle.row_words.specs.declared.given.Given.{Given}
-use Rattle.row_words.specs.Moments.{pager}
-use Rattle.row_words.specs.Openings.{opening}
-use Rattle.rows_trait.specs.declared.view.Act.{Act}
-use Rattle.rows_trait.specs.declared.view.Act.TheVariants.{Look, Load, Store, Set, Hear, Turn}
-use Rattle.rows_trait.specs.declared.view.View.{View}
-use Rattle.rows_trait.specs.Causes.{Finds, HasFound, HasMoved, IsLatched, OnlyLoads}
-use Rattle.rows_trait.specs.Turns.{Ran, Released}
-use Rattle.rows_trait.specs.Views.{Shape, hold, held_at, holds, latest, state}
-use Rattle.rows_trait.specs.declared.view.Hold.{Hold}
-use Rattle.rows_trait.proofs.Causes.{finds_newer, finds_older}
-use Rattle.rows_trait.proofs.Runs.{ran_none}
-use Rattle.version_latch.specs.declared.glimpse.Moved.{Moved}
-use Rattle.version_latch.specs.declared.glimpse.Latched.{Latched}
+use Rattle.btree_descent.specs.row_words.declared.event.Event.TheVariants.{Miss}
+use Rattle.btree_descent.specs.row_words.declared.given.Given.{Given}
+use Rattle.btree_descent.specs.row_words.Moments.{pager}
+use Rattle.btree_descent.specs.row_words.Openings.{opening}
+use Rattle.btree_descent.specs.rows_trait.declared.view.Act.{Act}
+use Rattle.btree_descent.specs.rows_trait.declared.view.Act.TheVariants.{Look, Load, Store, Set, Hear, Turn}
+use Rattle.btree_descent.specs.rows_trait.declared.view.View.{View}
+use Rattle.btree_descent.specs.rows_trait.Causes.{Finds, HasFound, HasMoved, IsLatched, OnlyLoads}
+use Rattle.btree_descent.specs.rows_trait.Turns.{Ran, Released}
+use Rattle.btree_descent.specs.rows_trait.Views.{Shape, hold, held_at, holds, latest, state}
+use Rattle.btree_descent.specs.rows_trait.declared.view.Hold.{Hold}
+use Rattle.btree_descent.proofs.rows_trait_lemmas.Causes.{finds_newer, finds_older}
+use Rattle.btree_descent.proofs.rows_trait_lemmas.Runs.{ran_none}
+use Rattle.btree_descent.specs.version_latch.declared.glimpse.Moved.{Moved}
+use Rattle.btree_descent.specs.version_latch.declared.glimpse.Latched.{Latched}
 use Rattle.btree_descent.specs.Known.{IsSound}
 use Rattle.btree_descent.proofs.Calls.{sound_after}
 use Rattle.held_rows.specs.Latching.{IsFrameRow, Refused, Took, TookTwo}

@@ -1,11 +1,11 @@
 -- Why a call refused: what only loads have found was loaded, and nothing was stored to the latch in between.
 use Rattle.std.proofs.Common.{◌≡◌, ◌%◌, ◌∙◌, ◌++◌, inl, inr, ℕ, List, [], ◌∷◌, append_assoc, sym, ap}
-use Rattle.rows_trait.specs.declared.view.Act.{Act}
-use Rattle.rows_trait.specs.declared.view.Act.TheVariants.{Look, Load, Store, Set, Hear, Turn}
-use Rattle.rows_trait.specs.declared.view.View.{View}
-use Rattle.rows_trait.specs.Causes.{AreLoads, HasFound, HasMoved, IsLatched}
-use Rattle.rows_trait.specs.Turns.{Stepped}
-use Rattle.rows_trait.proofs.Causes.{finds_newer}
+use Rattle.btree_descent.specs.rows_trait.declared.view.Act.{Act}
+use Rattle.btree_descent.specs.rows_trait.declared.view.Act.TheVariants.{Look, Load, Store, Set, Hear, Turn}
+use Rattle.btree_descent.specs.rows_trait.declared.view.View.{View}
+use Rattle.btree_descent.specs.rows_trait.Causes.{AreLoads, HasFound, HasMoved, IsLatched}
+use Rattle.btree_descent.specs.rows_trait.Turns.{Stepped}
+use Rattle.btree_descent.proofs.rows_trait_lemmas.Causes.{finds_newer}
 use Rattle.page_provider.specs.declared.refusal.Refusal.{Refusal}
 use Rattle.page_provider.specs.declared.refusal.Refusal.TheVariants as refusal
 use Rattle.page_provider.specs.Refusals.{Caused, HasLoaded, HasLoadedTwo, IsOthers, NoSet, SpentAt}

@@ -1,21 +1,21 @@
 -- Over a run no page is lost.
 use Rattle.std.proofs.Common.{◌≡◌, ◌∙◌, ◌<◌, ◌≤◌, ℕ, true, Result, Ok, Err, IfErr, length, ap, refl, sym, arith}
-use Rattle.core_state.specs.Openings.{Opening}
-use Rattle.core_state.specs.States.{is_cold}
-use Rattle.disk_image.specs.PageSlots.{page_in}
+use Rattle.btree_descent.specs.core_state.Openings.{Opening}
+use Rattle.btree_descent.specs.core_state.States.{is_cold}
+use Rattle.disk_runs.specs.disk_image.PageSlots.{page_in}
 use Rattle.disk_runs.specs.Pages.{last_saved}
 use Rattle.disk_runs.specs.Stands.{Known}
 use Rattle.lean_disk.specs.Story.{Crash, Story, Tells}
 use Rattle.page_calls.specs.Calls.{EveryHeld, IsDamaged, bounds_of}
 use Rattle.page_calls.specs.Slots.{last_slot}
 use Rattle.page_calls.proofs.Loading.{held_is, lasts}
-use Rattle.page_store.specs.Slots.{EverySeal, HasSeal, slot_bytes}
-use Rattle.page_store.specs.declared.slot.Seal.{Seal}
-use Rattle.page_store.specs.declared.slot.Seal.TheVariants as seal
+use Rattle.disk_runs.specs.page_store.Slots.{EverySeal, HasSeal, slot_bytes}
+use Rattle.disk_runs.specs.page_store.declared.slot.Seal.{Seal}
+use Rattle.disk_runs.specs.page_store.declared.slot.Seal.TheVariants as seal
 use Rattle.row_opening.specs.Openings.{EveryReached}
-use Rattle.row_words.specs.Openings.{opening}
-use Rattle.rows_trait.specs.declared.view.View.{View}
-use Rattle.rows_trait.specs.Views.{state}
+use Rattle.btree_descent.specs.row_words.Openings.{opening}
+use Rattle.btree_descent.specs.rows_trait.declared.view.View.{View}
+use Rattle.btree_descent.specs.rows_trait.Views.{state}
 use Rattle.page_provider.specs.Disks.{Runs, told}
 use Rattle.page_provider.specs.Faults.{ColdCause, EveryFound}
 use Rattle.page_provider.specs.Providers.{Provider}

@@ -1,10 +1,10 @@
 -- The free pages, counted by marks and by the core.
 use Rattle.std.proofs.Common.{◌≡◌, ℕ, zero, suc, Bool, true, false, not, ◌&&◌, List, [], ◌∷◌, length, refl, sym, ap, ◌∙◌}
 use Rattle.std.specs.Prelude.{if◌then◌else◌}
-use Rattle.core_state.specs.Lists.{count_below}
-use Rattle.core_state.specs.States.{is_hot}
-use Rattle.row_words.specs.Openings.{opening}
-use Rattle.rows_trait.specs.Views.{state}
+use Rattle.btree_descent.specs.core_state.Lists.{count_below}
+use Rattle.btree_descent.specs.core_state.States.{is_hot}
+use Rattle.btree_descent.specs.row_words.Openings.{opening}
+use Rattle.btree_descent.specs.rows_trait.Views.{state}
 use Rattle.free_pages.specs.Pages.{count, is_in}
 use Rattle.page_provider.specs.Fresh.{EveryFree}
 use Rattle.page_provider.proofs.Amounts.{count_same}

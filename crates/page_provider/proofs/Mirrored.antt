@@ -2,36 +2,36 @@
 use Rattle.std.proofs.Common.{◌≡◌, ◌<◌, ◌≤◌, ◌==◌, ℕ, Bool, true, false, List, [], ◌∷◌, ◌++◌, Ok, Err, Some, None, length, refl, sym, ap, subst, ◌∙◌, arith, true≢false}
 use Rattle.std.specs.Prelude.{Option, Result, IfErr, IfOk, if◌then◌else◌}
 use Rattle.map_model.specs.Lists.{upd}
-use Rattle.btree_node.specs.Words.{words_of}
+use Rattle.btree_descent.specs.btree_node.Words.{words_of}
 use Rattle.lean_bytes.specs.Numbers.{AreWords}
 use Rattle.page_model.specs.Nodes.{WellFormed}
 use Rattle.page_model.specs.Page.{Page}
-use Rattle.core_state.specs.Events as happening
-use Rattle.core_state.specs.Needs as core
-use Rattle.core_state.specs.Needs.{is_dirty}
-use Rattle.core_state.specs.Openings.{Opening}
-use Rattle.core_state.specs.States.{State, flushed_by_all}
-use Rattle.core_state.specs.Steps.{happens, put_back, state_after}
+use Rattle.btree_descent.specs.core_state.Events as happening
+use Rattle.btree_descent.specs.core_state.Needs as core
+use Rattle.btree_descent.specs.core_state.Needs.{is_dirty}
+use Rattle.btree_descent.specs.core_state.Openings.{Opening}
+use Rattle.btree_descent.specs.core_state.States.{State, flushed_by_all}
+use Rattle.btree_descent.specs.core_state.Steps.{happens, put_back, state_after}
 use Rattle.cooling_stage.specs.declared.stage.Cooling.{Cooling}
-use Rattle.disk_slots.specs.Pages.{IsPage}
+use Rattle.disk_runs.specs.disk_slots.Pages.{IsPage}
 use Rattle.lean_disk.specs.Story.{Story}
 use Rattle.page_calls.specs.Mirrors.{EveryMirrored, KeepsMirrors, Mirrors, SavesMirrors}
 use Rattle.page_calls.specs.declared.slots.Slot.{Slot}
-use Rattle.page_store.specs.Bases.{image_page}
+use Rattle.disk_runs.specs.page_store.Bases.{image_page}
 use Rattle.row_image.specs.Images.{written}
 use Rattle.row_image.specs.Looks.{Watched}
 use Rattle.row_opening.specs.Openings.{EveryReached}
-use Rattle.row_words.specs.declared.event.Event.{Event}
-use Rattle.row_words.specs.declared.event.Event.TheVariants as told
-use Rattle.row_words.specs.declared.event.Met.TheVariants as met
-use Rattle.row_words.specs.declared.given.Given.{Given}
-use Rattle.row_words.specs.Moments.{Moment, actor_of, by, event_of, pager}
-use Rattle.row_words.specs.Openings.{opening}
-use Rattle.row_words.specs.Sealed.{run, stepped}
-use Rattle.rows_trait.specs.declared.view.View.{View}
-use Rattle.rows_trait.specs.Turns.{Ran}
-use Rattle.rows_trait.specs.Views.{Shape, may, state}
-use Rattle.rows_trait.proofs.Runs.{ran_append}
+use Rattle.btree_descent.specs.row_words.declared.event.Event.{Event}
+use Rattle.btree_descent.specs.row_words.declared.event.Event.TheVariants as told
+use Rattle.btree_descent.specs.row_words.declared.event.Met.TheVariants as met
+use Rattle.btree_descent.specs.row_words.declared.given.Given.{Given}
+use Rattle.btree_descent.specs.row_words.Moments.{Moment, actor_of, by, event_of, pager}
+use Rattle.btree_descent.specs.row_words.Openings.{opening}
+use Rattle.btree_descent.specs.row_words.Sealed.{run, stepped}
+use Rattle.btree_descent.specs.rows_trait.declared.view.View.{View}
+use Rattle.btree_descent.specs.rows_trait.Turns.{Ran}
+use Rattle.btree_descent.specs.rows_trait.Views.{Shape, may, state}
+use Rattle.btree_descent.proofs.rows_trait_lemmas.Runs.{ran_append}
 use Rattle.page_provider.specs.Comes.{IsUnseen}
 use Rattle.page_provider.specs.Cools.{CoolsOrNot}
 use Rattle.page_provider.specs.Disks as disks

@@ -1,20 +1,20 @@
 -- What a call of the pager says where it refused, and where a page was saved or has left.
 use Rattle.std.proofs.Common.{◌≡◌, ◌≢◌, ◌<◌, ◌≤◌, ◌||◌, ◌⊎◌, inl, inr, ℕ, Bool, true, false, List, [], ◌∷◌, ◌++◌, append-nil, length, Some, slice_get, refl, sym, ap, subst, ◌∙◌, arith, true≢false}
-use Rattle.core_state.specs.Lists.{times}
-use Rattle.core_state.specs.Needs.{is_dirty}
-use Rattle.core_state.specs.States.{flushed_by_all, frame_of, in_frame}
-use Rattle.core_paging.specs.Paging.{one_if}
+use Rattle.btree_descent.specs.core_state.Lists.{times}
+use Rattle.btree_descent.specs.core_state.Needs.{is_dirty}
+use Rattle.btree_descent.specs.core_state.States.{flushed_by_all, frame_of, in_frame}
+use Rattle.btree_descent.specs.core_paging.Paging.{one_if}
 use Rattle.cooling_stage.specs.declared.stage.Cooling.{Cooling}
 use Rattle.cooling_stage.specs.Queue.{found}
-use Rattle.row_words.specs.declared.event.Event.{Event}
-use Rattle.row_words.specs.declared.event.Event.TheVariants as told
-use Rattle.row_words.specs.declared.event.Event.TheVariants.{Evict, Save}
-use Rattle.row_words.specs.Moments.{pager}
-use Rattle.row_words.specs.Openings.{opening}
-use Rattle.rows_trait.specs.declared.view.View.{View}
-use Rattle.rows_trait.specs.Turns.{Ran}
-use Rattle.rows_trait.specs.Views.{Shape, may, state}
-use Rattle.rows_trait.proofs.Runs.{ran_append, ran_none}
+use Rattle.btree_descent.specs.row_words.declared.event.Event.{Event}
+use Rattle.btree_descent.specs.row_words.declared.event.Event.TheVariants as told
+use Rattle.btree_descent.specs.row_words.declared.event.Event.TheVariants.{Evict, Save}
+use Rattle.btree_descent.specs.row_words.Moments.{pager}
+use Rattle.btree_descent.specs.row_words.Openings.{opening}
+use Rattle.btree_descent.specs.rows_trait.declared.view.View.{View}
+use Rattle.btree_descent.specs.rows_trait.Turns.{Ran}
+use Rattle.btree_descent.specs.rows_trait.Views.{Shape, may, state}
+use Rattle.btree_descent.proofs.rows_trait_lemmas.Runs.{ran_append, ran_none}
 use Rattle.row_image.specs.Images.{StaysIn}
 use Rattle.page_calls.specs.declared.slots.Slot.{Slot}
 use Rattle.page_moves.specs.Moves.{IsMet, IsPager}
@@ -205,8 +205,8 @@ low_ran {z = z} {v = v} {u = u} laws c none m r low =
     let b = low_on laws.loads z v u r.more none r.given r.seen (quiet z.alone r) in
     omega arith
   where
-    quiet : (alone : Bool) → (q : Ran alone v [] u) → Rattle.rows_trait.specs.Views.NoSync q.more
-    quiet true q = subst Rattle.rows_trait.specs.Views.NoSync (sym (q.all refl)) tt
+    quiet : (alone : Bool) → (q : Ran alone v [] u) → Rattle.btree_descent.specs.rows_trait.Views.NoSync q.more
+    quiet true q = subst Rattle.btree_descent.specs.rows_trait.Views.NoSync (sym (q.all refl)) tt
     quiet false q = q.part refl
 
 pub may_save : {v : View} {page : ℕ} → MayGo v page → ((state v).core.page page).gsn ≤ flushed_by_all (opening v.given) (state v).core → IsMet v (Save page)

@@ -6,20 +6,20 @@ use Rattle.page_model.specs.Limits.{frame_bit}
 use Rattle.page_model.specs.Page.{word_at}
 use Rattle.page_model.specs.Page as stored
 use Rattle.page_model.specs.Pairs as pairs
-use Rattle.core_state.specs.Lists.{all_below}
-use Rattle.core_state.specs.Openings.{Opening}
-use Rattle.core_state.specs.States.{State, frame_of, in_frame, is_hot}
-use Rattle.core_state.specs.Needs.{has_hot_parent, is_empty_frame}
-use Rattle.row_words.specs.declared.given.Given.{Given}
-use Rattle.row_words.specs.Openings.{opening}
-use Rattle.row_words.specs.Words.{framed_page}
-use Rattle.row_words.proofs.Stays.{and_true}
-use Rattle.rows_trait.specs.declared.view.View.{View}
-use Rattle.rows_trait.specs.Views.{Shape, state}
-use Rattle.rows_trait.specs.Turns.{Ran}
-use Rattle.rows_trait.proofs.Runs.{ran_append}
+use Rattle.btree_descent.specs.core_state.Lists.{all_below}
+use Rattle.btree_descent.specs.core_state.Openings.{Opening}
+use Rattle.btree_descent.specs.core_state.States.{State, frame_of, in_frame, is_hot}
+use Rattle.btree_descent.specs.core_state.Needs.{has_hot_parent, is_empty_frame}
+use Rattle.btree_descent.specs.row_words.declared.given.Given.{Given}
+use Rattle.btree_descent.specs.row_words.Openings.{opening}
+use Rattle.btree_descent.specs.row_words.Words.{framed_page}
+use Rattle.btree_descent.proofs.row_words_lemmas.Stays.{and_true}
+use Rattle.btree_descent.specs.rows_trait.declared.view.View.{View}
+use Rattle.btree_descent.specs.rows_trait.Views.{Shape, state}
+use Rattle.btree_descent.specs.rows_trait.Turns.{Ran}
+use Rattle.btree_descent.proofs.rows_trait_lemmas.Runs.{ran_append}
 use Rattle.btree_descent.specs.Known.{IsSound}
-use Rattle.lean_proto.proofs.Loads.{names_from}
+use Rattle.btree_descent.proofs.lean_proto_lemmas.Loads.{names_from}
 use Rattle.cooling_stage.specs.declared.stage.Cooling.{Cooling}
 use Rattle.cooling_stage.specs.Queue.{found}
 use Rattle.page_moves.specs.Moves.{CanFill, CanRelink, HasLink}

@@ -1,15 +1,15 @@
 -- The parts of an eviction, put together.
 use Rattle.std.proofs.Common.{◌≡◌, ◌≤◌, ℕ, Bool, true, false, [], ◌++◌, Ok, Err, refl, sym, ap, subst, ◌∙◌, arith, true≢false}
 use Rattle.std.specs.Prelude.{Result, IfErr, IfOk}
-use Rattle.core_state.specs.Needs.{is_dirty}
-use Rattle.core_state.specs.States.{flushed_by_all, frame_of}
+use Rattle.btree_descent.specs.core_state.Needs.{is_dirty}
+use Rattle.btree_descent.specs.core_state.States.{flushed_by_all, frame_of}
 use Rattle.cooling_stage.specs.declared.stage.Cooling.{Cooling}
 use Rattle.lean_disk.specs.Faults.{HasCause}
 use Rattle.lean_disk.specs.Story.{IsLawful, Story}
-use Rattle.row_words.specs.Openings.{opening}
-use Rattle.rows_trait.specs.declared.view.View.{View}
-use Rattle.rows_trait.specs.Turns.{Ran}
-use Rattle.rows_trait.specs.Views.{Shape, state}
+use Rattle.btree_descent.specs.row_words.Openings.{opening}
+use Rattle.btree_descent.specs.rows_trait.declared.view.View.{View}
+use Rattle.btree_descent.specs.rows_trait.Turns.{Ran}
+use Rattle.btree_descent.specs.rows_trait.Views.{Shape, state}
 use Rattle.page_provider.specs.declared.refusal.Refusal.{Refusal}
 use Rattle.page_provider.specs.Disks.{Disked}
 use Rattle.page_provider.specs.Evicts.{CanLeave, HasLeft, HasStayed, saving}

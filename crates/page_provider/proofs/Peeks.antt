@@ -5,18 +5,18 @@ use Rattle.std.proofs.lemmas.Bool.{eqb-true}
 use Rattle.page_model.specs.Page as stored
 use Rattle.page_model.specs.Page.{word_at}
 use Rattle.page_model.specs.Nodes.{Node}
-use Rattle.btree_node.specs.Words.{words_of, Fits}
-use Rattle.btree_node.proofs.SpellingLemmas.{page_of-words_of, spells-count, spells-word}
-use Rattle.row_words.specs.Moments.{Moment}
-use Rattle.row_words.specs.Openings.{opening}
-use Rattle.row_words.specs.Words.{framed_page, is_inner}
-use Rattle.row_words.specs.declared.given.Given.{Given}
-use Rattle.rows_trait.specs.declared.view.Act.{Act}
-use Rattle.rows_trait.specs.declared.view.View.{View}
-use Rattle.rows_trait.specs.Views.{Shape, Knows, state}
-use Rattle.rows_trait.proofs.Runs.{ran_append}
-use Rattle.version_latch.specs.declared.glimpse.Glimpse.{Glimpse}
-use Rattle.swips.specs.declared.hint.TheConstants.{MARK}
+use Rattle.btree_descent.specs.btree_node.Words.{words_of, Fits}
+use Rattle.btree_descent.proofs.btree_node_lemmas.SpellingLemmas.{page_of-words_of, spells-count, spells-word}
+use Rattle.btree_descent.specs.row_words.Moments.{Moment}
+use Rattle.btree_descent.specs.row_words.Openings.{opening}
+use Rattle.btree_descent.specs.row_words.Words.{framed_page, is_inner}
+use Rattle.btree_descent.specs.row_words.declared.given.Given.{Given}
+use Rattle.btree_descent.specs.rows_trait.declared.view.Act.{Act}
+use Rattle.btree_descent.specs.rows_trait.declared.view.View.{View}
+use Rattle.btree_descent.specs.rows_trait.Views.{Shape, Knows, state}
+use Rattle.btree_descent.proofs.rows_trait_lemmas.Runs.{ran_append}
+use Rattle.btree_descent.specs.version_latch.declared.glimpse.Glimpse.{Glimpse}
+use Rattle.btree_descent.specs.swips.declared.hint.TheConstants.{MARK}
 use Rattle.btree_descent.specs.Inside.{Agrees}
 use Rattle.btree_descent.specs.Known.{IsSound}
 use Rattle.btree_descent.proofs.Calls.{sound_after}

@@ -1,21 +1,21 @@
 -- A page that comes into a frame, or is in none: what a fault says of it.
 use Rattle.std.proofs.Common.{◌≡◌, ◌<◌, ◌≤◌, ◌&&◌, ◌⊎◌, inl, inr, not, ℕ, Bool, true, false, List, [], ◌∷◌, length, Some, refl, sym, ap, subst, ◌∙◌, arith, true≢false}
-use Rattle.row_words.proofs.Stays.{and_true}
-use Rattle.core_state.specs.Needs.{has_hot_parent}
-use Rattle.core_state.specs.States.{Place, is_cold, is_cooling, is_hot}
+use Rattle.btree_descent.proofs.row_words_lemmas.Stays.{and_true}
+use Rattle.btree_descent.specs.core_state.Needs.{has_hot_parent}
+use Rattle.btree_descent.specs.core_state.States.{Place, is_cold, is_cooling, is_hot}
 use Rattle.cooling_stage.specs.declared.stage.Cooling.{Cooling}
 use Rattle.cooling_stage.specs.Queue.{found}
 use Rattle.free_pages.specs.Pages.{is_in}
 use Rattle.page_pool.specs.Pools.{IsEntry}
-use Rattle.row_words.specs.declared.event.Event.{Event}
-use Rattle.row_words.specs.declared.event.Event.TheVariants.{Rescue}
-use Rattle.row_words.specs.Moments.{events_of}
+use Rattle.btree_descent.specs.row_words.declared.event.Event.{Event}
+use Rattle.btree_descent.specs.row_words.declared.event.Event.TheVariants.{Rescue}
+use Rattle.btree_descent.specs.row_words.Moments.{events_of}
 use Rattle.map_model.specs.Lists.{all}
 use Rattle.disk_runs.specs.Quiet.{is_quiet}
 use Rattle.lean_disk.specs.Story.{IsLawful, Story}
-use Rattle.row_words.specs.Openings.{opening}
-use Rattle.rows_trait.specs.declared.view.View.{View}
-use Rattle.rows_trait.specs.Views.{Shape, state}
+use Rattle.btree_descent.specs.row_words.Openings.{opening}
+use Rattle.btree_descent.specs.rows_trait.declared.view.View.{View}
+use Rattle.btree_descent.specs.rows_trait.Views.{Shape, state}
 use Rattle.page_provider.specs.declared.refusal.Refusal.{Refusal}
 use Rattle.page_provider.specs.Comes.{HasCome, IsUnseen}
 use Rattle.page_provider.specs.Cools.{Idle}

@@ -3,7 +3,7 @@ use Rattle.std.proofs.Common.{◌≡◌, ◌<◌, ◌==◌, ℕ, suc, Bool, true
 use Rattle.std.specs.Prelude.{if◌then◌else◌}
 use Rattle.std.proofs.lemmas.Bool.{eqb-true}
 use Rattle.map_model.specs.Lists.{Has}
-use Rattle.core_state.specs.Lists.{times}
+use Rattle.btree_descent.specs.core_state.Lists.{times}
 use Rattle.cooling_stage.specs.declared.stage.Cooling.{Cooling}
 use Rattle.cooling_stage.specs.Queue.{found}
 

@@ -1,12 +1,12 @@
 -- A frame is made empty: how the call ends.
 use Rattle.std.proofs.Common.{◌≡◌, ◌<◌, ◌≤◌, ◌+◌, ◌-◌, ◌||◌, ◌⊎◌, inl, inr, ℕ, zero, suc, Bool, true, false, List, [], ◌∷◌, ◌++◌, length, length-append, slice_get, None, Some, refl, sym, ap, subst, ◌∙◌, arith}
 use Rattle.lean_disk.specs.Story.{IsLawful, Story}
-use Rattle.rows_trait.specs.declared.view.View.{View}
-use Rattle.row_words.specs.declared.given.Given.{Given}
-use Rattle.row_words.specs.Openings.{opening}
-use Rattle.rows_trait.specs.Views.{Shape, state}
-use Rattle.rows_trait.proofs.Runs.{ran_append, ran_none}
-use Rattle.core_state.specs.Needs.{is_dirty}
+use Rattle.btree_descent.specs.rows_trait.declared.view.View.{View}
+use Rattle.btree_descent.specs.row_words.declared.given.Given.{Given}
+use Rattle.btree_descent.specs.row_words.Openings.{opening}
+use Rattle.btree_descent.specs.rows_trait.Views.{Shape, state}
+use Rattle.btree_descent.proofs.rows_trait_lemmas.Runs.{ran_append, ran_none}
+use Rattle.btree_descent.specs.core_state.Needs.{is_dirty}
 use Rattle.page_pool.specs.Full.{NoneRipe}
 use Rattle.page_provider.specs.declared.leaving.Chosen.TheVariants as chosen
 use Rattle.cooling_stage.specs.declared.stage.Cooling.{Cooling}

@@ -1,25 +1,25 @@
 -- The disk under a run, where nobody else steps: how the pager's calls follow one another.
 use Rattle.std.proofs.Common.{◌≡◌, Bool, true, false, List, [], ◌∷◌, ◌++◌, append-nil, append_assoc, refl, sym, ap, subst, ◌∙◌}
 use Rattle.map_model.specs.Lists.{all}
-use Rattle.row_words.proofs.Stays.{and_true}
-use Rattle.core_state.specs.Openings.{Opening}
-use Rattle.core_state.specs.Events as happening
+use Rattle.btree_descent.proofs.row_words_lemmas.Stays.{and_true}
+use Rattle.btree_descent.specs.core_state.Openings.{Opening}
+use Rattle.btree_descent.specs.core_state.Events as happening
 use Rattle.lean_disk.specs.Moments.{LeavesOnly}
 use Rattle.lean_disk.specs.Story.{Crash, IsLawful, Story}
 use Rattle.lean_disk.proofs.MomentLemmas.{started, weaker}
 use Rattle.lean_disk.proofs.MomentLemmas as moments
-use Rattle.core_disk.specs.Versions.{then}
+use Rattle.disk_runs.specs.core_disk.Versions.{then}
 use Rattle.disk_runs.specs.Masters.{IsNoEarlier}
 use Rattle.disk_runs.specs.Moments.{LeavesSome}
 use Rattle.disk_runs.specs.Quiet.{is_quiet}
 use Rattle.disk_runs.specs.Stands.{Known, LeavesRun, Stands}
 use Rattle.disk_runs.proofs.StandLemmas.{every_rest, every_still}
-use Rattle.row_words.specs.declared.event.Event.{Event}
-use Rattle.row_words.specs.declared.given.Given.{Given}
-use Rattle.row_words.specs.Moments.{events_of}
+use Rattle.btree_descent.specs.row_words.declared.event.Event.{Event}
+use Rattle.btree_descent.specs.row_words.declared.given.Given.{Given}
+use Rattle.btree_descent.specs.row_words.Moments.{events_of}
 use Rattle.row_opening.specs.Openings.{Opens}
-use Rattle.rows_trait.specs.declared.view.View.{View}
-use Rattle.rows_trait.specs.Turns.{Ran}
+use Rattle.btree_descent.specs.rows_trait.declared.view.View.{View}
+use Rattle.btree_descent.specs.rows_trait.Turns.{Ran}
 use Rattle.page_calls.specs.Calls.{IsOn}
 use Rattle.page_calls.specs.Slots.{Knows}
 use Rattle.page_calls.specs.declared.slots.Slot.{Slot}
@@ -31,7 +31,7 @@ use Rattle.page_provider.specs.Providers.{Provider}
 
 events_append : (es fs : List Event) → events_of (es ++ fs) ≡ events_of es ++ events_of fs
 events_append [] fs = refl
-events_append (e ∷ es) fs = ap (λ xs. Rattle.row_words.specs.Moments.event_of e ∷ xs) (events_append es fs)
+events_append (e ∷ es) fs = ap (λ xs. Rattle.btree_descent.specs.row_words.Moments.event_of e ∷ xs) (events_append es fs)
 
 pub told_ran : {v u : View} {es : List Event} → Ran true v es u → told u ≡ told v ++ events_of es
 told_ran {v = v} {u = u} {es = es} r =

@@ -1,15 +1,15 @@
 -- The slots of a page, before it is saved and after a sync, in each run.
 use Rattle.std.proofs.Common.{◌≡◌, not, cond, ℕ, zero, suc, Bool, true, false, List, [], ◌∷◌, length, map, Some, slice_get, refl, sym, ap, subst, ◌∙◌}
-use Rattle.core_state.specs.Openings.{Opening}
-use Rattle.core_state.specs.Events.{Event}
+use Rattle.btree_descent.specs.core_state.Openings.{Opening}
+use Rattle.btree_descent.specs.core_state.Events.{Event}
 use Rattle.lean_disk.specs.Moments.{LeavesOnly}
 use Rattle.lean_disk.specs.Story.{IsLawful, Story}
 use Rattle.lean_disk.specs.declared.disk.Did.{Did}
 use Rattle.lean_disk.specs.declared.disk.Did.TheVariants as did
 use Rattle.lean_disk.proofs.MomentLemmas.{started}
 use Rattle.lean_disk.proofs.MomentLemmas as moments
-use Rattle.disk_image.specs.Laws.{EverySealed}
-use Rattle.worker_log.specs.Laws.{EveryKept, EveryPrefix}
+use Rattle.disk_runs.specs.disk_image.Laws.{EverySealed}
+use Rattle.disk_runs.specs.worker_log.Laws.{EveryKept, EveryPrefix}
 use Rattle.page_model.specs.Page.{Page}
 use Rattle.disk_runs.specs.Stands.{Known, LeavesRun}
 use Rattle.disk_runs.specs.PageLaws.{with_late, with_settled}
@@ -57,7 +57,7 @@ settles_on k s0 g es x on = (with_settled x, record { master = refl; log = refl;
 saves_beside : {g : Opening} {es : List Event} {x y : Known} {n : Page} → IsBeside x y → Saves g es x n → Saves g es y n
 saves_beside {n = n} b s = record {
   met = s.met;
-  stored = subst (λ m. Rattle.disk_slots.specs.Pages.IsPage n.number m.pages n) (sym b.master) s.stored;
+  stored = subst (λ m. Rattle.disk_runs.specs.disk_slots.Pages.IsPage n.number m.pages n) (sym b.master) s.stored;
   generation = s.generation ∙ sym (ap (λ m. m.generation) b.master);
   contents = s.contents;
   dirty = s.dirty;

@@ -1,22 +1,22 @@
 -- A save of the pager as a whole: the page as it was looked at, the device, and the row.
 use Rattle.std.proofs.Common.{◌≡◌, ◌<◌, ◌≤◌, ◌^◌, ℕ, true, false, List, [], ◌∷◌, ◌++◌, length, None, Some, refl, sym, ap, subst, ◌∙◌, arith, true≢false}
 use Rattle.std.specs.Prelude.{Result, Err, IfErr}
-use Rattle.btree_node.specs.Words.{words_of}
+use Rattle.btree_descent.specs.btree_node.Words.{words_of}
 use Rattle.lean_bytes.specs.Numbers.{AreWords}
 use Rattle.page_model.specs.Page.{Page}
-use Rattle.core_state.specs.Events as happening
-use Rattle.core_state.specs.Needs.{is_dirty}
-use Rattle.core_state.specs.States.{flushed_by_all, frame_of}
+use Rattle.btree_descent.specs.core_state.Events as happening
+use Rattle.btree_descent.specs.core_state.Needs.{is_dirty}
+use Rattle.btree_descent.specs.core_state.States.{flushed_by_all, frame_of}
 use Rattle.cooling_stage.specs.declared.stage.Cooling.{Cooling}
 use Rattle.cooling_stage.specs.Queue.{Stage, found, stage, without}
 use Rattle.lean_disk.specs.Story.{IsLawful, Story}
-use Rattle.row_words.specs.declared.event.Event.{Event}
-use Rattle.row_words.specs.declared.event.Event.TheVariants.{Evict, Save}
-use Rattle.row_words.specs.Openings.{opening}
-use Rattle.rows_trait.specs.declared.view.View.{View}
-use Rattle.rows_trait.specs.Turns.{Ran}
-use Rattle.rows_trait.specs.Views.{Shape, state}
-use Rattle.rows_trait.proofs.Runs.{ran_append}
+use Rattle.btree_descent.specs.row_words.declared.event.Event.{Event}
+use Rattle.btree_descent.specs.row_words.declared.event.Event.TheVariants.{Evict, Save}
+use Rattle.btree_descent.specs.row_words.Openings.{opening}
+use Rattle.btree_descent.specs.rows_trait.declared.view.View.{View}
+use Rattle.btree_descent.specs.rows_trait.Turns.{Ran}
+use Rattle.btree_descent.specs.rows_trait.Views.{Shape, state}
+use Rattle.btree_descent.proofs.rows_trait_lemmas.Runs.{ran_append}
 use Rattle.row_image.specs.Images.{IsImage, written}
 use Rattle.page_calls.specs.declared.slots.Slot.{Slot}
 use Rattle.page_calls.specs.Calls.{SavesMoments}

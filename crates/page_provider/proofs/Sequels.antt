@@ -2,37 +2,37 @@
 use Rattle.std.proofs.Common.{◌≡◌, ◌==◌, ◌∙◌, ℕ, Bool, true, false, List, [], ◌∷◌, ◌++◌, ap, refl, subst, sym, ltb, ◌&&◌}
 use Rattle.std.proofs.lemmas.Bool.{and_parts}
 use Rattle.map_model.proofs.ListLemmas.{at_upd}
-use Rattle.core_paging.specs.Paging.{Residence}
-use Rattle.core_state.specs.Needs as core
-use Rattle.core_state.specs.Openings.{Opening}
-use Rattle.core_state.specs.States.{State, is_cold}
-use Rattle.core_state.specs.Steps.{happens}
-use Rattle.row_words.specs.declared.event.Event.{Event}
-use Rattle.row_words.specs.declared.event.Event.TheVariants as told
-use Rattle.row_words.specs.declared.given.Given.{Given}
-use Rattle.row_words.specs.Moments.{event_of}
-use Rattle.row_words.specs.Openings.{opening}
-use Rattle.rows_trait.specs.declared.view.View.{View}
-use Rattle.rows_trait.specs.Views.{Shape, state}
+use Rattle.btree_descent.specs.core_paging.Paging.{Residence}
+use Rattle.btree_descent.specs.core_state.Needs as core
+use Rattle.btree_descent.specs.core_state.Openings.{Opening}
+use Rattle.btree_descent.specs.core_state.States.{State, is_cold}
+use Rattle.btree_descent.specs.core_state.Steps.{happens}
+use Rattle.btree_descent.specs.row_words.declared.event.Event.{Event}
+use Rattle.btree_descent.specs.row_words.declared.event.Event.TheVariants as told
+use Rattle.btree_descent.specs.row_words.declared.given.Given.{Given}
+use Rattle.btree_descent.specs.row_words.Moments.{event_of}
+use Rattle.btree_descent.specs.row_words.Openings.{opening}
+use Rattle.btree_descent.specs.rows_trait.declared.view.View.{View}
+use Rattle.btree_descent.specs.rows_trait.Views.{Shape, state}
 use Rattle.page_provider.specs.Laws.{RowLaws}
 use Rattle.page_provider.specs.Moves.{ArePagers, Moved, is_pagers}
 use Rattle.page_provider.specs.Providers.{Keeps, Provider}
-use Rattle.core_state.specs.Needs.{has_hot_parent, is_empty_frame}
-use Rattle.row_words.proofs.SealedLemmas.{run_append}
-use Rattle.row_words.specs.Moments.{Moment}
-use Rattle.row_words.specs.Sealed.{begun, run, stepped}
+use Rattle.btree_descent.specs.core_state.Needs.{has_hot_parent, is_empty_frame}
+use Rattle.btree_descent.proofs.row_words_lemmas.SealedLemmas.{run_append}
+use Rattle.btree_descent.specs.row_words.Moments.{Moment}
+use Rattle.btree_descent.specs.row_words.Sealed.{begun, run, stepped}
 use Rattle.std.proofs.Common.{true≢false, if◌then◌else◌}
 use Rattle.page_provider.proofs.Standing.{core_step, ran_state, state_on}
 use Rattle.page_provider.proofs.Chilling.{moved_ran}
 use Rattle.page_provider.proofs.Moving.{moved_then, moved_up, refused_then, refused_up}
 use Rattle.cold_pages.specs.Laws.{IsButEntries}
-use Rattle.image_model.specs.Entries.{Contents}
+use Rattle.btree_descent.specs.image_model.Entries.{Contents}
 use Rattle.page_model.specs.Nodes.{Node, is_leaf}
 use Rattle.page_model.specs.Pairs.{Pair}
-use Rattle.core_commit.proofs.Fetched.{fetch_is}
-use Rattle.core_state.specs.Events as happening
-use Rattle.core_state.specs.Steps.{with_pairs}
-use Rattle.row_words.specs.Moments.{pairs_of}
+use Rattle.btree_descent.proofs.core_commit_lemmas.Fetched.{fetch_is}
+use Rattle.btree_descent.specs.core_state.Events as happening
+use Rattle.btree_descent.specs.core_state.Steps.{with_pairs}
+use Rattle.btree_descent.specs.row_words.Moments.{pairs_of}
 use Rattle.std.proofs.lemmas.Bool.{and_from, eq-eqb}
 use Rattle.page_provider.proofs.Fetched.{buts_fetched}
 use Rattle.page_provider.proofs.Kept.{but_none}

@@ -5,25 +5,25 @@ use Rattle.page_model.specs.Check.{names_page}
 use Rattle.page_model.specs.Nodes.{Format, Node, WellFormed}
 use Rattle.page_model.specs.Page as stored
 use Rattle.page_model.specs.Page.{word_at}
-use Rattle.core_state.specs.States.{Place, State, in_frame, is_hot}
-use Rattle.row_words.specs.Moments.{Moment, pager}
-use Rattle.row_words.specs.Openings.{opening}
-use Rattle.row_words.specs.Words.{framed, is_inner}
-use Rattle.row_words.specs.declared.event.Event.TheVariants.{Miss}
-use Rattle.row_words.specs.declared.given.Given.{Given}
-use Rattle.rows_trait.specs.declared.view.View.{View}
-use Rattle.rows_trait.specs.Causes.{HasFound}
-use Rattle.rows_trait.specs.Turns.{Ran}
-use Rattle.rows_trait.specs.Views.{Shape, after_all, latest, may, state}
-use Rattle.rows_trait.proofs.Causes.{found_before}
-use Rattle.rows_trait.proofs.Runs.{ran_append}
-use Rattle.version_latch.specs.declared.glimpse.Latched.{Latched}
-use Rattle.version_latch.specs.declared.glimpse.Moved.{Moved}
-use Rattle.version_latch.proofs.Keeping.{may_ran}
+use Rattle.btree_descent.specs.core_state.States.{Place, State, in_frame, is_hot}
+use Rattle.btree_descent.specs.row_words.Moments.{Moment, pager}
+use Rattle.btree_descent.specs.row_words.Openings.{opening}
+use Rattle.btree_descent.specs.row_words.Words.{framed, is_inner}
+use Rattle.btree_descent.specs.row_words.declared.event.Event.TheVariants.{Miss}
+use Rattle.btree_descent.specs.row_words.declared.given.Given.{Given}
+use Rattle.btree_descent.specs.rows_trait.declared.view.View.{View}
+use Rattle.btree_descent.specs.rows_trait.Causes.{HasFound}
+use Rattle.btree_descent.specs.rows_trait.Turns.{Ran}
+use Rattle.btree_descent.specs.rows_trait.Views.{Shape, after_all, latest, may, state}
+use Rattle.btree_descent.proofs.rows_trait_lemmas.Causes.{found_before}
+use Rattle.btree_descent.proofs.rows_trait_lemmas.Runs.{ran_append}
+use Rattle.btree_descent.specs.version_latch.declared.glimpse.Latched.{Latched}
+use Rattle.btree_descent.specs.version_latch.declared.glimpse.Moved.{Moved}
+use Rattle.btree_descent.proofs.version_latch_lemmas.Keeping.{may_ran}
 use Rattle.btree_descent.specs.Descents.{Sized}
 use Rattle.btree_descent.specs.Known.{IsSound, Sound}
 use Rattle.btree_descent.proofs.Calls.{sound_after}
-use Rattle.lean_proto.specs.Still.{EveryStood, IsStill, Stood}
+use Rattle.btree_descent.specs.lean_proto.Still.{EveryStood, IsStill, Stood}
 use Rattle.row_image.specs.declared.refusal.Unseen.TheVariants as unseen
 use Rattle.row_image.specs.declared.sight.Sight.{Sight}
 use Rattle.row_image.specs.Hot.{IsBare, IsHotIn, StandsIn}

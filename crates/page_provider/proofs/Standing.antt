@@ -2,19 +2,19 @@
 -- ran.
 use Rattle.std.proofs.Common.{◌≡◌, ◌==◌, ℕ, Bool, true, false, List, [], ◌∷◌, ◌++◌, append-nil, append_assoc, refl, ap, subst, ◌∙◌, true≢false}
 use Rattle.std.specs.Prelude.{if◌then◌else◌}
-use Rattle.core_state.specs.States.{State}
-use Rattle.core_state.specs.Steps as steps
-use Rattle.row_words.specs.declared.event.Event.{Event}
-use Rattle.row_words.specs.declared.event.Event.TheVariants as told
-use Rattle.row_words.specs.declared.given.Given.{Given}
-use Rattle.row_words.specs.Moments.{Moment, event_of, actor_of, pager, by}
-use Rattle.row_words.specs.Openings.{opening}
-use Rattle.row_words.specs.Sealed.{begun, stepped, run}
-use Rattle.row_words.proofs.SealedLemmas.{run_append}
-use Rattle.rows_trait.specs.declared.view.View.{View}
-use Rattle.rows_trait.specs.Views.{Shape, after_all, state}
-use Rattle.rows_trait.specs.Turns.{Ran}
-use Rattle.lean_proto.specs.Still.{Stood, EveryStood}
+use Rattle.btree_descent.specs.core_state.States.{State}
+use Rattle.btree_descent.specs.core_state.Steps as steps
+use Rattle.btree_descent.specs.row_words.declared.event.Event.{Event}
+use Rattle.btree_descent.specs.row_words.declared.event.Event.TheVariants as told
+use Rattle.btree_descent.specs.row_words.declared.given.Given.{Given}
+use Rattle.btree_descent.specs.row_words.Moments.{Moment, event_of, actor_of, pager, by}
+use Rattle.btree_descent.specs.row_words.Openings.{opening}
+use Rattle.btree_descent.specs.row_words.Sealed.{begun, stepped, run}
+use Rattle.btree_descent.proofs.row_words_lemmas.SealedLemmas.{run_append}
+use Rattle.btree_descent.specs.rows_trait.declared.view.View.{View}
+use Rattle.btree_descent.specs.rows_trait.Views.{Shape, after_all, state}
+use Rattle.btree_descent.specs.rows_trait.Turns.{Ran}
+use Rattle.btree_descent.specs.lean_proto.Still.{Stood, EveryStood}
 use Rattle.page_provider.specs.Steps.{AreMisses}
 
 -- what a view knows when these events have been seen too
@@ -27,14 +27,14 @@ pub stood_same : (v u : View) → (state u).core ≡ (state v).core → Stood v 
 stood_same v u e = record {
   queue = ap (λ s. s.queue) e;
   epoch = ap (λ s. s.epoch) e;
-  hot = λ q. ap (λ s. Rattle.core_state.specs.States.is_hot (s.place q)) e;
-  cooling = λ q. ap (λ s. Rattle.core_state.specs.States.is_cooling (s.place q)) e;
-  cold = λ q. ap (λ s. Rattle.core_state.specs.States.is_cold (s.place q)) e;
-  frame = λ q f. ap (λ s. Rattle.core_state.specs.States.in_frame (s.place q) f) e;
-  since = λ q. ap (λ s. Rattle.core_state.specs.States.epoch_of (s.place q)) e;
+  hot = λ q. ap (λ s. Rattle.btree_descent.specs.core_state.States.is_hot (s.place q)) e;
+  cooling = λ q. ap (λ s. Rattle.btree_descent.specs.core_state.States.is_cooling (s.place q)) e;
+  cold = λ q. ap (λ s. Rattle.btree_descent.specs.core_state.States.is_cold (s.place q)) e;
+  frame = λ q f. ap (λ s. Rattle.btree_descent.specs.core_state.States.in_frame (s.place q) f) e;
+  since = λ q. ap (λ s. Rattle.btree_descent.specs.core_state.States.epoch_of (s.place q)) e;
   saved = λ q. ap (λ s. s.saved q) e;
   page = λ q h. ap (λ s. s.page q) e;
-  unwaited = λ q w h. ap (λ s. Rattle.core_state.specs.States.waits_for (s.place q) w) e ∙ h;
+  unwaited = λ q w h. ap (λ s. Rattle.btree_descent.specs.core_state.States.waits_for (s.place q) w) e ∙ h;
 }
 
 pub stood_then : {v u w : View} → Stood v u → Stood u w → Stood v w

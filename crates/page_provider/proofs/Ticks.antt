@@ -2,27 +2,27 @@
 use Rattle.std.proofs.Common.{◌≡◌, ◌<◌, ◌^◌, ℕ, Bool, true, false, List, [], ◌∷◌, ◌++◌, append_assoc, refl, sym, ap, subst, ◌∙◌, arith}
 use Rattle.std.specs.Prelude.{if◌then◌else◌}
 use Rattle.std.proofs.lemmas.List.{append_cancel_left}
-use Rattle.core_state.specs.Openings.{Opening}
-use Rattle.core_state.specs.States.{State, is_cold, is_hot}
-use Rattle.core_state.specs.Events as happening
-use Rattle.core_state.specs.Needs as core
-use Rattle.core_state.specs.Steps.{happens, step}
-use Rattle.row_words.specs.declared.event.Event.{Event}
-use Rattle.row_words.specs.declared.event.Event.TheVariants as told
-use Rattle.row_words.specs.declared.given.Given.{Given}
-use Rattle.row_words.specs.Moments.{Moment}
-use Rattle.row_words.specs.Openings.{opening}
-use Rattle.row_words.specs.Sealed.{run, stepped}
-use Rattle.rows_trait.specs.declared.view.Act.{Act}
-use Rattle.rows_trait.specs.declared.view.Act.TheVariants.{Hear}
-use Rattle.rows_trait.specs.declared.view.View.{View}
-use Rattle.rows_trait.specs.Causes.{OnlyLoads}
-use Rattle.rows_trait.specs.Turns.{Ran}
-use Rattle.rows_trait.specs.Views.{Shape, latest, state}
-use Rattle.rows_trait.proofs.Causes.{found_after}
-use Rattle.rows_trait.proofs.Runs.{ran_append}
+use Rattle.btree_descent.specs.core_state.Openings.{Opening}
+use Rattle.btree_descent.specs.core_state.States.{State, is_cold, is_hot}
+use Rattle.btree_descent.specs.core_state.Events as happening
+use Rattle.btree_descent.specs.core_state.Needs as core
+use Rattle.btree_descent.specs.core_state.Steps.{happens, step}
+use Rattle.btree_descent.specs.row_words.declared.event.Event.{Event}
+use Rattle.btree_descent.specs.row_words.declared.event.Event.TheVariants as told
+use Rattle.btree_descent.specs.row_words.declared.given.Given.{Given}
+use Rattle.btree_descent.specs.row_words.Moments.{Moment}
+use Rattle.btree_descent.specs.row_words.Openings.{opening}
+use Rattle.btree_descent.specs.row_words.Sealed.{run, stepped}
+use Rattle.btree_descent.specs.rows_trait.declared.view.Act.{Act}
+use Rattle.btree_descent.specs.rows_trait.declared.view.Act.TheVariants.{Hear}
+use Rattle.btree_descent.specs.rows_trait.declared.view.View.{View}
+use Rattle.btree_descent.specs.rows_trait.Causes.{OnlyLoads}
+use Rattle.btree_descent.specs.rows_trait.Turns.{Ran}
+use Rattle.btree_descent.specs.rows_trait.Views.{Shape, latest, state}
+use Rattle.btree_descent.proofs.rows_trait_lemmas.Causes.{found_after}
+use Rattle.btree_descent.proofs.rows_trait_lemmas.Runs.{ran_append}
 use Rattle.epochs.specs.Epochs.{HasTicked, IsStamp}
-use Rattle.lean_proto.specs.Still.{Stood}
+use Rattle.btree_descent.specs.lean_proto.Still.{Stood}
 use Rattle.row_image.specs.declared.sight.Sight.{Sight}
 use Rattle.row_image.specs.Sights.{EverySight, IsKnown}
 use Rattle.cooling_stage.specs.declared.stage.Cooling.{Cooling}

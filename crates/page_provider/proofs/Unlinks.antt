@@ -9,18 +9,18 @@ use Rattle.page_model.specs.Page.{word_at}
 use Rattle.page_model.specs.Page as stored
 use Rattle.page_model.specs.Check.{names_page}
 use Rattle.page_model.specs.Tree.{Parent}
-use Rattle.core_state.specs.States.{Place, State, in_frame, is_hot, nodes_of}
-use Rattle.row_words.specs.declared.event.Event.TheVariants as told
-use Rattle.row_words.specs.declared.given.Given.{Given}
-use Rattle.row_words.specs.Moments.{Moment}
-use Rattle.row_words.specs.Openings.{opening}
-use Rattle.row_words.specs.Words.{framed_page, is_inner}
-use Rattle.rows_trait.specs.declared.view.Act.{Act}
-use Rattle.rows_trait.specs.declared.view.View.{View}
-use Rattle.rows_trait.specs.Turns.{Ran}
-use Rattle.rows_trait.specs.Views.{Shape, after_all, held_at, state}
-use Rattle.rows_trait.proofs.Causes.{found_after, found_before, stepped_loads}
-use Rattle.rows_trait.proofs.Runs.{ran_append}
+use Rattle.btree_descent.specs.core_state.States.{Place, State, in_frame, is_hot, nodes_of}
+use Rattle.btree_descent.specs.row_words.declared.event.Event.TheVariants as told
+use Rattle.btree_descent.specs.row_words.declared.given.Given.{Given}
+use Rattle.btree_descent.specs.row_words.Moments.{Moment}
+use Rattle.btree_descent.specs.row_words.Openings.{opening}
+use Rattle.btree_descent.specs.row_words.Words.{framed_page, is_inner}
+use Rattle.btree_descent.specs.rows_trait.declared.view.Act.{Act}
+use Rattle.btree_descent.specs.rows_trait.declared.view.View.{View}
+use Rattle.btree_descent.specs.rows_trait.Turns.{Ran}
+use Rattle.btree_descent.specs.rows_trait.Views.{Shape, after_all, held_at, state}
+use Rattle.btree_descent.proofs.rows_trait_lemmas.Causes.{found_after, found_before, stepped_loads}
+use Rattle.btree_descent.proofs.rows_trait_lemmas.Runs.{ran_append}
 use Rattle.btree_descent.specs.Known.{Sound}
 use Rattle.held_rows.specs.Publishing.{Went}
 use Rattle.held_rows.specs.Steps.{MissedUpTo}

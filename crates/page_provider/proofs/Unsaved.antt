@@ -3,9 +3,9 @@ use Rattle.std.proofs.Common.{◌≡◌, ◌≤◌, Bool, true, false, List, [],
 use Rattle.map_model.specs.Lists.{all}
 use Rattle.disk_runs.specs.Quiet.{is_quiet}
 use Rattle.held_rows.specs.Steps as held
-use Rattle.row_words.specs.declared.event.Event.{Event}
-use Rattle.row_words.specs.declared.event.Event.TheVariants.{Cool, Miss, Tick}
-use Rattle.row_words.specs.Moments.{event_of, events_of}
+use Rattle.btree_descent.specs.row_words.declared.event.Event.{Event}
+use Rattle.btree_descent.specs.row_words.declared.event.Event.TheVariants.{Cool, Miss, Tick}
+use Rattle.btree_descent.specs.row_words.Moments.{event_of, events_of}
 use Rattle.page_provider.specs.Mirrored.{NoSaves}
 use Rattle.page_provider.specs.Moves.{AreTicked, others_in}
 use Rattle.page_provider.specs.Steps.{IsMissAtMost}

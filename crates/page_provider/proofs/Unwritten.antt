@@ -6,12 +6,12 @@ use Rattle.map_model.specs.Lists.{any}
 use Rattle.lean_disk.specs.Moments.{OnlyReads}
 use Rattle.lean_disk.specs.Story.{IsLawful, Story}
 use Rattle.lean_disk.proofs.MomentLemmas.{framed, reads_none, reads_then}
-use Rattle.row_words.specs.declared.event.Event.{Event}
-use Rattle.row_words.specs.declared.event.Event.TheVariants.{Save}
-use Rattle.row_words.specs.Moments.{actor_of, by, event_of, events_of}
-use Rattle.rows_trait.specs.declared.view.View.{View}
-use Rattle.rows_trait.specs.Turns.{Ran}
-use Rattle.rows_trait.specs.Views.{Shape}
+use Rattle.btree_descent.specs.row_words.declared.event.Event.{Event}
+use Rattle.btree_descent.specs.row_words.declared.event.Event.TheVariants.{Save}
+use Rattle.btree_descent.specs.row_words.Moments.{actor_of, by, event_of, events_of}
+use Rattle.btree_descent.specs.rows_trait.declared.view.View.{View}
+use Rattle.btree_descent.specs.rows_trait.Turns.{Ran}
+use Rattle.btree_descent.specs.rows_trait.Views.{Shape}
 use Rattle.btree_descent.proofs.Nodes.{same_rest}
 use Rattle.cooling_stage.specs.declared.stage.Cooling.{Cooling}
 use Rattle.page_provider.specs.declared.refusal.Refusal.{Refusal}
@@ -23,7 +23,7 @@ use Rattle.page_provider.specs.Sequels.{EveryAreaRest, EveryAreaSequel, EveryUns
 use Rattle.page_provider.specs.Finds.{Standing}
 use Rattle.page_provider.proofs.Faulting.{standing_ran}
 use Rattle.page_provider.proofs.Sightings.{missed_before}
-use Rattle.rows_trait.proofs.Runs.{ran_append}
+use Rattle.btree_descent.proofs.rows_trait_lemmas.Runs.{ran_append}
 use Rattle.row_image.specs.Looks.{Watched}
 use Rattle.page_provider.proofs.Framing.{framed_then, within_none, within_then}
 

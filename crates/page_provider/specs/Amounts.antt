@@ -1,8 +1,8 @@
 -- How many events a call has.
 use Rattle.std.specs.Prelude.{◌≤◌, ◌+◌, ◌*◌, ℕ, length}
-use Rattle.row_words.specs.Openings.{opening}
-use Rattle.rows_trait.specs.declared.view.View.{View}
-use Rattle.rows_trait.specs.Views.{Shape, state}
+use Rattle.btree_descent.specs.row_words.Openings.{opening}
+use Rattle.btree_descent.specs.rows_trait.declared.view.View.{View}
+use Rattle.btree_descent.specs.rows_trait.Views.{Shape, state}
 use Rattle.page_pool.specs.Counts.{hot_pages}
 use Rattle.page_provider.specs.Moves.{Moved}
 use Rattle.page_provider.specs.Providers.{Provider, Keeps}

@@ -1,19 +1,19 @@
 -- Words of private functions: a frame that is to be filled, and a page that came into one.
 use Rattle.std.specs.Prelude.{◌≡◌, ◌<◌, ℕ, Bool, true, false, List, [], ◌∷◌, ◌++◌, Option, Some, None}
 use Rattle.map_model.specs.Lists.{all}
-use Rattle.core_state.specs.Needs.{has_hot_parent}
-use Rattle.core_state.specs.States.{Place, is_cold, is_hot}
+use Rattle.btree_descent.specs.core_state.Needs.{has_hot_parent}
+use Rattle.btree_descent.specs.core_state.States.{Place, is_cold, is_hot}
 use Rattle.page_model.specs.Page as stored
 use Rattle.page_moves.specs.Moves.{contents_of}
-use Rattle.row_words.specs.declared.event.Event.{Event}
-use Rattle.row_words.specs.declared.event.Event.TheVariants.{Load}
-use Rattle.row_words.specs.Moments.{events_of}
-use Rattle.row_words.specs.Openings.{opening}
-use Rattle.rows_trait.specs.declared.view.View.{View}
-use Rattle.rows_trait.specs.Turns.{Ran}
-use Rattle.rows_trait.specs.Views.{Shape, state}
+use Rattle.btree_descent.specs.row_words.declared.event.Event.{Event}
+use Rattle.btree_descent.specs.row_words.declared.event.Event.TheVariants.{Load}
+use Rattle.btree_descent.specs.row_words.Moments.{events_of}
+use Rattle.btree_descent.specs.row_words.Openings.{opening}
+use Rattle.btree_descent.specs.rows_trait.declared.view.View.{View}
+use Rattle.btree_descent.specs.rows_trait.Turns.{Ran}
+use Rattle.btree_descent.specs.rows_trait.Views.{Shape, state}
 use Rattle.disk_runs.specs.Quiet.{is_quiet}
-use Rattle.core_state.specs.Openings.{Opening}
+use Rattle.btree_descent.specs.core_state.Openings.{Opening}
 use Rattle.lean_disk.specs.Moments.{LeavesOnly}
 use Rattle.lean_disk.specs.Story.{Crash, Story}
 use Rattle.disk_runs.specs.Stands.{Known, LeavesRun}

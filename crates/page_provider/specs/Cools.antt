@@ -1,12 +1,12 @@
 -- A page that was cooled, and a step of the hand.
 use Rattle.std.specs.Prelude.{◌≡◌, ◌≢◌, ◌≤◌, ◌<◌, ◌⊎◌, ℕ, Bool, true, false, List, [], ◌∷◌, ◌++◌, length, Option, Some, None}
-use Rattle.core_state.specs.Needs.{has_hot_child}
-use Rattle.core_state.specs.States.{Place, State, is_hot}
+use Rattle.btree_descent.specs.core_state.Needs.{has_hot_child}
+use Rattle.btree_descent.specs.core_state.States.{Place, State, is_hot}
 use Rattle.page_model.specs.Check.{names_page}
-use Rattle.row_words.specs.declared.event.Event.TheVariants.{Cool, Tick}
-use Rattle.row_words.specs.Openings.{opening}
-use Rattle.rows_trait.specs.declared.view.View.{View}
-use Rattle.rows_trait.specs.Views.{Shape, state}
+use Rattle.btree_descent.specs.row_words.declared.event.Event.TheVariants.{Cool, Tick}
+use Rattle.btree_descent.specs.row_words.Openings.{opening}
+use Rattle.btree_descent.specs.rows_trait.declared.view.View.{View}
+use Rattle.btree_descent.specs.rows_trait.Views.{Shape, state}
 use Rattle.row_image.specs.Hot.{IsHotIn}
 use Rattle.cooling_stage.specs.declared.stage.Cooling.{Cooling}
 use Rattle.page_pool.specs.Full.{NoCandidate}

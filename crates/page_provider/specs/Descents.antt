@@ -1,8 +1,8 @@
 -- What the trail of a descent is to the pager.
 use Rattle.std.specs.Prelude.{◌≡◌, ℕ, List, [], true}
-use Rattle.rows_trait.specs.declared.view.View.{View}
-use Rattle.rows_trait.specs.Views.{Shape, state}
-use Rattle.rows_trait.specs.Turns.{Ran}
+use Rattle.btree_descent.specs.rows_trait.declared.view.View.{View}
+use Rattle.btree_descent.specs.rows_trait.Views.{Shape, state}
+use Rattle.btree_descent.specs.rows_trait.Turns.{Ran}
 use Rattle.btree_descent.specs.Known.{IsSound}
 use Rattle.btree_descent.specs.Descents.{Sized}
 use Rattle.btree_descent.specs.Trails.{IsColdBelow, IsTrail}

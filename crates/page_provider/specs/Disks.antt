@@ -1,17 +1,17 @@
 -- What a call of the pager makes of the disk: of its pages' area alone, and where a run of the core goes on over it.
 use Rattle.std.specs.Prelude.{◌≡◌, Bool, true, false, List, ◌++◌}
 use Rattle.map_model.specs.Lists.{any}
-use Rattle.core_state.specs.Openings.{Opening}
-use Rattle.core_state.specs.Events as happening
+use Rattle.btree_descent.specs.core_state.Openings.{Opening}
+use Rattle.btree_descent.specs.core_state.Events as happening
 use Rattle.lean_disk.specs.Moments.{LeavesOnly, OnlyReads}
 use Rattle.lean_disk.specs.Story.{Crash, Story}
 use Rattle.disk_runs.specs.Moments.{LeavesSome}
 use Rattle.disk_runs.specs.Stands.{Known}
 use Rattle.page_calls.specs.Calls.{IsOn}
 use Rattle.row_opening.specs.Openings.{Opens}
-use Rattle.row_words.specs.declared.event.Event.{Event}
-use Rattle.row_words.specs.Moments.{events_of}
-use Rattle.rows_trait.specs.declared.view.View.{View}
+use Rattle.btree_descent.specs.row_words.declared.event.Event.{Event}
+use Rattle.btree_descent.specs.row_words.Moments.{events_of}
+use Rattle.btree_descent.specs.rows_trait.declared.view.View.{View}
 use Rattle.page_provider.specs.Providers.{Provider}
 
 -- what has happened by a view, from where the core began

@@ -1,7 +1,7 @@
 -- How a call of the pager ends that is refused.
 use Rattle.std.specs.Prelude.{◌≡◌, ◌||◌, ℕ, true, List}
-use Rattle.rows_trait.specs.declared.view.View.{View}
-use Rattle.rows_trait.specs.Views.{Shape}
+use Rattle.btree_descent.specs.rows_trait.declared.view.View.{View}
+use Rattle.btree_descent.specs.rows_trait.Views.{Shape}
 use Rattle.page_provider.specs.declared.refusal.Refusal.{Refusal}
 use Rattle.page_provider.specs.declared.refusal.Refusal.TheVariants as refusal
 use Rattle.page_provider.specs.Moves.{KeepsPath, Moved}

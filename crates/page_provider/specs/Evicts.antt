@@ -1,12 +1,12 @@
 -- An eviction: what it needs, and what it did.
 use Rattle.std.specs.Prelude.{◌≡◌, ◌≤◌, ◌<◌, ◌||◌, ℕ, Bool, true, false, List, [], ◌∷◌, ◌++◌, if◌then◌else◌}
-use Rattle.core_state.specs.Needs.{is_dirty}
-use Rattle.core_state.specs.States.{flushed_by_all, frame_of, is_cooling, waits_for}
-use Rattle.row_words.specs.declared.event.Event.{Event}
-use Rattle.row_words.specs.declared.event.Event.TheVariants.{Save, Evict}
-use Rattle.row_words.specs.Openings.{opening}
-use Rattle.rows_trait.specs.declared.view.View.{View}
-use Rattle.rows_trait.specs.Views.{Shape, state}
+use Rattle.btree_descent.specs.core_state.Needs.{is_dirty}
+use Rattle.btree_descent.specs.core_state.States.{flushed_by_all, frame_of, is_cooling, waits_for}
+use Rattle.btree_descent.specs.row_words.declared.event.Event.{Event}
+use Rattle.btree_descent.specs.row_words.declared.event.Event.TheVariants.{Save, Evict}
+use Rattle.btree_descent.specs.row_words.Openings.{opening}
+use Rattle.btree_descent.specs.rows_trait.declared.view.View.{View}
+use Rattle.btree_descent.specs.rows_trait.Views.{Shape, state}
 use Rattle.cooling_stage.specs.Queue.{without}
 use Rattle.page_provider.specs.declared.refusal.Refusal.{Refusal}
 use Rattle.page_provider.specs.declared.refusal.Refusal.TheVariants as refusal

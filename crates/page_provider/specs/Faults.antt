@@ -2,18 +2,18 @@
 use Rattle.std.specs.Prelude.{◌≡◌, ◌≤◌, ◌<◌, ◌+◌, ◌⊎◌, ℕ, true, false, List, length, Option, Some, None}
 use Rattle.map_model.specs.Lists.{Has}
 use Rattle.page_model.specs.Check.{names_page}
-use Rattle.core_state.specs.Needs.{has_hot_parent}
-use Rattle.core_state.specs.Openings.{Opening}
-use Rattle.core_state.specs.States.{Place, flushed_by_all, is_cold, is_cooling, is_hot}
+use Rattle.btree_descent.specs.core_state.Needs.{has_hot_parent}
+use Rattle.btree_descent.specs.core_state.Openings.{Opening}
+use Rattle.btree_descent.specs.core_state.States.{Place, flushed_by_all, is_cold, is_cooling, is_hot}
 use Rattle.disk_runs.specs.Stands.{Known}
 use Rattle.lean_disk.specs.Story.{Crash, Story, Tells}
 use Rattle.cold_pages.specs.Compared.{IsAsKept}
 use Rattle.page_model.specs.Page.{Page}
 use Rattle.page_calls.specs.Calls.{IsDamaged}
 use Rattle.free_pages.specs.Pages.{count}
-use Rattle.row_words.specs.Openings.{opening}
-use Rattle.rows_trait.specs.declared.view.View.{View}
-use Rattle.rows_trait.specs.Views.{Shape, state}
+use Rattle.btree_descent.specs.row_words.Openings.{opening}
+use Rattle.btree_descent.specs.rows_trait.declared.view.View.{View}
+use Rattle.btree_descent.specs.rows_trait.Views.{Shape, state}
 use Rattle.page_pool.specs.Full.{IsHeldBack, IsTaken, IsWay}
 use Rattle.page_provider.specs.declared.refusal.Refusal.{Refusal}
 use Rattle.page_provider.specs.declared.refusal.Refusal.TheVariants as refusal

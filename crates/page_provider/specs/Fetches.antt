@@ -3,17 +3,17 @@ use Rattle.std.specs.Prelude.{◌≡◌, ◌<◌, ℕ, true, List, [], ◌∷◌
 use Rattle.page_model.specs.Nodes.{is_leaf}
 use Rattle.page_model.specs.Page as stored
 use Rattle.cold_pages.specs.Compared.{IsAsKept}
-use Rattle.core_state.specs.States.{is_cold}
-use Rattle.disk_slots.specs.Pages.{IsPage}
+use Rattle.btree_descent.specs.core_state.States.{is_cold}
+use Rattle.disk_runs.specs.disk_slots.Pages.{IsPage}
 use Rattle.lean_disk.specs.Story.{Story, Tells}
 use Rattle.page_moves.specs.Moves.{contents_of}
-use Rattle.row_words.specs.declared.event.Event.{Event}
-use Rattle.row_words.specs.declared.event.Event.TheVariants.{Fetch}
-use Rattle.row_words.specs.Openings.{opening}
+use Rattle.btree_descent.specs.row_words.declared.event.Event.{Event}
+use Rattle.btree_descent.specs.row_words.declared.event.Event.TheVariants.{Fetch}
+use Rattle.btree_descent.specs.row_words.Openings.{opening}
 use Rattle.row_opening.specs.Opened.{entries_of}
-use Rattle.rows_trait.specs.declared.view.View.{View}
-use Rattle.rows_trait.specs.Turns.{Ran}
-use Rattle.rows_trait.specs.Views.{Shape, state}
+use Rattle.btree_descent.specs.rows_trait.declared.view.View.{View}
+use Rattle.btree_descent.specs.rows_trait.Turns.{Ran}
+use Rattle.btree_descent.specs.rows_trait.Views.{Shape, state}
 use Rattle.page_provider.specs.Gives.{Gives, Holds}
 use Rattle.page_provider.specs.Providers.{Keeps, Provider}
 

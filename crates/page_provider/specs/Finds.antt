@@ -1,17 +1,17 @@
 -- Words of private functions: what the pager has found in frames, and rows that it latched from there.
 use Rattle.std.specs.Prelude.{◌≡◌, ◌≤◌, ◌<◌, ◌^◌, ℕ, Bool, true, false, List, [], Option, Some, None}
 use Rattle.page_model.specs.Page as stored
-use Rattle.btree_node.specs.Words.{Fits}
-use Rattle.core_state.specs.Needs.{has_hot_child}
-use Rattle.core_state.specs.States.{Place, is_hot}
-use Rattle.row_words.specs.declared.given.Given.{Given}
-use Rattle.row_words.specs.Moments.{Moment}
-use Rattle.row_words.specs.Openings.{opening}
-use Rattle.rows_trait.specs.declared.view.Act.{Act}
-use Rattle.rows_trait.specs.declared.view.View.{View}
-use Rattle.rows_trait.specs.Causes.{HasFound}
-use Rattle.rows_trait.specs.Turns.{Ran}
-use Rattle.rows_trait.specs.Views.{Shape, latest, state}
+use Rattle.btree_descent.specs.btree_node.Words.{Fits}
+use Rattle.btree_descent.specs.core_state.Needs.{has_hot_child}
+use Rattle.btree_descent.specs.core_state.States.{Place, is_hot}
+use Rattle.btree_descent.specs.row_words.declared.given.Given.{Given}
+use Rattle.btree_descent.specs.row_words.Moments.{Moment}
+use Rattle.btree_descent.specs.row_words.Openings.{opening}
+use Rattle.btree_descent.specs.rows_trait.declared.view.Act.{Act}
+use Rattle.btree_descent.specs.rows_trait.declared.view.View.{View}
+use Rattle.btree_descent.specs.rows_trait.Causes.{HasFound}
+use Rattle.btree_descent.specs.rows_trait.Turns.{Ran}
+use Rattle.btree_descent.specs.rows_trait.Views.{Shape, latest, state}
 use Rattle.btree_descent.specs.Inside.{Agrees}
 use Rattle.btree_descent.specs.Known.{Sound}
 use Rattle.held_rows.specs.Rows.{HoldsOne, HoldsTwo}

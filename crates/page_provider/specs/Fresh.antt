@@ -1,13 +1,13 @@
 -- A pager at its beginning.
 use Rattle.std.specs.Prelude.{◌≡◌, ◌≤◌, ◌<◌, ◌^◌, ℕ, zero, suc, Bool, true, false, not, List, [], ◌∷◌, length}
-use Rattle.core_paging.specs.Paging.{Waiting}
-use Rattle.core_state.specs.Needs.{free_pages}
-use Rattle.core_state.specs.States.{Place}
+use Rattle.btree_descent.specs.core_paging.Paging.{Waiting}
+use Rattle.btree_descent.specs.core_state.Needs.{free_pages}
+use Rattle.btree_descent.specs.core_state.States.{Place}
 use Rattle.free_pages.specs.Pages.{count, is_in}
-use Rattle.row_words.specs.Moments.{pager}
-use Rattle.row_words.specs.Openings.{opening}
-use Rattle.rows_trait.specs.declared.view.View.{View}
-use Rattle.rows_trait.specs.Views.{Shape, after_all, may, state}
+use Rattle.btree_descent.specs.row_words.Moments.{pager}
+use Rattle.btree_descent.specs.row_words.Openings.{opening}
+use Rattle.btree_descent.specs.rows_trait.declared.view.View.{View}
+use Rattle.btree_descent.specs.rows_trait.Views.{Shape, after_all, may, state}
 use Rattle.btree_descent.specs.Descents.{Sized}
 use Rattle.btree_descent.specs.Known.{IsSound}
 use Rattle.cold_pages.specs.declared.kept.Kept.{Kept}

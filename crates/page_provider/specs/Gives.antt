@@ -1,6 +1,6 @@
 -- What a device gives of a page.
 use Rattle.std.specs.Prelude.{◌≡◌, ◌<◌, ℕ, List, Some, slice_get}
-use Rattle.core_state.specs.Openings.{Opening}
+use Rattle.btree_descent.specs.core_state.Openings.{Opening}
 use Rattle.page_model.specs.Page.{Page}
 use Rattle.lean_disk.specs.Story.{Crash, Story, Tells}
 use Rattle.disk_runs.specs.Stands.{Known}
@@ -8,11 +8,11 @@ use Rattle.page_calls.specs.Calls.{bounds_of}
 use Rattle.page_calls.specs.Slots.{last_slot}
 use Rattle.page_calls.specs.declared.slots.Slot.{Slot}
 use Rattle.page_moves.specs.Moves.{contents_of}
-use Rattle.page_store.specs.Slots.{HoldsIn, slot_bytes}
-use Rattle.page_store.specs.declared.slot.Held.TheVariants as held
-use Rattle.rows_trait.specs.declared.view.View.{View}
-use Rattle.rows_trait.specs.Views.{state}
-use Rattle.row_words.specs.Openings.{opening}
+use Rattle.disk_runs.specs.page_store.Slots.{HoldsIn, slot_bytes}
+use Rattle.disk_runs.specs.page_store.declared.slot.Held.TheVariants as held
+use Rattle.btree_descent.specs.rows_trait.declared.view.View.{View}
+use Rattle.btree_descent.specs.rows_trait.Views.{state}
+use Rattle.btree_descent.specs.row_words.Openings.{opening}
 use Rattle.page_provider.specs.Disks.{Runs}
 use Rattle.page_provider.specs.Providers.{Provider}
 

@@ -1,6 +1,6 @@
 -- The laws of the crates below on which the pager's calls rest.
-use Rattle.lean_proto.specs.Controls.{EveryLoad}
-use Rattle.lean_proto.specs.Still.{EveryStood}
+use Rattle.btree_descent.specs.lean_proto.Controls.{EveryLoad}
+use Rattle.btree_descent.specs.lean_proto.Still.{EveryStood}
 use Rattle.row_image.specs.Images.{EveryStay}
 use Rattle.row_image.specs.Sights.{EveryPair, EverySight}
 use Rattle.row_opening.specs.Openings.{EveryNeed, EveryReached}
@@ -9,10 +9,10 @@ use Rattle.page_pool.specs.Counts.{EveryFrame}
 use Rattle.page_pool.specs.Full.{EveryFull}
 use Rattle.page_pool.specs.Pools.{EveryPool, EveryStanding}
 use Rattle.page_pool.specs.Queues.{EveryChill, EveryPop, EveryQueue}
-use Rattle.disk_slots.specs.Laws.{EveryPage}
-use Rattle.disk_image.specs.Laws.{EverySealed}
-use Rattle.worker_log.specs.Laws.{EveryKept, EveryPrefix}
-use Rattle.core_disk.specs.Versions.{EveryVersion}
+use Rattle.disk_runs.specs.disk_slots.Laws.{EveryPage}
+use Rattle.disk_runs.specs.disk_image.Laws.{EverySealed}
+use Rattle.disk_runs.specs.worker_log.Laws.{EveryKept, EveryPrefix}
+use Rattle.disk_runs.specs.core_disk.Versions.{EveryVersion}
 use Rattle.disk_runs.specs.Masters.{EveryMasterLine}
 use Rattle.disk_runs.specs.Moments.{EveryAmong}
 use Rattle.disk_runs.specs.Quiet.{EveryQuiet}

@@ -1,14 +1,14 @@
 -- Words of private functions: which page of the queue can leave.
 use Rattle.std.specs.Prelude.{◌≡◌, ◌≢◌, ◌⊎◌, ◌≤◌, ◌<◌, ◌+◌, ℕ, true, List, [], length, Some}
 use Rattle.map_model.specs.Lists.{all}
-use Rattle.core_state.specs.States.{flushed_by_all, is_cooling}
+use Rattle.btree_descent.specs.core_state.States.{flushed_by_all, is_cooling}
 use Rattle.disk_runs.specs.Quiet.{is_quiet}
-use Rattle.row_words.specs.declared.event.Event.{Event}
-use Rattle.row_words.specs.Moments.{events_of}
-use Rattle.row_words.specs.Openings.{opening}
-use Rattle.rows_trait.specs.declared.view.View.{View}
-use Rattle.rows_trait.specs.Views.{Shape, state}
-use Rattle.rows_trait.specs.Turns.{Ran}
+use Rattle.btree_descent.specs.row_words.declared.event.Event.{Event}
+use Rattle.btree_descent.specs.row_words.Moments.{events_of}
+use Rattle.btree_descent.specs.row_words.Openings.{opening}
+use Rattle.btree_descent.specs.rows_trait.declared.view.View.{View}
+use Rattle.btree_descent.specs.rows_trait.Views.{Shape, state}
+use Rattle.btree_descent.specs.rows_trait.Turns.{Ran}
 use Rattle.cooling_stage.specs.Queue.{found}
 use Rattle.page_pool.specs.Full.{IsHeldBack, NoCandidate, NoneRipe}
 use Rattle.page_provider.specs.declared.refusal.Refusal.{Refusal}

@@ -1,17 +1,17 @@
 -- Where the device tells of the pages' area, the slots of the pager hold what the core has saved: what each call makes of that. In each,
 -- old and new are what the device tells before the call and after it.
 use Rattle.std.specs.Prelude.{◌≡◌, ◌<◌, ℕ, Bool, true, false, List, [], ◌∷◌, length}
-use Rattle.core_state.specs.Openings.{Opening}
+use Rattle.btree_descent.specs.core_state.Openings.{Opening}
 use Rattle.lean_disk.specs.Story.{Crash, Story, Tells}
 use Rattle.disk_runs.specs.Stands.{Known}
 use Rattle.page_calls.specs.Mirrors.{Mirrors, Spans}
-use Rattle.row_words.specs.declared.event.Event.{Event}
-use Rattle.row_words.specs.declared.event.Event.TheVariants.{Fetch, Save}
-use Rattle.row_words.specs.Moments.{pager}
-use Rattle.row_words.specs.Openings.{opening}
-use Rattle.rows_trait.specs.declared.view.View.{View}
-use Rattle.rows_trait.specs.Turns.{Ran}
-use Rattle.rows_trait.specs.Views.{Shape, may, state}
+use Rattle.btree_descent.specs.row_words.declared.event.Event.{Event}
+use Rattle.btree_descent.specs.row_words.declared.event.Event.TheVariants.{Fetch, Save}
+use Rattle.btree_descent.specs.row_words.Moments.{pager}
+use Rattle.btree_descent.specs.row_words.Openings.{opening}
+use Rattle.btree_descent.specs.rows_trait.declared.view.View.{View}
+use Rattle.btree_descent.specs.rows_trait.Turns.{Ran}
+use Rattle.btree_descent.specs.rows_trait.Views.{Shape, may, state}
 use Rattle.page_provider.specs.Disks.{Runs}
 use Rattle.page_provider.specs.Gives.{Gives}
 use Rattle.page_provider.specs.Providers.{Provider}

@@ -1,12 +1,12 @@
 -- A pager, and what it keeps: its memory agrees with the state that its seat has seen.
 use Rattle.std.specs.Prelude.{◌≡◌, ◌≤◌, ◌<◌, ◌^◌, ℕ, Bool, true, List, length}
-use Rattle.core_paging.specs.Paging.{Waiting}
-use Rattle.core_state.specs.Openings.{Opening}
-use Rattle.core_state.specs.States.{State, is_cold}
-use Rattle.row_words.specs.Moments.{pager}
-use Rattle.row_words.specs.Openings.{opening}
-use Rattle.rows_trait.specs.declared.view.View.{View}
-use Rattle.rows_trait.specs.Views.{Shape, after_all, may, state}
+use Rattle.btree_descent.specs.core_paging.Paging.{Waiting}
+use Rattle.btree_descent.specs.core_state.Openings.{Opening}
+use Rattle.btree_descent.specs.core_state.States.{State, is_cold}
+use Rattle.btree_descent.specs.row_words.Moments.{pager}
+use Rattle.btree_descent.specs.row_words.Openings.{opening}
+use Rattle.btree_descent.specs.rows_trait.declared.view.View.{View}
+use Rattle.btree_descent.specs.rows_trait.Views.{Shape, after_all, may, state}
 use Rattle.btree_descent.specs.Known.{IsSound}
 use Rattle.btree_descent.specs.Descents.{Sized}
 use Rattle.cooling_stage.specs.declared.stage.Cooling.{Cooling}

@@ -5,10 +5,10 @@ use Rattle.cold_pages.specs.Laws.{IsButEntries}
 use Rattle.lean_disk.specs.Moments.{Framed, OnlyReads}
 use Rattle.lean_disk.specs.Story.{Story}
 use Rattle.page_calls.specs.Calls.{KeepsWithin}
-use Rattle.row_words.specs.Moments.{events_of}
-use Rattle.rows_trait.specs.declared.view.View.{View}
-use Rattle.rows_trait.specs.Views.{Shape, state}
-use Rattle.rows_trait.specs.Turns.{Ran}
+use Rattle.btree_descent.specs.row_words.Moments.{events_of}
+use Rattle.btree_descent.specs.rows_trait.declared.view.View.{View}
+use Rattle.btree_descent.specs.rows_trait.Views.{Shape, state}
+use Rattle.btree_descent.specs.rows_trait.Turns.{Ran}
 use Rattle.page_provider.specs.declared.refusal.Refusal.{Refusal}
 use Rattle.page_provider.specs.Disks.{Disked, ReadsUnlessSaved, saves_page}
 use Rattle.page_provider.specs.Ends.{HasRefused}

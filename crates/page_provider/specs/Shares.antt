@@ -1,11 +1,11 @@
 -- How many pages cool where a page is brought in, where nobody else steps.
 use Rattle.std.specs.Prelude.{◌≡◌, ◌≤◌, ◌+◌, ◌/◌, ◌⊎◌, ℕ, suc, max, Bool, List, [], ◌∷◌, length}
-use Rattle.row_words.specs.declared.event.Event.{Event}
-use Rattle.row_words.specs.declared.event.Event.TheVariants.{Cool}
-use Rattle.row_words.specs.Openings.{opening}
-use Rattle.rows_trait.specs.declared.view.View.{View}
-use Rattle.rows_trait.specs.Turns.{Ran}
-use Rattle.rows_trait.specs.Views.{state}
+use Rattle.btree_descent.specs.row_words.declared.event.Event.{Event}
+use Rattle.btree_descent.specs.row_words.declared.event.Event.TheVariants.{Cool}
+use Rattle.btree_descent.specs.row_words.Openings.{opening}
+use Rattle.btree_descent.specs.rows_trait.declared.view.View.{View}
+use Rattle.btree_descent.specs.rows_trait.Turns.{Ran}
+use Rattle.btree_descent.specs.rows_trait.Views.{state}
 use Rattle.page_pool.specs.Full.{NoCandidate, NoneRipe}
 use Rattle.page_provider.specs.Moves.{way}
 use Rattle.page_provider.specs.Providers.{Provider}

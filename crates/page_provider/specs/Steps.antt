@@ -1,10 +1,10 @@
 -- How a call of the pager goes on from what its seat knew.
 use Rattle.std.specs.Prelude.{◌≡◌, List, [], ◌∷◌}
-use Rattle.row_words.specs.declared.event.Event.{Event}
-use Rattle.row_words.specs.declared.event.Event.TheVariants.{Miss}
-use Rattle.rows_trait.specs.declared.view.View.{View}
-use Rattle.rows_trait.specs.Views.{Shape}
-use Rattle.rows_trait.specs.Turns.{Ran}
+use Rattle.btree_descent.specs.row_words.declared.event.Event.{Event}
+use Rattle.btree_descent.specs.row_words.declared.event.Event.TheVariants.{Miss}
+use Rattle.btree_descent.specs.rows_trait.declared.view.View.{View}
+use Rattle.btree_descent.specs.rows_trait.Views.{Shape}
+use Rattle.btree_descent.specs.rows_trait.Turns.{Ran}
 use Rattle.page_provider.specs.Providers.{Provider, Keeps}
 
 -- The seat has appended these events and holds no row, and the pager, whose memory is this now, agrees with what it has

@@ -1,11 +1,11 @@
 // A page comes into a frame: one that cools stays in its own, a cold one is read and comes into an empty one.
 ghost use Rattle.std.specs.Prelude.{◌≡◌, ◌≢◌, ◌<◌, ◌^◌, true, false, [], length, IfOk, IfErr, Ok, Err, Some};
-ghost use Rattle.core_state.specs.Needs.{has_hot_parent};
+ghost use Rattle.btree_descent.specs.core_state.Needs.{has_hot_parent};
 ghost use Rattle.lean_disk.specs.Faults.{HasCause};
 ghost use Rattle.lean_disk.specs.Moments.{Framed, OnlyReads};
-ghost use Rattle.row_words.specs.declared.event.Event.TheVariants.{Load, Rescue};
-ghost use Rattle.row_words.specs.Openings.{opening};
-ghost use Rattle.rows_trait.specs.Views.{state};
+ghost use Rattle.btree_descent.specs.row_words.declared.event.Event.TheVariants.{Load, Rescue};
+ghost use Rattle.btree_descent.specs.row_words.Openings.{opening};
+ghost use Rattle.btree_descent.specs.rows_trait.Views.{state};
 ghost use Rattle.cooling_stage.specs.Queue.{found};
 ghost use Rattle.page_calls.specs.Mirrors.{KeepsMirrors};
 ghost use Rattle.page_provider.specs.Comes.{CanCome, ComesOrNot, HasCome, HasRead, ReadsWell};
@@ -20,13 +20,13 @@ use crate::laws::laws;
 use crate::pager::Pager;
 use crate::refusal::Refusal;
 use crate::taking::take;
-use btree_node::Node;
+use btree_descent::btree_node::Node;
+use btree_descent::rows_trait::rows::Rows;
 use cooling_stage::Cooling;
+use disk_runs::page_store::Lost;
 use lean_disk::Part;
 use page_calls::load;
 use page_moves::{fill, fill_free, relink, revive};
-use page_store::Lost;
-use rows_trait::rows::Rows;
 
 impl Pager {
     // The page as it was saved last. It is compared with what is kept of it.

@@ -1,13 +1,13 @@
 //! Pages are brought into frames, and given out.
 ghost use Rattle.std.specs.Prelude.{◌≡◌, ◌<◌, ◌≤◌, true, false, [], Ok, Err, None, Some, IfOk, IfErr};
-ghost use Rattle.core_state.specs.Needs.{has_hot_parent};
-ghost use Rattle.core_state.specs.States.{is_cold};
+ghost use Rattle.btree_descent.specs.core_state.Needs.{has_hot_parent};
+ghost use Rattle.btree_descent.specs.core_state.States.{is_cold};
 ghost use Rattle.cooling_stage.specs.Queue.{found};
 ghost use Rattle.lean_disk.specs.Faults.{HasCause};
 ghost use Rattle.lean_disk.specs.Moments.{Framed};
 ghost use Rattle.page_calls.specs.Calls.{KeepsWithin};
-ghost use Rattle.row_words.specs.Openings.{opening};
-ghost use Rattle.rows_trait.specs.Views.{state};
+ghost use Rattle.btree_descent.specs.row_words.Openings.{opening};
+ghost use Rattle.btree_descent.specs.rows_trait.Views.{state};
 ghost use Rattle.free_pages.specs.Pages.{IsLeast, count, is_in};
 ghost use Rattle.page_provider.specs.Comes.{CanCome, Fills, HasContents, IsUnseen, PlaceCause};
 ghost use Rattle.page_provider.specs.Disks.{Disked, ReadsUnlessSaved};
@@ -25,11 +25,11 @@ use crate::finding::{named, standing};
 use crate::laws::laws;
 use crate::pager::Pager;
 use crate::refusal::Refusal;
-use btree_node::Node;
+use btree_descent::btree_node::Node;
+use btree_descent::lean_proto::path::Path;
+use btree_descent::rows_trait::rows::Rows;
 use cooling_stage::Cooling;
 use lean_disk::Part;
-use lean_proto::path::Path;
-use rows_trait::rows::Rows;
 
 impl Pager {
     // A page that cools stays in its frame.

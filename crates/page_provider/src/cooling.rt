@@ -1,8 +1,8 @@
 //! A page cools: whoever names it names its number from then on, and it stands in the queue.
 ghost use Rattle.std.specs.Prelude.{◌≡◌, ◌≢◌, ◌<◌, ◌^◌, ℕ, true, false, [], IfOk, IfErr, Err};
-ghost use Rattle.row_words.specs.Moments.{pager};
-ghost use Rattle.row_words.specs.Openings.{opening};
-ghost use Rattle.rows_trait.specs.Views.{state};
+ghost use Rattle.btree_descent.specs.row_words.Moments.{pager};
+ghost use Rattle.btree_descent.specs.row_words.Openings.{opening};
+ghost use Rattle.btree_descent.specs.rows_trait.Views.{state};
 ghost use Rattle.row_image.specs.Hot.{StandsIn};
 ghost use Rattle.cooling_stage.specs.declared.stage.Cooling.{Cooling};
 ghost use Rattle.page_provider.specs.Cools.{CanCool, CoolsIn, CoolsOrNot, Unhooks, HasUnhooked};
@@ -17,13 +17,13 @@ use crate::latching::{take_seen, take_two};
 use crate::laws::laws;
 use crate::pager::Pager;
 use crate::refusal::Refusal;
+use btree_descent::rows_trait::rows::Rows;
+use btree_descent::version_latch::LAST;
 use cooling_stage::Cooling;
 use epochs::{stamp, tick};
 use page_model::limits::FRAME_BIT;
 use page_moves::{chill, unlink};
 use row_image::sight::Sight;
-use rows_trait::rows::Rows;
-use version_latch::LAST;
 
 impl Pager {
     // A node that was seen without a hot child cools: the pair that names its frame names its number from then on. The node above it is

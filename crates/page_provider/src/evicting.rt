@@ -1,12 +1,12 @@
 //! A page that cools leaves its frame: it is saved first if it is dirty.
 ghost use Rattle.std.specs.Prelude.{◌≡◌, ◌≤◌, true, false, [], IfOk, IfErr, Err};
-ghost use Rattle.core_state.specs.Needs as core;
-ghost use Rattle.core_state.specs.States.{flushed_by_all};
+ghost use Rattle.btree_descent.specs.core_state.Needs as core;
+ghost use Rattle.btree_descent.specs.core_state.States.{flushed_by_all};
 ghost use Rattle.lean_disk.specs.Faults.{HasCause};
 ghost use Rattle.lean_disk.specs.Moments.{Framed};
 ghost use Rattle.page_calls.specs.Calls.{KeepsWithin};
-ghost use Rattle.row_words.specs.Openings.{opening};
-ghost use Rattle.rows_trait.specs.Views.{state};
+ghost use Rattle.btree_descent.specs.row_words.Openings.{opening};
+ghost use Rattle.btree_descent.specs.rows_trait.Views.{state};
 ghost use Rattle.page_provider.specs.Disks.{Disked, ReadsUnlessSaved};
 ghost use Rattle.page_provider.specs.Evicts.{CanLeave, HasLeft, HasStayed};
 ghost use Rattle.page_provider.specs.Inside.{HasCleared, HasGone, IsEntered};
@@ -19,9 +19,9 @@ use crate::looking::{is_dirty, page_in};
 use crate::pager::Pager;
 use crate::refusal::Refusal;
 use crate::taking::take;
+use btree_descent::rows_trait::rows::Rows;
 use cooling_stage::Cooling;
 use lean_disk::Part;
-use rows_trait::rows::Rows;
 
 impl Pager {
     // A clean page leaves its frame, and what it was is kept.

@@ -1,13 +1,13 @@
 // A leaf that was read has these entries from then on.
 ghost use Rattle.std.specs.Prelude.{◌≡◌, ◌<◌, true};
 ghost use Rattle.page_model.specs.Nodes.{is_leaf};
-ghost use Rattle.row_words.specs.Moments.{pager};
-ghost use Rattle.rows_trait.specs.Views.{may};
+ghost use Rattle.btree_descent.specs.row_words.Moments.{pager};
+ghost use Rattle.btree_descent.specs.rows_trait.Views.{may};
 ghost use Rattle.page_provider.specs.Fetches.{HasTold};
 
-use btree_node::Node;
-use rows_trait::names::Names;
-use rows_trait::rows::Rows;
+use btree_descent::btree_node::Node;
+use btree_descent::rows_trait::names::Names;
+use btree_descent::rows_trait::rows::Rows;
 
 // A page with what was read of it.
 #[derive(Drop)]

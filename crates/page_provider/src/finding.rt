@@ -1,8 +1,8 @@
 // What is looked for in the frames, without a latch: a page that can be cooled, the node that names a page, the frame of a hot page.
 ghost use Rattle.std.specs.Prelude.{◌≡◌, ◌<◌, ◌^◌, ℕ, true, [], IfOk, IfErr};
-ghost use Rattle.row_words.specs.Moments.{pager};
-ghost use Rattle.row_words.specs.Openings.{opening};
-ghost use Rattle.rows_trait.specs.Views.{may};
+ghost use Rattle.btree_descent.specs.row_words.Moments.{pager};
+ghost use Rattle.btree_descent.specs.row_words.Openings.{opening};
+ghost use Rattle.btree_descent.specs.rows_trait.Views.{may};
 ghost use Rattle.btree_descent.specs.Descents.{Sized};
 ghost use Rattle.btree_descent.specs.Known.{IsSound};
 ghost use Rattle.row_image.specs.Looks.{Watched};
@@ -15,11 +15,11 @@ use crate::glancing::names;
 use crate::laws::laws;
 use crate::looking::PAGER;
 use crate::refusal::Refusal;
-use lean_proto::path::DEEPEST;
+use btree_descent::lean_proto::path::DEEPEST;
+use btree_descent::rows_trait::rows::Rows;
 use row_image::frame;
 use row_image::refusal::Unseen;
 use row_image::sight::Sight;
-use rows_trait::rows::Rows;
 
 // The page that stands hot in a frame, as it is seen there.
 fn sight<R: Rows>(

@@ -1,11 +1,11 @@
 // What single words of a frame's row say, without a latch and without a copy of the node that stands there.
 ghost use Rattle.std.specs.Prelude.{◌≡◌, ◌<◌, ◌≤◌, ℕ, true, false, [], IfOk, IfErr, length, slice_index};
 ghost use Rattle.page_model.specs.Page as stored;
-ghost use Rattle.btree_node.specs.Words.{words_of, Fits};
-ghost use Rattle.row_words.specs.Moments.{pager};
-ghost use Rattle.row_words.specs.Words.{is_inner};
-ghost use Rattle.rows_trait.specs.Layout.{rows_of, width};
-ghost use Rattle.rows_trait.specs.Views.{Has, IsEven, may, state};
+ghost use Rattle.btree_descent.specs.btree_node.Words.{words_of, Fits};
+ghost use Rattle.btree_descent.specs.row_words.Moments.{pager};
+ghost use Rattle.btree_descent.specs.row_words.Words.{is_inner};
+ghost use Rattle.btree_descent.specs.rows_trait.Layout.{rows_of, width};
+ghost use Rattle.btree_descent.specs.rows_trait.Views.{Has, IsEven, may, state};
 ghost use Rattle.btree_descent.specs.Descents.{Sized};
 ghost use Rattle.btree_descent.specs.Known.{IsSound};
 ghost use Rattle.row_image.specs.Hot.{IsBare};
@@ -18,11 +18,11 @@ ghost use Rattle.page_provider.specs.Refusals.{IsOthers};
 
 use crate::looking::PAGER;
 use crate::refusal::Refusal;
+use btree_descent::rows_trait::rows::Rows;
+use btree_descent::swips::MARK;
+use btree_descent::version_latch::Glimpse;
+use btree_descent::version_latch::events::{Checks, Misses};
 use row_image::refusal::Unseen;
-use rows_trait::rows::Rows;
-use swips::MARK;
-use version_latch::Glimpse;
-use version_latch::events::{Checks, Misses};
 
 // Begins to look at a row.
 fn begin<R: Rows>(rows: &mut R, seat: &mut R::Seat, row: u32) -> Result<Glimpse, Unseen>

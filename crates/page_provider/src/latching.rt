@@ -1,8 +1,8 @@
 // Rows are latched as they were seen.
 ghost use Rattle.std.specs.Prelude.{◌≡◌, ◌≢◌, ◌<◌, true, [], IfOk, IfErr};
-ghost use Rattle.row_words.specs.Moments.{pager};
-ghost use Rattle.row_words.specs.Openings.{opening};
-ghost use Rattle.rows_trait.specs.Views.{held_at, may};
+ghost use Rattle.btree_descent.specs.row_words.Moments.{pager};
+ghost use Rattle.btree_descent.specs.row_words.Openings.{opening};
+ghost use Rattle.btree_descent.specs.rows_trait.Views.{held_at, may};
 ghost use Rattle.btree_descent.specs.Known.{IsSound};
 ghost use Rattle.row_image.specs.Sights.{HasTaken, HasWords};
 ghost use Rattle.page_provider.specs.Finds.{IsSeen, SinceBoth, SinceFound, Stopped, TakesSeen, TakesTwo, TakesWith};
@@ -10,11 +10,11 @@ ghost use Rattle.page_provider.specs.Finds.{IsSeen, SinceBoth, SinceFound, Stopp
 use crate::laws::laws;
 use crate::looking::PAGER;
 use crate::refusal::Refusal;
+use btree_descent::rows_trait::rows::Rows;
+use btree_descent::version_latch::{Hold, Unheld};
 use held_rows::{Refusal as Unlatched, latch};
 use row_image::frame;
 use row_image::sight::Sight;
-use rows_trait::rows::Rows;
-use version_latch::{Hold, Unheld};
 
 // Latches the row of a sight, where none is held.
 pub(crate) fn take_seen<R: Rows>(

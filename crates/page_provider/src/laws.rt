@@ -1,6 +1,9 @@
 // What the pager's calls rest on.
 ghost use Rattle.page_provider.specs.Laws.{DiskLaws, RowLaws};
 
+use btree_descent::lean_proto;
+use disk_runs::{core_disk, disk_image, disk_slots, worker_log};
+
 // The laws of rows, of what the pager knows of them, and of the disk under a run.
 pub(crate) fn laws()
     ensures rows { RowLaws }

@@ -1,6 +1,6 @@
 // Which page of the queue can leave its frame.
 ghost use Rattle.std.specs.Prelude.{◌≡◌, ◌≤◌, ◌<◌, ℕ, true, [], length, Some, IfOk, IfErr};
-ghost use Rattle.rows_trait.specs.Views.{Shape};
+ghost use Rattle.btree_descent.specs.rows_trait.Views.{Shape};
 ghost use Rattle.cooling_stage.specs.Queue.{found};
 ghost use Rattle.page_provider.specs.Inside.{Missed};
 ghost use Rattle.page_provider.specs.Leaves.{Chose, HasFlushed, IsFlushed, MissedLater, Tells};
@@ -10,10 +10,10 @@ use crate::laws::laws;
 use crate::looking::{is_dirty, number};
 use crate::pager::Pager;
 use crate::refusal::Refusal;
+use btree_descent::rows_trait::names::Nothing;
+use btree_descent::rows_trait::rows::Rows;
 use cooling_stage::Cooling;
 use epochs::{Ripeness, ripe};
-use rows_trait::names::Nothing;
-use rows_trait::rows::Rows;
 
 // Whether a page that cools can leave.
 #[derive(Clone, Copy)]

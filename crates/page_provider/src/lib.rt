@@ -29,6 +29,8 @@ ghost use Rattle.page_provider.specs.Gives.{EveryGiven};
 ghost use Rattle.page_provider.specs.Sequels.{EveryAreaRest, EveryAreaSequel, EveryDiskRest, EveryDiskSequel, EverySequel, EveryUnsaved};
 ghost use Rattle.page_provider.specs.Mirrored.{EveryMirroredGives, EveryMirroredRest, EveryMirroredRun};
 
+use btree_descent::lean_proto;
+use disk_runs::page_store;
 use lean_disk::{Disk, Part};
 pub use pager::Pager;
 pub use refusal::Refusal;

@@ -1,10 +1,10 @@
 // What the pager looks at in a frame, without a latch.
 ghost use Rattle.std.specs.Prelude.{◌≡◌, ◌<◌, ℕ, true, [], IfOk, IfErr};
-ghost use Rattle.btree_node.specs.Words.{words_of};
+ghost use Rattle.btree_descent.specs.btree_node.Words.{words_of};
 ghost use Rattle.lean_bytes.specs.Numbers.{AreWords};
-ghost use Rattle.row_words.specs.Moments.{pager};
-ghost use Rattle.rows_trait.specs.Layout.{rows_of, width};
-ghost use Rattle.rows_trait.specs.Views.{may};
+ghost use Rattle.btree_descent.specs.row_words.Moments.{pager};
+ghost use Rattle.btree_descent.specs.rows_trait.Layout.{rows_of, width};
+ghost use Rattle.btree_descent.specs.rows_trait.Views.{may};
 ghost use Rattle.btree_descent.specs.Descents.{Sized};
 ghost use Rattle.btree_descent.specs.Known.{IsSound};
 ghost use Rattle.row_image.specs.Images.{IsImage, StaysIn};
@@ -12,12 +12,12 @@ ghost use Rattle.page_provider.specs.Inside.{Judges, Missed, Numbers};
 ghost use Rattle.page_provider.specs.Refusals.{IsOthers};
 
 use crate::refusal::Refusal;
-use btree_node::Node;
+use btree_descent::btree_node::Node;
+use btree_descent::rows_trait::rows::Rows;
+use btree_descent::version_latch::Glimpse;
+use btree_descent::version_latch::events::{Checks, Misses};
 use row_image::page::image;
 use row_image::refusal::Unseen;
-use rows_trait::rows::Rows;
-use version_latch::Glimpse;
-use version_latch::events::{Checks, Misses};
 
 /// The pager among the actors of rows.
 pub(crate) const PAGER: u32 = 17;

@@ -1,6 +1,6 @@
 //! Why the pager refused.
-use page_store::Seal;
-use version_latch::{Latched, Moved};
+use btree_descent::version_latch::{Latched, Moved};
+use disk_runs::page_store::Seal;
 
 #[derive(Clone, Copy)]
 pub enum Refusal {

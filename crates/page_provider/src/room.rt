@@ -17,9 +17,9 @@ use crate::laws::laws;
 use crate::leaving::{Chosen, Leave};
 use crate::pager::Pager;
 use crate::refusal::Refusal;
+use btree_descent::lean_proto::path::Path;
+use btree_descent::rows_trait::rows::Rows;
 use lean_disk::Part;
-use lean_proto::path::Path;
-use rows_trait::rows::Rows;
 
 impl Pager {
     // Cools pages one by one until one of them can leave at once, where none of the queue can. Nobody: a turn has found none to cool.

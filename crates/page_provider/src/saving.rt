@@ -1,11 +1,11 @@
 // A page goes to the disk.
 ghost use Rattle.std.specs.Prelude.{◌≡◌, ◌≤◌, ◌<◌, ◌^◌, true, false, [], length, slice_get, Some, IfOk, IfErr, Err};
-ghost use Rattle.core_state.specs.Needs as core;
-ghost use Rattle.core_state.specs.States.{flushed_by_all};
+ghost use Rattle.btree_descent.specs.core_state.Needs as core;
+ghost use Rattle.btree_descent.specs.core_state.States.{flushed_by_all};
 ghost use Rattle.lean_disk.specs.Faults.{HasCause};
 ghost use Rattle.lean_disk.specs.Moments.{Framed};
-ghost use Rattle.row_words.specs.Openings.{opening};
-ghost use Rattle.rows_trait.specs.Views.{state};
+ghost use Rattle.btree_descent.specs.row_words.Openings.{opening};
+ghost use Rattle.btree_descent.specs.rows_trait.Views.{state};
 ghost use Rattle.page_calls.specs.Calls.{KeepsMoments, KeepsWithin, SavesMoments};
 ghost use Rattle.page_calls.specs.Mirrors.{KeepsMirrors, SavesMirrors};
 ghost use Rattle.page_calls.specs.declared.slots.Slot.{Slot};
@@ -21,12 +21,13 @@ use crate::looking::page_in;
 use crate::pager::Pager;
 use crate::refusal::Refusal;
 use crate::taking::{give_up, take};
-use btree_node::Node;
+use btree_descent::btree_node::Node;
+use btree_descent::rows_trait::rows::Rows;
 use cooling_stage::Cooling;
+use disk_runs::{core_disk, disk_image, worker_log};
 use lean_disk::{Did, Part};
 use page_calls::{Slots, save, settle};
 use page_moves::note_saved;
-use rows_trait::rows::Rows;
 
 // Syncs the pages' area if the page was saved since the last sync of it.
 fn settle_first<P: Part>(dev: &mut P, slots: &mut Slots, page: u32) -> Did

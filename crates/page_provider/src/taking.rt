@@ -1,7 +1,7 @@
 // The row of a frame is latched, for the pager.
 ghost use Rattle.std.specs.Prelude.{◌≡◌, ◌<◌, true, [], IfOk, IfErr};
-ghost use Rattle.row_words.specs.Moments.{pager};
-ghost use Rattle.rows_trait.specs.Views.{may};
+ghost use Rattle.btree_descent.specs.row_words.Moments.{pager};
+ghost use Rattle.btree_descent.specs.rows_trait.Views.{may};
 ghost use Rattle.btree_descent.specs.Descents.{Sized};
 ghost use Rattle.held_rows.specs.Rows.{HoldsOne};
 ghost use Rattle.held_rows.specs.Steps.{MissedUpTo};
@@ -10,9 +10,9 @@ ghost use Rattle.page_provider.specs.Refusals.{SpentAt};
 
 use crate::looking::PAGER;
 use crate::refusal::Refusal;
+use btree_descent::rows_trait::rows::Rows;
+use btree_descent::version_latch::Hold;
 use held_rows::{Refusal as Unlatched, give_up_one, latch};
-use rows_trait::rows::Rows;
-use version_latch::Hold;
 
 // Latches the row of a frame from the version that it has, where no row is held.
 pub(crate) fn take<R: Rows>(

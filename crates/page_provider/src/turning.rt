@@ -11,9 +11,9 @@ use crate::glancing::is_hot;
 use crate::laws::laws;
 use crate::pager::Pager;
 use crate::refusal::Refusal;
+use btree_descent::lean_proto::path::Path;
+use btree_descent::rows_trait::rows::Rows;
 use cooling_stage::Cooling;
-use lean_proto::path::Path;
-use rows_trait::rows::Rows;
 
 impl Pager {
     // Cools the page that is seen in a frame, or one that hangs under it, if there is one off the way.

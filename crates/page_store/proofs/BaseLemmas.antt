@@ -3,9 +3,9 @@ use Rattle.std.proofs.Common.{◌≡◌, ◌⊎◌, inl, inr, ⊎_elim, ℕ, zer
 use Rattle.std.proofs.lemmas.Bool.{and_from, and_parts, cases_Bool, cases_lt, cond-true, cond-false, eq-eqb, eqb-true, leb-true, le-leb, lt-leb, lt-ltb, le-ltb, ltb-true, ne_eqb, or_cases, or_left, or_right}
 use Rattle.std.proofs.lemmas.Option.{same_Some}
 use Rattle.page_model.specs.Page.{Page}
-use Rattle.image_model.specs.Entries as model
-use Rattle.image_model.specs.Slots.{Slot, base_of, newer_page, valid}
-use Rattle.disk_slots.specs.declared.master.Master.{Master}
+use Rattle.disk_image.specs.image_model.Entries as model
+use Rattle.disk_image.specs.image_model.Slots.{Slot, base_of, newer_page, valid}
+use Rattle.disk_image.specs.disk_slots.declared.master.Master.{Master}
 use Rattle.disk_image.specs.PageSlots.{page_in}
 use Rattle.disk_image.specs.Shown.{Areas, page_slot_in, shown_by, slot_of}
 use Rattle.disk_image.specs.Breaks.{HasNoBase}

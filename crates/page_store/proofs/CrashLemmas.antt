@@ -3,12 +3,12 @@ use Rattle.std.proofs.Common.{◌≡◌, codes, ◌⊎◌, inl, inr, ⊎_elim, �
 use Rattle.std.proofs.lemmas.Bool.{cases_lt}
 use Rattle.map_model.specs.Lists.{Has}
 use Rattle.page_model.specs.Page.{Page}
-use Rattle.image_model.specs.Fair.{piece}
-use Rattle.image_model.proofs.FairLemmas.{IsOfOne, narrow}
+use Rattle.disk_image.specs.image_model.Fair.{piece}
+use Rattle.disk_image.proofs.image_model_lemmas.FairLemmas.{IsOfOne, narrow}
 use Rattle.lean_disk.specs.Area.{Area, IsApart, Leaves, Write, torn}
 use Rattle.lean_disk.specs.Inside.Areas.{put_over_apart}
-use Rattle.disk_slots.specs.Pages.{page_slot, IsPage}
-use Rattle.disk_slots.specs.Slots.{IsSealed}
+use Rattle.disk_image.specs.disk_slots.Pages.{page_slot, IsPage}
+use Rattle.disk_image.specs.disk_slots.Slots.{IsSealed}
 use Rattle.disk_image.specs.PageSlots.{page_in}
 use Rattle.disk_image.specs.Shown.{page_slot_in}
 use Rattle.page_store.specs.Laws.{EveryFewer, EveryLeft}

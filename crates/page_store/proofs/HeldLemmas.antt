@@ -2,12 +2,12 @@
 use Rattle.std.proofs.Common.{◌≡◌, inl, inr, ⊎_elim, ℕ, ◌+◌, ◌*◌, ◌≤◌, ◌<◌, List, [], ◌∷◌, ◌++◌, length, map, Some, refl, sym, ◌∙◌, ap, subst, arith, codes}
 use Rattle.std.proofs.lemmas.Bool.{cases_eq}
 use Rattle.map_model.specs.Lists.{Has}
-use Rattle.image_model.specs.Fair.{piece, IsWritten}
-use Rattle.image_model.proofs.FairLemmas.{among_more, exactly}
+use Rattle.disk_image.specs.image_model.Fair.{piece, IsWritten}
+use Rattle.disk_image.proofs.image_model_lemmas.FairLemmas.{among_more, exactly}
 use Rattle.lean_disk.specs.Area.{Area, Write}
 use Rattle.lean_disk.specs.Inside.Areas.{length-put_over}
-use Rattle.disk_slots.specs.Slots.{IsSealed}
-use Rattle.disk_slots.specs.Pages.{page_slot}
+use Rattle.disk_image.specs.disk_slots.Slots.{IsSealed}
+use Rattle.disk_image.specs.disk_slots.Pages.{page_slot}
 use Rattle.disk_image.specs.PageSlots.{page_in}
 use Rattle.disk_image.specs.Shown.{page_slot_in}
 use Rattle.page_store.specs.Laws.{EveryRead}

@@ -3,12 +3,12 @@ use Rattle.std.proofs.Common.{◌≡◌, inl, ⊎_elim, ℕ, ◌+◌, ◌-◌, �
 use Rattle.std.proofs.lemmas.Bool.{cases_eq, cases_lt}
 use Rattle.std.proofs.lemmas.List.{length-take, length-replicate, drop_at, take_at, take_min, drop-drop, get_or-take, get_or-drop, ext_get_or}
 use Rattle.page_model.specs.Page.{Page}
-use Rattle.image_model.specs.Fair.{piece}
+use Rattle.disk_image.specs.image_model.Fair.{piece}
 use Rattle.lean_disk.specs.Area.{put_over}
 use Rattle.lean_disk.specs.Inside.Areas.{put_over_apart}
-use Rattle.disk_slots.specs.Slots.{IsSealed}
-use Rattle.disk_slots.specs.Pages.{page_slot, IsPage}
-use Rattle.disk_slots.proofs.LawLemmas.{every_page}
+use Rattle.disk_image.specs.disk_slots.Slots.{IsSealed}
+use Rattle.disk_image.specs.disk_slots.Pages.{page_slot, IsPage}
+use Rattle.disk_image.proofs.disk_slots_lemmas.LawLemmas.{every_page}
 use Rattle.disk_image.specs.Shown.{page_slot_in}
 use Rattle.disk_image.proofs.PageSlotLemmas.{every_page_in}
 use Rattle.page_store.specs.Laws.{EveryWhole}

@@ -6,7 +6,7 @@ use Rattle.lean_disk.specs.Moments.{CrashIn, Framed}
 use Rattle.lean_disk.specs.Story.{Crash, IsLawful, LeavesNow, Story, Tells}
 use Rattle.lean_disk.specs.declared.disk.Did.{Did}
 use Rattle.lean_disk.proofs.MomentLemmas.{crash_in, framed, framed_synced, framed_wrote, goes_on, started, weaker}
-use Rattle.disk_slots.specs.Pages.{page_slot}
+use Rattle.disk_image.specs.disk_slots.Pages.{page_slot}
 use Rattle.page_store.specs.Runs.{HasSaved, IsReady, IsRun, SavesMore, SyncsSaves}
 use Rattle.page_store.specs.Saved.{Save, AreSaves, IsSaving, LeavesSaves, place_of, saved, write_of}
 use Rattle.page_store.proofs.CrashLemmas.{every_fewer, every_left}

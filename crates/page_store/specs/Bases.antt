@@ -1,9 +1,9 @@
 -- The base of a page, as it is fetched.
 use Rattle.std.specs.Prelude.{◌≡◌, ◌⊎◌, ◌<◌, ◌≤◌, ◌-◌, ℕ, Bool, true, false, Some}
 use Rattle.page_model.specs.Page as memory
-use Rattle.image_model.specs.Entries.{Contents}
-use Rattle.image_model.specs.Slots.{base_of}
-use Rattle.disk_slots.specs.declared.master.Master.{Master}
+use Rattle.disk_image.specs.image_model.Entries.{Contents}
+use Rattle.disk_image.specs.image_model.Slots.{base_of}
+use Rattle.disk_image.specs.disk_slots.declared.master.Master.{Master}
 use Rattle.disk_image.specs.Shown.{Areas, page_slot_in, shown_by}
 use Rattle.page_store.specs.declared.base.Base.{Base}
 

@@ -1,7 +1,7 @@
 -- Words of private functions: what is taken of two slots.
 use Rattle.std.specs.Prelude.{◌≡◌, ℕ, Bool, true, false, ◌&&◌, ◌||◌, ltb, leb, ◌==◌, List, Option, Some, None, if◌then◌else◌}
 use Rattle.page_model.specs.Page.{Page}
-use Rattle.disk_slots.specs.declared.master.Master.{Master}
+use Rattle.disk_image.specs.disk_slots.declared.master.Master.{Master}
 use Rattle.disk_image.specs.Shown.{page_slot_in}
 use Rattle.page_store.specs.declared.base.Base.{Base}
 use Rattle.page_store.specs.declared.base.Seen.{Seen}

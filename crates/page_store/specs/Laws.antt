@@ -3,8 +3,8 @@ use Rattle.std.specs.Prelude.{◌≡◌, ◌⊎◌, ◌≤◌, ◌+◌, ℕ, suc
 use Rattle.map_model.specs.Lists.{Has}
 use Rattle.page_model.specs.Page.{Page}
 use Rattle.lean_disk.specs.Area.{Write, Area, Leaves, torn}
-use Rattle.disk_slots.specs.Pages.{page_slot}
-use Rattle.disk_slots.specs.declared.master.Master.{Master}
+use Rattle.disk_image.specs.disk_slots.Pages.{page_slot}
+use Rattle.disk_image.specs.disk_slots.declared.master.Master.{Master}
 use Rattle.disk_image.specs.Shown.{Areas, page_slot_in}
 use Rattle.page_store.specs.Bases.{IsBase}
 use Rattle.page_store.specs.Saved.{Save, AreSaves, IsFairSince, IsSynced, Reaches, HoldsSaves, LeavesSaves, IsSaving, place_of, saved, write_of}

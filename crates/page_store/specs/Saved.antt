@@ -2,10 +2,10 @@
 use Rattle.std.specs.Prelude.{◌≡◌, ◌⊎◌, ◌<◌, ◌≤◌, ◌+◌, ◌*◌, ℕ, List, [], ◌∷◌, ◌++◌, length, Some, None, codes}
 use Rattle.map_model.specs.Lists.{Has}
 use Rattle.page_model.specs.Page.{Page}
-use Rattle.image_model.specs.Fair.{IsFair}
+use Rattle.disk_image.specs.image_model.Fair.{IsFair}
 use Rattle.lean_disk.specs.Area.{Write, Area, Leaves, written}
-use Rattle.disk_slots.specs.Slots.{IsSealed}
-use Rattle.disk_slots.specs.Pages.{page_slot, IsPage}
+use Rattle.disk_image.specs.disk_slots.Slots.{IsSealed}
+use Rattle.disk_image.specs.disk_slots.Pages.{page_slot, IsPage}
 use Rattle.disk_image.specs.Shown.{page_slot_in}
 
 -- a page, and what is saved of it in which of its slots

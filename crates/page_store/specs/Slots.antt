@@ -1,9 +1,9 @@
 -- What a slot of a page holds.
 use Rattle.std.specs.Prelude.{◌≡◌, ◌<◌, ◌≤◌, ◌+◌, ◌*◌, ℕ, List, Some, None, codes}
 use Rattle.page_model.specs.Page.{Page}
-use Rattle.image_model.specs.Fair.{piece}
-use Rattle.disk_slots.specs.Pages.{IsPage}
-use Rattle.disk_slots.specs.Slots.{IsSealed}
+use Rattle.disk_image.specs.image_model.Fair.{piece}
+use Rattle.disk_image.specs.disk_slots.Pages.{IsPage}
+use Rattle.disk_image.specs.disk_slots.Slots.{IsSealed}
 use Rattle.disk_image.specs.PageSlots.{page_in}
 use Rattle.page_store.specs.declared.slot.Bounds.{Bounds}
 use Rattle.page_store.specs.declared.slot.Seal.{Seal}

@@ -15,6 +15,10 @@ pub use known::{Lost, fetch_known};
 pub use saving::{save, spare};
 pub use slot::{Bounds, DiskFault, Held, Seal, fetch_at};
 
+// Passed on to the crates above.
+pub use disk_image;
+pub use disk_image::{btree_node, disk_slots, image_model, log_block, log_record};
+
 /// The bytes of a slot are one thing: without a seal, malformed, of a later generation, or valid.
 pub fn every_seal()
     ensures { EverySeal }

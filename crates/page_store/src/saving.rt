@@ -1,14 +1,14 @@
 // A page is saved in the slot that is not its base's.
 ghost use Rattle.std.specs.Prelude.{◌≡◌, ◌<◌, ◌-◌, ◌^◌, length};
-ghost use Rattle.btree_node.specs.Words.{words_of, Fits};
+ghost use Rattle.disk_image.specs.btree_node.Words.{words_of, Fits};
 ghost use Rattle.lean_bytes.specs.Numbers.{AreWords};
 ghost use Rattle.lean_disk.specs.Calls.{Wrote};
 ghost use Rattle.lean_disk.specs.Faults.{HasCause};
-ghost use Rattle.disk_slots.specs.Pages.{page_slot};
+ghost use Rattle.disk_image.specs.disk_slots.Pages.{page_slot};
 ghost use Rattle.page_store.specs.Saved.{place_of};
 
-use btree_node::Node;
-use disk_slots::page_bytes;
+use disk_image::btree_node::Node;
+use disk_image::disk_slots::page_bytes;
 use lean_disk::{Did, Part};
 
 /// The other slot of a page.

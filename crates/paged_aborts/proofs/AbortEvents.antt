@@ -3,20 +3,20 @@ use Rattle.std.proofs.Common.{◌≡◌, ◌∙◌, ◌==◌, ◌||◌, ◌&&◌
 use Rattle.std.proofs.lemmas.Bool.{and_parts, eqb-true}
 use Rattle.map_model.specs.Histories.{Step}
 use Rattle.map_model.specs.Lists.{all, any, keep}
-use Rattle.image_model.specs.Entries.{Entry}
+use Rattle.btree_descent.specs.image_model.Entries.{Entry}
 use Rattle.core_calls.specs.Deeds.{put_backs}
 use Rattle.core_calls.specs.Marks.{Mark, is_half}
 use Rattle.core_calls.specs.Steps.{PutsBack, is_step, is_structure}
-use Rattle.core_state.specs.Events as happening
-use Rattle.core_state.specs.Lists.{is_empty}
-use Rattle.core_state.specs.Needs.{are_hot, may, may_put_back}
-use Rattle.core_state.specs.Openings.{Opening}
-use Rattle.core_state.specs.States.{State}
-use Rattle.core_state.specs.Steps.{AllMet, step}
+use Rattle.btree_descent.specs.core_state.Events as happening
+use Rattle.btree_descent.specs.core_state.Lists.{is_empty}
+use Rattle.btree_descent.specs.core_state.Needs.{are_hot, may, may_put_back}
+use Rattle.btree_descent.specs.core_state.Openings.{Opening}
+use Rattle.btree_descent.specs.core_state.States.{State}
+use Rattle.btree_descent.specs.core_state.Steps.{AllMet, step}
 use Rattle.engine_calls.specs.Aborts.{back_by, backs_by, newest_back}
-use Rattle.row_words.specs.declared.event.Event.{Event}
-use Rattle.row_words.specs.declared.event.Event.TheVariants as told
-use Rattle.row_words.specs.Moments.{event_of, events_of}
+use Rattle.btree_descent.specs.row_words.declared.event.Event.{Event}
+use Rattle.btree_descent.specs.row_words.declared.event.Event.TheVariants as told
+use Rattle.btree_descent.specs.row_words.Moments.{event_of, events_of}
 use Rattle.call_parts.specs.Rooms.{AreBacks}
 use Rattle.paged_aborts.specs.Backs.{is_back}
 use Rattle.paged_aborts.proofs.BackEvents.{allowed}

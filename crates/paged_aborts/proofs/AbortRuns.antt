@@ -16,11 +16,11 @@ use Rattle.core_calls.specs.Refusals.{IsHindered}
 use Rattle.core_calls.specs.Runs.{EachTells, IsRefused, Tells}
 use Rattle.core_calls.specs.Scans.{StopsOnWay}
 use Rattle.core_calls.specs.Steps.{IsAbortOf, IsAnAbort, Tries, call_behind, hindered_in}
-use Rattle.core_state.specs.Events as happening
-use Rattle.core_state.specs.Lists.{is_empty}
-use Rattle.core_state.specs.Openings.{Opening}
-use Rattle.core_state.specs.States.{State}
-use Rattle.core_state.specs.Steps.{AllMet, run, state_after}
+use Rattle.btree_descent.specs.core_state.Events as happening
+use Rattle.btree_descent.specs.core_state.Lists.{is_empty}
+use Rattle.btree_descent.specs.core_state.Openings.{Opening}
+use Rattle.btree_descent.specs.core_state.States.{State}
+use Rattle.btree_descent.specs.core_state.Steps.{AllMet, run, state_after}
 use Rattle.disk_runs.specs.Stands.{Stands}
 use Rattle.engine_calls.specs.Aborts.{backs_by}
 use Rattle.engine_calls.specs.Answers.{EveryAnswer}
@@ -33,8 +33,8 @@ use Rattle.engine_trait.specs.Refusals.{refusal_in}
 use Rattle.engine_trait.specs.Rooms.{MakesItsRoom, needs_sync}
 use Rattle.lean_disk.specs.Story.{IsLawful, Story}
 use Rattle.page_pool.specs.Counts.{EveryFrame}
-use Rattle.row_words.specs.Moments.{events_of}
-use Rattle.rows_trait.specs.Views.{state}
+use Rattle.btree_descent.specs.row_words.Moments.{events_of}
+use Rattle.btree_descent.specs.rows_trait.Views.{state}
 use Rattle.session_desks.proofs.DeskLemmas.{desk_own}
 use Rattle.session_desks.proofs.SeatLemmas.{holds_of, turn_high, turn_low}
 use Rattle.session_desks.specs.Desks.{desk_of}
@@ -43,7 +43,7 @@ use Rattle.session_desks.specs.declared.desk.Desk.{Desk}
 use Rattle.session_state.specs.Holds.{Holds}
 use Rattle.session_state.specs.Ties.{Behind}
 use Rattle.session_state.specs.declared.session.Session.{Session}
-use Rattle.worker_log.specs.Logs.{Log}
+use Rattle.disk_runs.specs.worker_log.Logs.{Log}
 use Rattle.call_parts.proofs.EndLemmas.{most_least}
 use Rattle.call_parts.proofs.RunLemmas.{behind_more, core_is}
 use Rattle.call_parts.proofs.StepLemmas.{every_step}

@@ -2,10 +2,10 @@
 use Rattle.std.proofs.Common.{◌≡◌, ◌∙◌, ◌==◌, ◌||◌, ◌++◌, ℕ, suc, Bool, true, false, List, [], ◌∷◌, length, ap, refl, sym, eq-eqb, true≢false}
 use Rattle.std.proofs.lemmas.Bool.{and_from, and_parts}
 use Rattle.map_model.specs.Lists.{all, any}
-use Rattle.core_state.specs.Events as happening
-use Rattle.row_words.specs.declared.event.Event.{Event}
-use Rattle.row_words.specs.declared.event.Event.TheVariants as told
-use Rattle.row_words.specs.Moments.{event_of, events_of}
+use Rattle.btree_descent.specs.core_state.Events as happening
+use Rattle.btree_descent.specs.row_words.declared.event.Event.{Event}
+use Rattle.btree_descent.specs.row_words.declared.event.Event.TheVariants as told
+use Rattle.btree_descent.specs.row_words.Moments.{event_of, events_of}
 use Rattle.call_parts.specs.Rooms.{AreBacks, is_paging as pages_come, puts_back}
 use Rattle.call_parts.specs.Rooms as rooms
 use Rattle.paged_desks.specs.Pages.{ArePaging, is_paging}

@@ -5,7 +5,7 @@ use Rattle.core_calls.specs.LogEvents.{EveryWhere}
 use Rattle.lean_disk.specs.Story.{IsLawful, Story}
 use Rattle.map_model.specs.declared.call.Refusal.{Refusal}
 use Rattle.map_model.specs.declared.call.Refusal.TheVariants as refusal
-use Rattle.row_words.specs.Moments.{events_of}
+use Rattle.btree_descent.specs.row_words.Moments.{events_of}
 use Rattle.row_changes.specs.declared.ways.Cold.{Cold}
 use Rattle.row_changes.specs.declared.ways.Unmade.{Unmade}
 use Rattle.row_changes.specs.declared.ways.Unmade.TheVariants as unmade

@@ -6,19 +6,19 @@ use Rattle.std.proofs.Math.Nat.{min-eq_left, min-le_left}
 use Rattle.core_calls.specs.Fronts.{Done, front}
 use Rattle.core_calls.specs.LogEvents.{IsTight, IsTightSomewhere, SyncsWhere}
 use Rattle.core_covers.specs.Highs.{pages_above, writes}
-use Rattle.core_state.specs.Events as happening
-use Rattle.core_state.specs.Openings.{Opening}
-use Rattle.core_state.specs.States.{State, nodes_of}
-use Rattle.core_state.specs.Steps.{AllMet, state_after}
+use Rattle.btree_descent.specs.core_state.Events as happening
+use Rattle.btree_descent.specs.core_state.Openings.{Opening}
+use Rattle.btree_descent.specs.core_state.States.{State, nodes_of}
+use Rattle.btree_descent.specs.core_state.Steps.{AllMet, state_after}
 use Rattle.engine_trait.specs.Logs.{Logs}
 use Rattle.lean_disk.specs.Story.{Story}
 use Rattle.page_model.specs.Nodes.{Format, NodeOk}
 use Rattle.page_model.specs.Tree.{IsTree}
 use Rattle.row_opening.specs.Openings.{EveryNeed, EveryOpened, EveryReached}
-use Rattle.row_words.specs.Moments.{events_of}
-use Rattle.row_words.specs.Openings.{opening}
-use Rattle.rows_trait.specs.declared.view.View.{View}
-use Rattle.rows_trait.specs.Views.{state}
+use Rattle.btree_descent.specs.row_words.Moments.{events_of}
+use Rattle.btree_descent.specs.row_words.Openings.{opening}
+use Rattle.btree_descent.specs.rows_trait.declared.view.View.{View}
+use Rattle.btree_descent.specs.rows_trait.Views.{state}
 use Rattle.session_desks.proofs.DeskLemmas.{desk_own}
 use Rattle.session_desks.proofs.SeatLemmas.{holds_of, turn_high, turn_low}
 use Rattle.session_desks.specs.Desks.{desk_of}
@@ -30,7 +30,7 @@ use Rattle.session_state.specs.Syncs.{MayFlush}
 use Rattle.session_state.specs.Ties.{Behind}
 use Rattle.session_state.specs.declared.session.Session.{Session}
 use Rattle.sync_counts.specs.Syncs.{EverySyncCount, EveryTight, syncs}
-use Rattle.worker_log.specs.Logs.{Log}
+use Rattle.disk_runs.specs.worker_log.Logs.{Log}
 use Rattle.call_parts.proofs.RunLemmas.{behind_more, core_is, front_is}
 use Rattle.paged_desks.proofs.Full.{tight_behind}
 use Rattle.paged_desks.specs.Machines.{IsReady, memory, view_of}

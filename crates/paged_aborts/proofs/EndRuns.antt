@@ -12,12 +12,12 @@ use Rattle.rfa_model.specs.Stamps.{need_of}
 use Rattle.core_calls.specs.Fronts.{Done, front, outcomes}
 use Rattle.core_calls.specs.Runs.{Tells}
 use Rattle.core_calls.specs.Steps.{is_structure}
-use Rattle.core_state.specs.Events as happening
-use Rattle.core_state.specs.Needs.{holds_row}
-use Rattle.core_state.specs.Openings.{Opening}
-use Rattle.core_state.specs.States.{State}
-use Rattle.core_state.specs.Steps.{AllMet, state_after}
-use Rattle.disk_image.specs.Records.{entry_of}
+use Rattle.btree_descent.specs.core_state.Events as happening
+use Rattle.btree_descent.specs.core_state.Needs.{holds_row}
+use Rattle.btree_descent.specs.core_state.Openings.{Opening}
+use Rattle.btree_descent.specs.core_state.States.{State}
+use Rattle.btree_descent.specs.core_state.Steps.{AllMet, state_after}
+use Rattle.disk_runs.specs.disk_image.Records.{entry_of}
 use Rattle.disk_runs.specs.Quiet.{is_quiet}
 use Rattle.engine_calls.proofs.MarkLemmas.{any_append}
 use Rattle.engine_calls.proofs.MoveLemmas.{every_move}
@@ -33,18 +33,18 @@ use Rattle.engine_trait.specs.Limits.{limits}
 use Rattle.engine_trait.specs.Refusals.{refusal_in}
 use Rattle.engine_trait.specs.Rooms.{MakesItsRoom}
 use Rattle.lean_disk.specs.Story.{IsLawful, Story}
-use Rattle.log_record.specs.declared.record.Body.TheVariants as body
-use Rattle.log_record.specs.declared.record.Record.{Record}
+use Rattle.btree_descent.specs.log_record.declared.record.Body.TheVariants as body
+use Rattle.btree_descent.specs.log_record.declared.record.Record.{Record}
 use Rattle.page_pool.specs.Counts.{EveryFrame}
 use Rattle.row_ends.proofs.LatchLemmas.{gives_events}
 use Rattle.row_ends.specs.Ends.{ended_session, gives}
 use Rattle.row_ends.specs.Outcomes.{HasEnded, end_record}
 use Rattle.row_ends.specs.declared.ending.Ended as replies
-use Rattle.row_words.specs.declared.event.Event.{Event}
-use Rattle.row_words.specs.declared.event.Event.TheVariants as told
-use Rattle.row_words.specs.Moments.{events_of}
-use Rattle.row_words.specs.Openings.{opening}
-use Rattle.rows_trait.specs.Views.{state}
+use Rattle.btree_descent.specs.row_words.declared.event.Event.{Event}
+use Rattle.btree_descent.specs.row_words.declared.event.Event.TheVariants as told
+use Rattle.btree_descent.specs.row_words.Moments.{events_of}
+use Rattle.btree_descent.specs.row_words.Openings.{opening}
+use Rattle.btree_descent.specs.rows_trait.Views.{state}
 use Rattle.session_desks.proofs.DeskLemmas.{desk_own}
 use Rattle.session_desks.proofs.SeatLemmas.{holds_of, turn_high, turn_low}
 use Rattle.session_desks.specs.Desks.{desk_of}
@@ -54,7 +54,7 @@ use Rattle.session_state.proofs.Moments.{events_more}
 use Rattle.session_state.specs.Holds.{Holds, IsOf, IsSameSession}
 use Rattle.session_state.specs.Ties.{Behind}
 use Rattle.session_state.specs.declared.session.Session.{Session}
-use Rattle.worker_log.specs.Logs.{Log}
+use Rattle.disk_runs.specs.worker_log.Logs.{Log}
 use Rattle.call_parts.proofs.EndLemmas.{most_least}
 use Rattle.call_parts.proofs.JoinLemmas.{every_join}
 use Rattle.call_parts.proofs.MemoryLemmas.{every_memory}

@@ -2,12 +2,12 @@
 use Rattle.std.proofs.Common.{◌≡◌, ◌∙◌, ◌≤◌, ◌<◌, ◌⊎◌, inl, inr, ℕ, suc, Bool, true, false, cond, List, [], ◌∷◌, Result, Ok, Err, IfErr, ap, refl, sym, subst, arith, true≢false, ◌↔◌}
 use Rattle.std.proofs.lemmas.Bool.{cases_eq}
 use Rattle.map_model.specs.Lists.{Has}
-use Rattle.image_model.specs.Entries.{Entry, Kind, is_record}
-use Rattle.core_state.specs.Events as happening
-use Rattle.core_state.specs.Needs.{may}
-use Rattle.core_state.specs.Openings.{Opening}
-use Rattle.core_state.specs.States.{State}
-use Rattle.core_state.specs.Steps.{end_entry, ends, happens, run, step}
+use Rattle.btree_descent.specs.image_model.Entries.{Entry, Kind, is_record}
+use Rattle.btree_descent.specs.core_state.Events as happening
+use Rattle.btree_descent.specs.core_state.Needs.{may}
+use Rattle.btree_descent.specs.core_state.Openings.{Opening}
+use Rattle.btree_descent.specs.core_state.States.{State}
+use Rattle.btree_descent.specs.core_state.Steps.{end_entry, ends, happens, run, step}
 use Rattle.engine_calls.specs.Commits.{unlocks}
 use Rattle.lean_disk.specs.Moments.{Framed}
 use Rattle.lean_disk.proofs.MomentLemmas.{framed}
@@ -16,9 +16,9 @@ use Rattle.map_model.specs.declared.call.Refusal.{Refusal}
 use Rattle.map_model.specs.declared.call.Refusal.TheVariants as refusal
 use Rattle.engine_trait.specs.Calls.{MayCome}
 use Rattle.row_ends.proofs.Misses.{misses_core}
-use Rattle.row_words.specs.Openings.{opening}
-use Rattle.rows_trait.specs.declared.view.View.{View}
-use Rattle.rows_trait.specs.Views.{Shape, state}
+use Rattle.btree_descent.specs.row_words.Openings.{opening}
+use Rattle.btree_descent.specs.rows_trait.declared.view.View.{View}
+use Rattle.btree_descent.specs.rows_trait.Views.{Shape, state}
 use Rattle.row_ends.proofs.CommitLemmas.{core_w, entries_w, flushed_w}
 use Rattle.row_ends.proofs.OutcomeLemmas.{next}
 use Rattle.row_ends.specs.Outcomes.{HasEnded, IsSpent}
@@ -34,7 +34,7 @@ use Rattle.session_desks.proofs.SeatLemmas.{holds_of, turn_high, turn_low}
 use Rattle.session_desks.specs.Machines.{AreLogged, IsLogged}
 use Rattle.session_desks.specs.Parts.{HasLogs, SeatFits, here, logs, shape}
 use Rattle.session_desks.specs.declared.desk.Desk.{Desk}
-use Rattle.worker_log.specs.Logs.{Log}
+use Rattle.disk_runs.specs.worker_log.Logs.{Log}
 use Rattle.paged_desks.specs.Calls.{EndsWork, IsAside, IsBeside, works_behind}
 use Rattle.paged_desks.specs.Machines.{IsReady, view_of}
 use Rattle.paged_desks.specs.declared.machine.PagedMachine.{PagedMachine}

@@ -3,32 +3,32 @@ use Rattle.std.proofs.Common.{◌≡◌, ◌∙◌, ◌⊎◌, inl, inr, ◌≤�
 use Rattle.std.specs.Prelude.{min}
 use Rattle.std.proofs.lemmas.Bool.{and_parts, cases_eq, cases_lt, eqb-true}
 use Rattle.map_model.specs.Lists.{all}
-use Rattle.image_model.specs.Entries.{Entry, Kind}
+use Rattle.btree_descent.specs.image_model.Entries.{Entry, Kind}
 use Rattle.core_calls.specs.LogEvents.{SyncsWhere}
 use Rattle.core_covers.specs.Highs.{writes, written_in}
-use Rattle.core_state.specs.Events.{Event}
-use Rattle.core_state.specs.Needs.{may}
-use Rattle.core_state.specs.Openings.{Opening}
-use Rattle.core_state.specs.States.{State}
-use Rattle.core_state.specs.Steps.{put_back, step}
-use Rattle.disk_image.specs.Records.{entry_of, kind_of}
+use Rattle.btree_descent.specs.core_state.Events.{Event}
+use Rattle.btree_descent.specs.core_state.Needs.{may}
+use Rattle.btree_descent.specs.core_state.Openings.{Opening}
+use Rattle.btree_descent.specs.core_state.States.{State}
+use Rattle.btree_descent.specs.core_state.Steps.{put_back, step}
+use Rattle.disk_runs.specs.disk_image.Records.{entry_of, kind_of}
 use Rattle.disk_runs.specs.MasterLaws.{raised}
 use Rattle.engine_trait.specs.Logs.{Logs, OnOwn}
-use Rattle.log_block.specs.Block.{records_text}
-use Rattle.log_record.proofs.PartLemmas.{key_change_long}
-use Rattle.log_record.proofs.RecordLemmas.{head_long}
-use Rattle.log_record.specs.Spelling.{body_text, record_text}
-use Rattle.log_record.specs.declared.record.Body.{Body}
-use Rattle.log_record.specs.declared.record.Body.TheVariants as body
-use Rattle.log_record.specs.declared.record.Record.{Record}
-use Rattle.row_words.specs.Moments.{events_of}
-use Rattle.row_words.specs.declared.event.Event as rows
-use Rattle.row_words.specs.declared.event.Event.TheVariants as told
+use Rattle.disk_runs.specs.log_block.Block.{records_text}
+use Rattle.btree_descent.proofs.log_record_lemmas.PartLemmas.{key_change_long}
+use Rattle.btree_descent.proofs.log_record_lemmas.RecordLemmas.{head_long}
+use Rattle.btree_descent.specs.log_record.Spelling.{body_text, record_text}
+use Rattle.btree_descent.specs.log_record.declared.record.Body.{Body}
+use Rattle.btree_descent.specs.log_record.declared.record.Body.TheVariants as body
+use Rattle.btree_descent.specs.log_record.declared.record.Record.{Record}
+use Rattle.btree_descent.specs.row_words.Moments.{events_of}
+use Rattle.btree_descent.specs.row_words.declared.event.Event as rows
+use Rattle.btree_descent.specs.row_words.declared.event.Event.TheVariants as told
 use Rattle.session_state.specs.Reserves.{Makes, MakesAll, Step, takes, takes_all}
 use Rattle.session_state.specs.Undo.{HasRoomToUndo}
 use Rattle.sync_counts.specs.Syncs.{syncs}
-use Rattle.worker_log.specs.Calls.{After, flushed_log}
-use Rattle.worker_log.specs.Logs.{Log}
+use Rattle.disk_runs.specs.worker_log.Calls.{After, flushed_log}
+use Rattle.disk_runs.specs.worker_log.Logs.{Log}
 use Rattle.call_parts.specs.Rooms.{AreBacks}
 use Rattle.paged_desks.specs.Pages.{ArePaging}
 use Rattle.paged_aborts.specs.Backs.{backs_in}

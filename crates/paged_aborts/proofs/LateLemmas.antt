@@ -1,17 +1,17 @@
 -- A latch that is spent is so late in a run.
 use Rattle.std.proofs.Common.{◌∙◌, inl, inr, ◌≤◌, ◌+◌, ◌^◌, ◌++◌, ℕ, suc, Bool, true, false, cond, List, [], ◌∷◌, length, ap, sym, arith}
 use Rattle.std.proofs.lemmas.List.{length-append}
-use Rattle.image_model.specs.Entries.{Entry}
+use Rattle.btree_descent.specs.image_model.Entries.{Entry}
 use Rattle.map_model.specs.Maps.{MapAnswer}
 use Rattle.core_calls.specs.Fronts.{Done, front}
-use Rattle.core_state.specs.Events as happening
-use Rattle.core_state.specs.Needs.{may}
-use Rattle.core_state.specs.Openings.{Opening}
-use Rattle.core_state.specs.States.{State, start}
-use Rattle.core_state.specs.Steps.{happens, put_back, run, step}
+use Rattle.btree_descent.specs.core_state.Events as happening
+use Rattle.btree_descent.specs.core_state.Needs.{may}
+use Rattle.btree_descent.specs.core_state.Openings.{Opening}
+use Rattle.btree_descent.specs.core_state.States.{State, start}
+use Rattle.btree_descent.specs.core_state.Steps.{happens, put_back, run, step}
 use Rattle.row_opening.specs.Openings.{EveryNeed, EveryReached}
-use Rattle.row_words.specs.Moments.{events_of}
-use Rattle.rows_trait.specs.declared.view.View.{View}
+use Rattle.btree_descent.specs.row_words.Moments.{events_of}
+use Rattle.btree_descent.specs.rows_trait.declared.view.View.{View}
 use Rattle.session_state.specs.Ties.{Behind}
 use Rattle.call_parts.proofs.RunLemmas.{core_is, front_is}
 use Rattle.paged_desks.specs.Parts.{IsLate}

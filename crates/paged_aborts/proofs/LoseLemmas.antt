@@ -4,13 +4,13 @@ use Rattle.std.proofs.lemmas.Bool.{eq-eqb}
 use Rattle.btree_descent.specs.Descents.{Sized}
 use Rattle.btree_descent.specs.Known.{IsSound}
 use Rattle.btree_descent.specs.Puts.{IsLeafAt}
-use Rattle.core_state.specs.States.{Place, in_frame}
-use Rattle.row_words.specs.declared.given.Given.{Given}
-use Rattle.row_words.specs.Openings.{opening}
-use Rattle.rows_trait.specs.declared.view.View.{View}
-use Rattle.rows_trait.specs.Layout.{rows_of, width}
-use Rattle.rows_trait.specs.Turns.{Loaded, Ran}
-use Rattle.rows_trait.specs.Views.{Shape, state}
+use Rattle.btree_descent.specs.core_state.States.{Place, in_frame}
+use Rattle.btree_descent.specs.row_words.declared.given.Given.{Given}
+use Rattle.btree_descent.specs.row_words.Openings.{opening}
+use Rattle.btree_descent.specs.rows_trait.declared.view.View.{View}
+use Rattle.btree_descent.specs.rows_trait.Layout.{rows_of, width}
+use Rattle.btree_descent.specs.rows_trait.Turns.{Loaded, Ran}
+use Rattle.btree_descent.specs.rows_trait.Views.{Shape, state}
 use Rattle.row_changes.proofs.SeenLemmas.{none_seen}
 use Rattle.session_state.proofs.Moments.{goes_seen}
 

@@ -16,19 +16,19 @@ use Rattle.call_parts.specs.Parts.{Failed, Part}
 use Rattle.call_parts.specs.Steps.{Stages}
 use Rattle.core_calls.specs.Fronts.{Done}
 use Rattle.core_calls.specs.LogEvents.{EveryWhere, IsTightSomewhere, SyncsWhere}
-use Rattle.core_state.specs.Events as happening
-use Rattle.core_state.specs.Local.{is_sync}
-use Rattle.core_state.specs.Openings.{Opening}
-use Rattle.core_state.specs.States.{State}
+use Rattle.btree_descent.specs.core_state.Events as happening
+use Rattle.btree_descent.specs.core_state.Local.{is_sync}
+use Rattle.btree_descent.specs.core_state.Openings.{Opening}
+use Rattle.btree_descent.specs.core_state.States.{State}
 use Rattle.engine_calls.proofs.MoveLemmas.{every_move}
 use Rattle.engine_calls.specs.Parts.{behind_first}
 use Rattle.lean_disk.specs.Story.{IsLawful, Story}
 use Rattle.page_pool.specs.Counts.{hot_pages}
-use Rattle.row_words.specs.declared.event.Event.TheVariants as told
-use Rattle.row_words.specs.Moments.{events_of}
-use Rattle.row_words.specs.Openings.{opening}
-use Rattle.rows_trait.specs.declared.view.View.{View}
-use Rattle.rows_trait.specs.Views.{after_all}
+use Rattle.btree_descent.specs.row_words.declared.event.Event.TheVariants as told
+use Rattle.btree_descent.specs.row_words.Moments.{events_of}
+use Rattle.btree_descent.specs.row_words.Openings.{opening}
+use Rattle.btree_descent.specs.rows_trait.declared.view.View.{View}
+use Rattle.btree_descent.specs.rows_trait.Views.{after_all}
 use Rattle.session_desks.proofs.DeskLemmas.{desk_own}
 use Rattle.session_desks.proofs.SeatLemmas.{holds_of, turn_high, turn_low}
 use Rattle.session_desks.specs.Desks.{desk_of}
@@ -41,7 +41,7 @@ use Rattle.session_state.specs.Ties.{Behind}
 use Rattle.session_state.specs.declared.undo.Undone.{Undone}
 use Rattle.session_state.specs.declared.session.Session.{Session}
 use Rattle.session_state.specs.declared.work.Work.{Work}
-use Rattle.worker_log.specs.Logs.{Log}
+use Rattle.disk_runs.specs.worker_log.Logs.{Log}
 use Rattle.row_changes.specs.Backs.{IsPutBack}
 use Rattle.paged_desks.proofs.AsideLemmas.{memory_aside, other_desk}
 use Rattle.paged_desks.proofs.EndingLemmas.{Grounds}

@@ -7,17 +7,17 @@ use Rattle.map_model.specs.declared.call.Call.TheVariants as call
 use Rattle.map_model.specs.declared.call.Refusal.{Refusal}
 use Rattle.core_calls.specs.Fronts.{Done, outcomes}
 use Rattle.core_calls.specs.Steps.{hindered_in}
-use Rattle.core_state.specs.Openings.{Opening}
-use Rattle.core_state.specs.States.{flushed_by_all}
+use Rattle.btree_descent.specs.core_state.Openings.{Opening}
+use Rattle.btree_descent.specs.core_state.States.{flushed_by_all}
 use Rattle.engine_calls.specs.Clauses.{IsNewLine}
 use Rattle.row_ends.specs.Ends.{gives}
 use Rattle.row_ends.specs.Receipts.{IsEnded}
 use Rattle.row_ends.specs.declared.ending.Ended.{Ended}
-use Rattle.row_words.specs.declared.event.Event.{Event}
-use Rattle.row_words.specs.declared.event.Event.TheVariants.{End}
-use Rattle.row_words.specs.Openings.{opening}
-use Rattle.rows_trait.specs.declared.view.View.{View}
-use Rattle.rows_trait.specs.Views.{state}
+use Rattle.btree_descent.specs.row_words.declared.event.Event.{Event}
+use Rattle.btree_descent.specs.row_words.declared.event.Event.TheVariants.{End}
+use Rattle.btree_descent.specs.row_words.Openings.{opening}
+use Rattle.btree_descent.specs.rows_trait.declared.view.View.{View}
+use Rattle.btree_descent.specs.rows_trait.Views.{state}
 use Rattle.paged_desks.specs.Machines.{view_of}
 use Rattle.paged_desks.specs.declared.machine.PagedMachine.{PagedMachine}
 

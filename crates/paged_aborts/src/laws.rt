@@ -1,7 +1,7 @@
 // What the calls rest on.
 ghost use Rattle.core_calls.specs.LogEvents.{EveryWhere};
-ghost use Rattle.core_disk.specs.Versions.{EveryVersion};
-ghost use Rattle.disk_image.specs.Laws.{EverySealed};
+ghost use Rattle.disk_runs.specs.core_disk.Versions.{EveryVersion};
+ghost use Rattle.disk_runs.specs.disk_image.Laws.{EverySealed};
 ghost use Rattle.engine_calls.specs.Answers.{EveryAnswer};
 ghost use Rattle.engine_calls.specs.Clauses.{EveryComing};
 ghost use Rattle.engine_calls.specs.Entries.{EveryEntry};
@@ -11,7 +11,7 @@ ghost use Rattle.row_opening.specs.Openings.{EveryNeed, EveryOpened, EveryReache
 ghost use Rattle.session_state.specs.Others.{EveryOther};
 ghost use Rattle.session_state.specs.Reserves.{EveryReserve};
 ghost use Rattle.sync_counts.specs.Syncs.{EverySyncCount, EveryTight};
-ghost use Rattle.worker_log.specs.Laws.{EveryKept, EveryPrefix};
+ghost use Rattle.disk_runs.specs.worker_log.Laws.{EveryKept, EveryPrefix};
 
 // The laws of versions, logs, seals and openings, of answers and entries, of other sessions, of what the pager knows over their steps, of the syncs that pages ask for, and of the
 // blocks that are kept for an abort.

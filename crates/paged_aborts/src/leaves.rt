@@ -7,7 +7,7 @@ ghost use Rattle.lean_disk.specs.Faults.{HasCause};
 ghost use Rattle.row_changes.specs.Puts.{works_behind as works_after_try};
 ghost use Rattle.row_changes.specs.Ways.{IsCut, IsLost};
 ghost use Rattle.row_changes.specs.declared.ways.Unmade.{Unmade};
-ghost use Rattle.rows_trait.specs.Views.{may};
+ghost use Rattle.btree_descent.specs.rows_trait.Views.{may};
 ghost use Rattle.session_desks.specs.Parts.{SeatFits};
 ghost use Rattle.session_state.specs.Holds.{IsSameSession};
 ghost use Rattle.paged_desks.specs.Calls.{IsAside};
@@ -15,12 +15,12 @@ ghost use Rattle.paged_desks.specs.Machines.{IsReady, view_of};
 ghost use Rattle.paged_aborts.specs.Backs.{BacksInLeaf, IsDamaged, IsGivenUp, IsWarmNewest};
 
 use crate::laws::laws;
+use btree_descent::lean_proto::path::Path;
 use btree_descent::reach::{Way, reach};
-use lean_proto::path::Path;
+use btree_descent::rows_trait::rows::Rows;
 use map_model::Refusal;
 use paged_desks::PagedMachine;
 use row_changes::{Unmade, put_back};
-use rows_trait::rows::Rows;
 use session_state::Stages;
 
 // Puts the newest change back that is left, unless a page of its key's way is not hot.

@@ -14,18 +14,18 @@ use Rattle.core_calls.specs.Deeds.{Absent, Deed, answered, asked, marks_by, mark
 use Rattle.core_calls.specs.Fronts.{Done, front, outcomes}
 use Rattle.core_calls.specs.LogEvents.{IsTight, RefusedLogs, SyncsWhere}
 use Rattle.core_calls.specs.Marks.{Mark, is_half}
-use Rattle.core_state.specs.Local.{is_sync}
+use Rattle.btree_descent.specs.core_state.Local.{is_sync}
 use Rattle.core_calls.specs.Refusals.{Hinders, IsCause}
 use Rattle.core_calls.specs.Runs.{Tells}
 use Rattle.core_calls.specs.Steps.{TakesRow, is_step, is_structure}
-use Rattle.core_state.specs.Events as happening
-use Rattle.core_state.specs.Needs.{is_held_by, may, may_hold, value_in}
-use Rattle.core_state.specs.Openings.{Opening}
-use Rattle.core_state.specs.States.{State, Worker}
-use Rattle.core_state.specs.States.{start as core_start}
-use Rattle.core_state.specs.Steps.{AllMet, at_pages, at_row, happens, state_after}
-use Rattle.core_state.proofs.Runs.{run_more}
-use Rattle.disk_image.specs.Records.{entry_of}
+use Rattle.btree_descent.specs.core_state.Events as happening
+use Rattle.btree_descent.specs.core_state.Needs.{is_held_by, may, may_hold, value_in}
+use Rattle.btree_descent.specs.core_state.Openings.{Opening}
+use Rattle.btree_descent.specs.core_state.States.{State, Worker}
+use Rattle.btree_descent.specs.core_state.States.{start as core_start}
+use Rattle.btree_descent.specs.core_state.Steps.{AllMet, at_pages, at_row, happens, state_after}
+use Rattle.btree_descent.proofs.core_state_lemmas.Runs.{run_more}
+use Rattle.disk_runs.specs.disk_image.Records.{entry_of}
 use Rattle.btree_descent.specs.Puts.{change_of}
 use Rattle.engine_calls.proofs.EntryLemmas.{every_entry}
 use Rattle.engine_calls.proofs.MarkLemmas.{any_append, keep_none}
@@ -39,19 +39,19 @@ use Rattle.engine_trait.specs.Calls.{call_behind, is_half_done}
 use Rattle.engine_trait.specs.Limits.{limits}
 use Rattle.engine_trait.specs.Refusals.{IsRefusedFor, change_refusal, in_transaction, lock_refusal, met_refusal, refusal_in}
 use Rattle.engine_trait.specs.Rooms.{MakesItsRoom}
-use Rattle.image_model.specs.Entries.{Contents, word_in}
+use Rattle.btree_descent.specs.image_model.Entries.{Contents, word_in}
 use Rattle.key_locks.specs.declared.mode.Mode.TheVariants.{Alone}
 use Rattle.key_locks.specs.Rows.{event_mode}
 use Rattle.lean_disk.specs.Story.{IsLawful, Story}
-use Rattle.log_record.specs.declared.record.Body.TheVariants as body
-use Rattle.log_record.specs.declared.record.Record.{Record}
+use Rattle.btree_descent.specs.log_record.declared.record.Body.TheVariants as body
+use Rattle.btree_descent.specs.log_record.declared.record.Record.{Record}
 use Rattle.page_model.specs.Nodes.{Format}
-use Rattle.row_words.specs.declared.event.Event.{Event}
-use Rattle.row_words.specs.declared.event.Event.TheVariants as told
-use Rattle.row_words.specs.Moments.{event_of, events_of}
-use Rattle.row_words.specs.Openings.{opening}
-use Rattle.rows_trait.specs.declared.view.View.{View}
-use Rattle.rows_trait.specs.Views.{Shape, state}
+use Rattle.btree_descent.specs.row_words.declared.event.Event.{Event}
+use Rattle.btree_descent.specs.row_words.declared.event.Event.TheVariants as told
+use Rattle.btree_descent.specs.row_words.Moments.{event_of, events_of}
+use Rattle.btree_descent.specs.row_words.Openings.{opening}
+use Rattle.btree_descent.specs.rows_trait.declared.view.View.{View}
+use Rattle.btree_descent.specs.rows_trait.Views.{Shape, state}
 use Rattle.session_desks.proofs.DeskLemmas.{desk_own}
 use Rattle.session_desks.proofs.SeatLemmas.{holds_of}
 use Rattle.session_desks.specs.Desks.{desk_of}
@@ -63,7 +63,7 @@ use Rattle.session_state.specs.Holds.{Holds, IsOf, IsSameSession}
 use Rattle.session_state.specs.Staging.{KeepsLog}
 use Rattle.session_state.specs.Ties.{Behind}
 use Rattle.session_state.specs.declared.session.Session.{Session}
-use Rattle.worker_log.specs.Logs.{Log, limit, used}
+use Rattle.disk_runs.specs.worker_log.Logs.{Log, limit, used}
 use Rattle.call_parts.proofs.EndLemmas.{most_least}
 use Rattle.call_parts.proofs.SightLemmas.{every_enter}
 use Rattle.call_parts.proofs.MemoryLemmas.{every_memory}

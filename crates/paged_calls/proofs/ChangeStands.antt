@@ -1,14 +1,14 @@
 -- A machine stands while the session whose turn it is changes a key, and its log has the record.
 use Rattle.std.proofs.Common.{◌≡◌, ℕ, true, Option, [], ◌∷◌, ap}
-use Rattle.core_state.specs.Steps.{at_pages, write_entry}
-use Rattle.image_model.specs.Entries.{Kind}
+use Rattle.btree_descent.specs.core_state.Steps.{at_pages, write_entry}
+use Rattle.btree_descent.specs.image_model.Entries.{Kind}
 use Rattle.lean_disk.specs.Story.{Story}
-use Rattle.log_record.specs.declared.record.Record.{Record}
+use Rattle.btree_descent.specs.log_record.declared.record.Record.{Record}
 use Rattle.page_pool.specs.Pools.{EveryStanding}
 use Rattle.row_changes.specs.Puts.{IsChanged}
-use Rattle.row_words.specs.declared.event.Event.TheVariants as told
-use Rattle.row_words.specs.Openings.{opening}
-use Rattle.rows_trait.specs.Views.{state}
+use Rattle.btree_descent.specs.row_words.declared.event.Event.TheVariants as told
+use Rattle.btree_descent.specs.row_words.Openings.{opening}
+use Rattle.btree_descent.specs.rows_trait.Views.{state}
 use Rattle.session_desks.specs.Parts.{SeatFits, shape}
 use Rattle.session_state.specs.Holds.{Holds, IsSameSession}
 use Rattle.session_state.specs.Others.{EveryOther}

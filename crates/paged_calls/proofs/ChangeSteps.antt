@@ -8,7 +8,7 @@ use Rattle.row_changes.specs.Dels.{Dels}
 use Rattle.row_changes.specs.Puts.{works_behind}
 use Rattle.row_changes.specs.declared.ways.Unmade.{Unmade}
 use Rattle.row_changes.specs.declared.ways.Unmade.TheVariants as unmade
-use Rattle.row_words.specs.declared.event.Event.TheVariants as told
+use Rattle.btree_descent.specs.row_words.declared.event.Event.TheVariants as told
 use Rattle.session_desks.specs.Parts.{SeatFits, shape}
 use Rattle.session_state.proofs.OtherLemmas.{is_own, no_steps, one_step}
 use Rattle.session_state.specs.Holds.{Holds, IsSameSession}

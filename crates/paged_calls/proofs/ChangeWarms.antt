@@ -3,18 +3,18 @@ use Rattle.std.proofs.Common.{◌≡◌, ◌∙◌, inl, inr, ◌<◌, ◌%◌, 
 use Rattle.map_model.specs.declared.call.Refusal.{Refusal}
 use Rattle.map_model.specs.declared.call.Refusal.TheVariants as refusal
 use Rattle.btree_descent.specs.declared.descent.TheConstants.{TOMBSTONE}
-use Rattle.core_state.specs.Needs.{is_held_by}
+use Rattle.btree_descent.specs.core_state.Needs.{is_held_by}
 use Rattle.lean_disk.specs.Faults.{HasCause}
 use Rattle.lean_disk.specs.Story.{IsLawful, Story}
-use Rattle.row_words.specs.declared.event.Event.{Event}
-use Rattle.rows_trait.specs.declared.view.View.{View}
-use Rattle.rows_trait.specs.Views.{after_all, state}
+use Rattle.btree_descent.specs.row_words.declared.event.Event.{Event}
+use Rattle.btree_descent.specs.rows_trait.declared.view.View.{View}
+use Rattle.btree_descent.specs.rows_trait.Views.{after_all, state}
 use Rattle.session_desks.specs.Parts.{AreAsMany, SeatFits}
 use Rattle.session_state.specs.Holds.{IsSameSession}
 use Rattle.session_state.specs.Staging.{KeepsLog}
 use Rattle.session_state.specs.declared.session.Session.{Session}
 use Rattle.session_state.specs.declared.work.Work.{Work}
-use Rattle.worker_log.specs.Logs.{Log, limit, used}
+use Rattle.disk_runs.specs.worker_log.Logs.{Log, limit, used}
 use Rattle.call_parts.specs.Memory.{Memory}
 use Rattle.call_parts.specs.Parts.{Part}
 use Rattle.key_locks.specs.declared.mode.Mode.TheVariants.{Alone}

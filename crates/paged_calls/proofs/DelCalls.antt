@@ -8,7 +8,7 @@ use Rattle.key_locks.specs.declared.mode.Mode.{Mode}
 use Rattle.lean_disk.specs.Story.{Story}
 use Rattle.row_changes.proofs.StepLemmas.{clock_at_end}
 use Rattle.row_changes.specs.Takes.{NotTaken}
-use Rattle.rows_trait.specs.declared.view.View.{View}
+use Rattle.btree_descent.specs.rows_trait.declared.view.View.{View}
 use Rattle.paged_desks.specs.declared.machine.PagedMachine.{PagedMachine}
 use Rattle.paged_desks.specs.Calls.{EndsWork, works_behind}
 use Rattle.paged_calls.specs.Calls.{IsEarly}

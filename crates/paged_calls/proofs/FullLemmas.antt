@@ -7,14 +7,14 @@ use Rattle.map_model.specs.declared.call.Refusal.{Refusal}
 use Rattle.map_model.specs.declared.call.Refusal.TheVariants as refusal
 use Rattle.core_calls.specs.Room.{free_list, is_all_full, room_takes}
 use Rattle.core_calls.specs.Steps.{is_step}
-use Rattle.core_state.specs.Events as happening
-use Rattle.core_state.specs.Needs.{are_hot, is_free, is_held_by, may, may_put, needs}
-use Rattle.core_state.specs.Openings.{Opening}
-use Rattle.core_state.specs.States.{Row, State, Worker, nodes_of, gsns_of}
-use Rattle.core_state.specs.Steps as core
-use Rattle.core_state.specs.Steps.{at_pages, at_row, happens, locked, moves}
+use Rattle.btree_descent.specs.core_state.Events as happening
+use Rattle.btree_descent.specs.core_state.Needs.{are_hot, is_free, is_held_by, may, may_put, needs}
+use Rattle.btree_descent.specs.core_state.Openings.{Opening}
+use Rattle.btree_descent.specs.core_state.States.{Row, State, Worker, nodes_of, gsns_of}
+use Rattle.btree_descent.specs.core_state.Steps as core
+use Rattle.btree_descent.specs.core_state.Steps.{at_pages, at_row, happens, locked, moves}
 use Rattle.engine_trait.specs.Refusals.{is_full_for, lock_refusal, met_refusal, room_refusal}
-use Rattle.image_model.specs.Entries.{Kind}
+use Rattle.btree_descent.specs.image_model.Entries.{Kind}
 use Rattle.page_model.proofs.Laws.{every_tree}
 use Rattle.page_model.specs.Check.{some_below}
 use Rattle.page_model.specs.Needs.{lift_record, split_record}
@@ -22,9 +22,9 @@ use Rattle.page_model.specs.Nodes.{Node, holds}
 use Rattle.page_model.specs.Records as records
 use Rattle.page_model.specs.Redo.{has_key}
 use Rattle.page_model.specs.Tree.{IsTree}
-use Rattle.row_words.specs.declared.event.Event.{Event}
-use Rattle.row_words.specs.declared.event.Event.TheVariants as told
-use Rattle.row_words.specs.Moments.{event_of, events_of}
+use Rattle.btree_descent.specs.row_words.declared.event.Event.{Event}
+use Rattle.btree_descent.specs.row_words.declared.event.Event.TheVariants as told
+use Rattle.btree_descent.specs.row_words.Moments.{event_of, events_of}
 use Rattle.call_parts.specs.Deeds.{is_fetch}
 use Rattle.call_parts.specs.Rooms.{AreRoom, gives_room, is_paging as pages_come, takes_row}
 use Rattle.paged_calls.specs.Growths.{AreMaking, is_making}

@@ -13,11 +13,11 @@ use Rattle.core_calls.specs.Marks.{is_half}
 use Rattle.core_calls.specs.Refusals.{Hinders, IsCause}
 use Rattle.core_calls.specs.Runs.{Tells}
 use Rattle.core_calls.specs.Steps.{TakesRow, is_step, is_structure}
-use Rattle.core_state.specs.Events as happening
-use Rattle.core_state.specs.Needs.{value_in}
-use Rattle.core_state.specs.Openings.{Opening}
-use Rattle.core_state.specs.States.{State}
-use Rattle.core_state.specs.Steps.{AllMet, state_after}
+use Rattle.btree_descent.specs.core_state.Events as happening
+use Rattle.btree_descent.specs.core_state.Needs.{value_in}
+use Rattle.btree_descent.specs.core_state.Openings.{Opening}
+use Rattle.btree_descent.specs.core_state.States.{State}
+use Rattle.btree_descent.specs.core_state.Steps.{AllMet, state_after}
 use Rattle.engine_calls.proofs.MarkLemmas.{any_append}
 use Rattle.engine_calls.specs.Answers.{EveryAnswer}
 use Rattle.engine_calls.specs.Clauses.{EveryComing, IsNewLine}
@@ -30,11 +30,11 @@ use Rattle.engine_trait.specs.Rooms.{MakesItsRoom}
 use Rattle.key_locks.specs.declared.mode.Mode.TheVariants.{Shared}
 use Rattle.key_locks.specs.Rows.{event_mode}
 use Rattle.lean_disk.specs.Story.{IsLawful, Story}
-use Rattle.row_words.specs.declared.event.Event.{Event}
-use Rattle.row_words.specs.declared.event.Event.TheVariants as told
-use Rattle.row_words.specs.Moments.{events_of}
-use Rattle.rows_trait.specs.declared.view.View.{View}
-use Rattle.rows_trait.specs.Views.{Shape}
+use Rattle.btree_descent.specs.row_words.declared.event.Event.{Event}
+use Rattle.btree_descent.specs.row_words.declared.event.Event.TheVariants as told
+use Rattle.btree_descent.specs.row_words.Moments.{events_of}
+use Rattle.btree_descent.specs.rows_trait.declared.view.View.{View}
+use Rattle.btree_descent.specs.rows_trait.Views.{Shape}
 use Rattle.session_desks.proofs.DeskLemmas.{desk_own}
 use Rattle.session_desks.specs.Desks.{desk_of}
 use Rattle.session_desks.specs.Parts.{AreAsMany, HasLogs, here, shape}
@@ -43,7 +43,7 @@ use Rattle.session_state.proofs.Moments.{events_more}
 use Rattle.session_state.specs.Holds.{Holds}
 use Rattle.session_state.specs.Ties.{Behind}
 use Rattle.session_state.specs.declared.session.Session.{Session}
-use Rattle.worker_log.specs.Logs.{Log}
+use Rattle.disk_runs.specs.worker_log.Logs.{Log}
 use Rattle.call_parts.proofs.RunLemmas.{core_is}
 use Rattle.call_parts.specs.Deeds.{Answers}
 use Rattle.call_parts.specs.Parts.{Part}

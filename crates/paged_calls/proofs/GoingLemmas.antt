@@ -2,7 +2,7 @@
 use Rattle.std.proofs.Common.{◌≡◌, ◌⊎◌, inl, inr, Bool, true, false, cond, Option, Some, refl, ◌∙◌, true≢false}
 use Rattle.map_model.specs.declared.call.Refusal.{Refusal}
 use Rattle.map_model.specs.declared.call.Refusal.TheVariants as refusal
-use Rattle.core_state.specs.States.{State}
+use Rattle.btree_descent.specs.core_state.States.{State}
 use Rattle.engine_trait.specs.Refusals.{in_transaction}
 use Rattle.paged_calls.specs.Tests.{is_going}
 use Rattle.session_state.specs.declared.session.Session.{Session}

@@ -7,29 +7,29 @@ use Rattle.core_calls.specs.Fronts.{Done}
 use Rattle.core_calls.proofs.WhereLemmas.{syncs_none}
 use Rattle.core_calls.specs.LogEvents.{IsTight, SyncsWhere, is_log}
 use Rattle.core_calls.specs.Steps.{is_structure}
-use Rattle.core_state.specs.Events as happening
-use Rattle.core_state.specs.Needs.{are_hot, may, needs}
-use Rattle.core_state.specs.Openings.{Opening}
-use Rattle.core_state.specs.States.{Place, State, is_hot, nodes_of, gsns_of}
-use Rattle.core_state.specs.Lists.{count_below}
-use Rattle.core_state.specs.Steps as core
-use Rattle.core_state.specs.Steps.{AllMet, at_pages, page_entry}
-use Rattle.disk_image.specs.Records.{entry_of}
+use Rattle.btree_descent.specs.core_state.Events as happening
+use Rattle.btree_descent.specs.core_state.Needs.{are_hot, may, needs}
+use Rattle.btree_descent.specs.core_state.Openings.{Opening}
+use Rattle.btree_descent.specs.core_state.States.{Place, State, is_hot, nodes_of, gsns_of}
+use Rattle.btree_descent.specs.core_state.Lists.{count_below}
+use Rattle.btree_descent.specs.core_state.Steps as core
+use Rattle.btree_descent.specs.core_state.Steps.{AllMet, at_pages, page_entry}
+use Rattle.disk_runs.specs.disk_image.Records.{entry_of}
 use Rattle.disk_runs.specs.Quiet.{is_quiet}
 use Rattle.engine_calls.specs.Parts.{behind_first}
 use Rattle.engine_trait.specs.Refusals.{is_full_for, room_refusal}
 use Rattle.engine_trait.specs.Rooms.{IsNextRoom}
-use Rattle.image_model.specs.Entries.{Entry, Kind, touches, written}
+use Rattle.btree_descent.specs.image_model.Entries.{Entry, Kind, touches, written}
 use Rattle.lean_disk.specs.Story.{IsLawful, Story}
 use Rattle.page_model.specs.Needs.{lift_record, split_record}
 use Rattle.page_pool.specs.Counts.{hot_pages}
 use Rattle.page_pool.specs.Pools.{EveryStanding}
 use Rattle.row_growth.specs.Rooms.{IsGrown, IsGrowth, IsSpentBehind}
-use Rattle.row_words.specs.declared.event.Event.{Event}
-use Rattle.row_words.specs.declared.event.Event.TheVariants as told
-use Rattle.row_words.specs.Moments.{Moment, event_of, events_of}
-use Rattle.row_words.specs.Openings.{opening}
-use Rattle.rows_trait.specs.Views.{state}
+use Rattle.btree_descent.specs.row_words.declared.event.Event.{Event}
+use Rattle.btree_descent.specs.row_words.declared.event.Event.TheVariants as told
+use Rattle.btree_descent.specs.row_words.Moments.{Moment, event_of, events_of}
+use Rattle.btree_descent.specs.row_words.Openings.{opening}
+use Rattle.btree_descent.specs.rows_trait.Views.{state}
 use Rattle.session_desks.proofs.DeskLemmas.{desk_own}
 use Rattle.session_desks.proofs.SeatLemmas.{holds_of, turn_high, turn_low}
 use Rattle.session_desks.specs.Parts.{SeatFits, here, shape}
@@ -39,7 +39,7 @@ use Rattle.session_state.specs.Holds.{Holds, IsSameSession}
 use Rattle.session_state.specs.Others.{EveryOther, is_of}
 use Rattle.session_state.specs.Ties.{Behind}
 use Rattle.session_state.specs.declared.work.Work.{Work}
-use Rattle.worker_log.specs.Logs.{Log}
+use Rattle.disk_runs.specs.worker_log.Logs.{Log}
 use Rattle.call_parts.proofs.MemoryLemmas.{every_memory}
 use Rattle.call_parts.proofs.OwnLemmas.{every_own}
 use Rattle.call_parts.proofs.RunLemmas.{core_is, run_core}

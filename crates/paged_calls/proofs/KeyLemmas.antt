@@ -15,10 +15,10 @@ use Rattle.core_calls.specs.Refusals.{IsCause}
 use Rattle.core_calls.specs.Runs.{EachTells}
 use Rattle.core_calls.specs.Scans.{StopsOnWay}
 use Rattle.core_calls.specs.Steps.{TakesRow, Tries, is_step, is_structure}
-use Rattle.core_state.specs.Events as happening
-use Rattle.core_state.specs.Openings.{Opening}
-use Rattle.core_state.specs.States.{State}
-use Rattle.core_state.specs.Steps.{AllMet, state_after, step}
+use Rattle.btree_descent.specs.core_state.Events as happening
+use Rattle.btree_descent.specs.core_state.Openings.{Opening}
+use Rattle.btree_descent.specs.core_state.States.{State}
+use Rattle.btree_descent.specs.core_state.Steps.{AllMet, state_after, step}
 use Rattle.disk_runs.specs.Stands.{Stands}
 use Rattle.engine_calls.proofs.MarkLemmas.{keep_none}
 use Rattle.engine_calls.specs.Answers.{EveryAnswer}
@@ -32,10 +32,10 @@ use Rattle.engine_trait.specs.Rooms.{IsNextRoom, MakesItsRoom, MakesRoom}
 use Rattle.key_locks.specs.declared.mode.Mode.{Mode}
 use Rattle.key_locks.specs.Rows.{event_mode}
 use Rattle.lean_disk.specs.Story.{IsLawful, Story}
-use Rattle.row_words.specs.declared.event.Event.TheVariants as told
-use Rattle.row_words.specs.Moments.{events_of, mode_of}
-use Rattle.rows_trait.specs.declared.view.View.{View}
-use Rattle.rows_trait.specs.Views.{Shape, state}
+use Rattle.btree_descent.specs.row_words.declared.event.Event.TheVariants as told
+use Rattle.btree_descent.specs.row_words.Moments.{events_of, mode_of}
+use Rattle.btree_descent.specs.rows_trait.declared.view.View.{View}
+use Rattle.btree_descent.specs.rows_trait.Views.{Shape, state}
 use Rattle.session_desks.proofs.DeskLemmas.{desk_own}
 use Rattle.session_desks.proofs.SeatLemmas.{holds_of, turn_high, turn_low}
 use Rattle.session_desks.specs.Desks.{desk_of}
@@ -44,7 +44,7 @@ use Rattle.session_desks.specs.declared.desk.Desk.{Desk}
 use Rattle.session_state.specs.Holds.{Holds}
 use Rattle.session_state.specs.Ties.{Behind}
 use Rattle.session_state.specs.declared.session.Session.{Session}
-use Rattle.worker_log.specs.Logs.{Log}
+use Rattle.disk_runs.specs.worker_log.Logs.{Log}
 use Rattle.call_parts.proofs.EndLemmas.{most_least}
 use Rattle.call_parts.proofs.RunLemmas.{behind_more, core_is}
 use Rattle.call_parts.specs.Deeds.{Fails}

@@ -7,24 +7,24 @@ use Rattle.core_calls.proofs.WhereLemmas.{syncs_more}
 use Rattle.core_calls.specs.Fronts.{Done, front}
 use Rattle.core_calls.specs.LogEvents.{IsTight, SyncsWhere}
 use Rattle.core_calls.specs.Steps.{is_structure}
-use Rattle.core_paging.specs.Paging.{EveryResidence, Residence}
-use Rattle.core_state.proofs.Runs.{run_more}
-use Rattle.core_state.specs.Events as happening
-use Rattle.core_state.specs.Openings.{Opening}
-use Rattle.core_state.specs.States.{State}
-use Rattle.core_state.specs.States.{start as core_start}
-use Rattle.core_state.specs.Steps as core
-use Rattle.core_state.specs.Steps.{AllMet}
+use Rattle.btree_descent.specs.core_paging.Paging.{EveryResidence, Residence}
+use Rattle.btree_descent.proofs.core_state_lemmas.Runs.{run_more}
+use Rattle.btree_descent.specs.core_state.Events as happening
+use Rattle.btree_descent.specs.core_state.Openings.{Opening}
+use Rattle.btree_descent.specs.core_state.States.{State}
+use Rattle.btree_descent.specs.core_state.States.{start as core_start}
+use Rattle.btree_descent.specs.core_state.Steps as core
+use Rattle.btree_descent.specs.core_state.Steps.{AllMet}
 use Rattle.engine_calls.proofs.MarkLemmas.{any_append}
 use Rattle.engine_calls.specs.Parts.{behind_first}
 use Rattle.engine_trait.specs.Rooms.{IsNextRoom, MakesRoom}
 use Rattle.lean_disk.specs.Story.{IsLawful, Story}
 use Rattle.page_pool.specs.Counts.{hot_pages}
-use Rattle.row_words.specs.declared.event.Event.{Event}
-use Rattle.row_words.specs.declared.event.Event.TheVariants as told
-use Rattle.row_words.specs.Moments.{event_of, events_of}
-use Rattle.row_words.specs.Openings.{opening}
-use Rattle.rows_trait.specs.Views.{after_all}
+use Rattle.btree_descent.specs.row_words.declared.event.Event.{Event}
+use Rattle.btree_descent.specs.row_words.declared.event.Event.TheVariants as told
+use Rattle.btree_descent.specs.row_words.Moments.{event_of, events_of}
+use Rattle.btree_descent.specs.row_words.Openings.{opening}
+use Rattle.btree_descent.specs.rows_trait.Views.{after_all}
 use Rattle.session_state.proofs.Moments.{events_more}
 use Rattle.session_state.specs.Ties.{Behind}
 use Rattle.session_state.specs.declared.session.Session.{Session}

@@ -8,7 +8,7 @@ use Rattle.map_model.specs.declared.call.Refusal.TheVariants as refusal
 use Rattle.row_changes.specs.Reads.{Reads}
 use Rattle.row_changes.specs.Takes.{NotTaken, Takes}
 use Rattle.row_changes.specs.declared.ways.Cold.{Cold}
-use Rattle.row_words.specs.declared.event.Event.TheVariants as told
+use Rattle.btree_descent.specs.row_words.declared.event.Event.TheVariants as told
 use Rattle.session_desks.specs.Parts.{SeatFits, shape}
 use Rattle.session_state.proofs.OtherLemmas.{is_own, no_steps, one_step}
 use Rattle.session_state.specs.Holds.{Holds as HoldsSession}

@@ -7,10 +7,10 @@ use Rattle.map_model.specs.declared.call.Refusal.{Refusal}
 use Rattle.map_model.specs.declared.call.Refusal.TheVariants as refusal
 use Rattle.core_calls.specs.Fronts.{Done, front}
 use Rattle.core_calls.specs.LogEvents.{IsPressedYet, SyncsWhere}
-use Rattle.core_paging.specs.Paging.{EveryResidence}
-use Rattle.core_state.specs.Events as happening
-use Rattle.core_state.specs.Openings.{Opening}
-use Rattle.core_state.specs.Steps.{state_after}
+use Rattle.btree_descent.specs.core_paging.Paging.{EveryResidence}
+use Rattle.btree_descent.specs.core_state.Events as happening
+use Rattle.btree_descent.specs.core_state.Openings.{Opening}
+use Rattle.btree_descent.specs.core_state.Steps.{state_after}
 use Rattle.engine_calls.specs.Answers.{EveryAnswer}
 use Rattle.engine_calls.specs.Clauses.{EveryComing}
 use Rattle.engine_trait.specs.Refusals.{clock_refusal}
@@ -19,13 +19,13 @@ use Rattle.lean_disk.specs.Story.{IsLawful, Story}
 use Rattle.page_pool.specs.Counts.{EveryFrame}
 use Rattle.row_changes.proofs.StepLemmas.{clock_at_end}
 use Rattle.row_changes.specs.Puts.{IsChanged}
-use Rattle.row_words.specs.Moments.{events_of}
+use Rattle.btree_descent.specs.row_words.Moments.{events_of}
 use Rattle.session_desks.proofs.DeskLemmas.{desk_own}
 use Rattle.session_desks.specs.Parts.{here}
 use Rattle.session_desks.specs.declared.desk.Desk.{Desk}
 use Rattle.session_state.specs.Staging.{KeepsLog}
 use Rattle.session_state.specs.declared.session.Session.{Session}
-use Rattle.worker_log.specs.Logs.{Log}
+use Rattle.disk_runs.specs.worker_log.Logs.{Log}
 use Rattle.call_parts.specs.Deeds.{Fails}
 use Rattle.paged_desks.proofs.Doing.{hot_few}
 use Rattle.paged_desks.proofs.EndingLemmas.{Grounds}

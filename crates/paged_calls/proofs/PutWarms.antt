@@ -6,11 +6,11 @@ use Rattle.map_model.specs.declared.call.Refusal.{Refusal}
 use Rattle.map_model.specs.declared.call.Refusal.TheVariants as refusal
 use Rattle.core_calls.specs.Warms.{IsWarmFrom}
 use Rattle.core_calls.specs.Room.{EveryRoom, free_list, is_full_at, room_takes}
-use Rattle.core_paging.specs.Paging.{EveryResidence, Residence}
-use Rattle.core_state.specs.Needs.{is_held_by}
-use Rattle.core_state.specs.Openings.{Opening}
-use Rattle.core_state.specs.States.{State}
-use Rattle.core_state.specs.Steps as core
+use Rattle.btree_descent.specs.core_paging.Paging.{EveryResidence, Residence}
+use Rattle.btree_descent.specs.core_state.Needs.{is_held_by}
+use Rattle.btree_descent.specs.core_state.Openings.{Opening}
+use Rattle.btree_descent.specs.core_state.States.{State}
+use Rattle.btree_descent.specs.core_state.Steps as core
 use Rattle.lean_disk.specs.Story.{IsLawful, Story}
 use Rattle.page_model.specs.Nodes.{covers, is_leaf}
 use Rattle.page_pool.specs.Pools.{EveryStanding}
@@ -26,13 +26,13 @@ use Rattle.row_growth.specs.declared.room.Placed.{Placed}
 use Rattle.row_growth.specs.declared.steps.Stepped.{Stepped}
 use Rattle.row_growth.specs.declared.steps.Stepped.TheVariants as stepped
 use Rattle.paged_rows.specs.Paged.{IsWarm}
-use Rattle.row_words.proofs.SealedLemmas.{run_append}
-use Rattle.row_words.specs.declared.event.Event.{Event}
-use Rattle.row_words.specs.declared.given.Given.{Given}
-use Rattle.row_words.specs.Moments.{Moment, events_of}
-use Rattle.row_words.specs.Sealed.{begun}
-use Rattle.row_words.specs.Openings.{opening}
-use Rattle.rows_trait.specs.Views.{after_all, state}
+use Rattle.btree_descent.proofs.row_words_lemmas.SealedLemmas.{run_append}
+use Rattle.btree_descent.specs.row_words.declared.event.Event.{Event}
+use Rattle.btree_descent.specs.row_words.declared.given.Given.{Given}
+use Rattle.btree_descent.specs.row_words.Moments.{Moment, events_of}
+use Rattle.btree_descent.specs.row_words.Sealed.{begun}
+use Rattle.btree_descent.specs.row_words.Openings.{opening}
+use Rattle.btree_descent.specs.rows_trait.Views.{after_all, state}
 use Rattle.session_desks.proofs.SeatLemmas.{holds_of}
 use Rattle.session_desks.specs.Parts.{SeatFits, here, shape}
 use Rattle.session_state.proofs.Moments.{seen_state}
@@ -46,7 +46,7 @@ use Rattle.session_state.specs.Undo.{HasRoomToStage}
 use Rattle.engine_trait.specs.Refusals.{room_refusal}
 use Rattle.session_state.specs.declared.session.Session.{Session}
 use Rattle.session_state.specs.declared.work.Work.{Work}
-use Rattle.worker_log.specs.Logs.{Log}
+use Rattle.disk_runs.specs.worker_log.Logs.{Log}
 use Rattle.call_parts.proofs.RunLemmas.{behind_more, run_core}
 use Rattle.paged_desks.proofs.EndingLemmas.{Grounds}
 use Rattle.paged_desks.proofs.StandLemmas.{looked_same, ready_on}

@@ -2,35 +2,35 @@
 use Rattle.std.proofs.Common.{◌≡◌, ◌∙◌, ◌≤◌, ◌<◌, ◌+◌, ◌==◌, ◌||◌, ◌++◌, ◌^◌, ◌⊎◌, inl, inr, ℕ, suc, true, false, IsTrue, List, [], ◌∷◌, Global, Vec, Option, length, ap, refl, sym, subst, arith, true≢false}
 use Rattle.std.proofs.lemmas.Bool.{and_parts, cases_eq, cases_lt, cond-false, ne_eqb}
 use Rattle.map_model.specs.Lists.{Has}
-use Rattle.core_paging.specs.Paging.{Waiting}
-use Rattle.core_state.specs.Events as happening
-use Rattle.core_state.specs.Needs.{are_hot, may, needs}
-use Rattle.core_state.specs.Openings.{Opening}
-use Rattle.core_state.specs.States.{Place, State, Worker, epoch_of, in_frame, is_cold, is_cooling, is_hot, waits_for}
-use Rattle.core_state.specs.Steps.{at_pages, happens, write_entry}
+use Rattle.btree_descent.specs.core_paging.Paging.{Waiting}
+use Rattle.btree_descent.specs.core_state.Events as happening
+use Rattle.btree_descent.specs.core_state.Needs.{are_hot, may, needs}
+use Rattle.btree_descent.specs.core_state.Openings.{Opening}
+use Rattle.btree_descent.specs.core_state.States.{Place, State, Worker, epoch_of, in_frame, is_cold, is_cooling, is_hot, waits_for}
+use Rattle.btree_descent.specs.core_state.Steps.{at_pages, happens, write_entry}
 use Rattle.btree_descent.specs.Known.{IsSound as IsSoundTree}
-use Rattle.disk_slots.specs.declared.master.Master.{Master}
-use Rattle.image_model.specs.Entries.{Contents, Entry, Kind, is_record, touches, written}
+use Rattle.disk_runs.specs.disk_slots.declared.master.Master.{Master}
+use Rattle.btree_descent.specs.image_model.Entries.{Contents, Entry, Kind, is_record, touches, written}
 use Rattle.lean_disk.specs.Area.{Area}
 use Rattle.lean_disk.specs.Moments.{Framed}
 use Rattle.lean_disk.specs.Story.{Story, Tells}
-use Rattle.lean_proto.specs.Still.{Stood}
-use Rattle.log_block.specs.Block.{records_text}
-use Rattle.log_record.specs.declared.record.Record.{Record}
+use Rattle.btree_descent.specs.lean_proto.Still.{Stood}
+use Rattle.disk_runs.specs.log_block.Block.{records_text}
+use Rattle.btree_descent.specs.log_record.declared.record.Record.{Record}
 use Rattle.page_calls.specs.Mirrors.{HoldsLast, Mirrors}
-use Rattle.page_store.specs.Saved.{Reaches}
+use Rattle.disk_runs.specs.page_store.Saved.{Reaches}
 use Rattle.page_pool.specs.Pools.{EveryStanding}
 use Rattle.page_provider.proofs.Kept.{kept_same}
 use Rattle.page_provider.specs.Mirrored.{IsMirrored}
 use Rattle.page_provider.specs.Providers.{IsKept, Keeps, Provider, pool}
 use Rattle.row_changes.proofs.SeenLemmas.{seen_core}
-use Rattle.row_words.specs.declared.event.Event.{Event}
-use Rattle.row_words.specs.declared.event.Event.TheVariants as told
-use Rattle.row_words.specs.declared.given.Given.{Given}
-use Rattle.row_words.specs.Moments.{event_of}
-use Rattle.row_words.specs.Openings.{opening}
-use Rattle.rows_trait.specs.declared.view.View.{View}
-use Rattle.rows_trait.specs.Views.{Shape, after_all, state}
+use Rattle.btree_descent.specs.row_words.declared.event.Event.{Event}
+use Rattle.btree_descent.specs.row_words.declared.event.Event.TheVariants as told
+use Rattle.btree_descent.specs.row_words.declared.given.Given.{Given}
+use Rattle.btree_descent.specs.row_words.Moments.{event_of}
+use Rattle.btree_descent.specs.row_words.Openings.{opening}
+use Rattle.btree_descent.specs.rows_trait.declared.view.View.{View}
+use Rattle.btree_descent.specs.rows_trait.Views.{Shape, after_all, state}
 use Rattle.session_desks.proofs.DeskLemmas.{desk_own}
 use Rattle.session_desks.proofs.MachineLemmas.{machine_behind}
 use Rattle.session_desks.proofs.SeatLemmas.{holds_of, turn_high, turn_low}
@@ -44,8 +44,8 @@ use Rattle.session_state.proofs.StageLemmas.{staged_flushed}
 use Rattle.session_state.specs.Holds.{Holds, IsSameSession}
 use Rattle.session_state.specs.Others.{EveryOther, is_of}
 use Rattle.session_state.specs.Staging.{KeepsLog}
-use Rattle.worker_log.specs.Calls.{After}
-use Rattle.worker_log.specs.Logs.{Log}
+use Rattle.disk_runs.specs.worker_log.Calls.{After}
+use Rattle.disk_runs.specs.worker_log.Logs.{Log}
 use Rattle.paged_desks.specs.Machines.{IsNobodyInside, IsReady, view_of}
 use Rattle.paged_desks.specs.declared.machine.PagedMachine.{PagedMachine}
 use Rattle.paged_desks.specs.Calls.{IsAside}

@@ -2,21 +2,21 @@
 use Rattle.std.proofs.Common.{◌≡◌, ◌∙◌, ◌≤◌, ◌<◌, ◌+◌, ◌-◌, ◌%◌, ◌==◌, ◌^◌, ◌++◌, ◌⊎◌, inl, inr, ℕ, suc, Bool, true, false, cond, List, [], ◌∷◌, length, ap, refl, sym, subst, arith, true≢false}
 use Rattle.std.proofs.lemmas.Bool.{cases_eq}
 use Rattle.core_calls.specs.Room.{room_takes}
-use Rattle.core_state.specs.Needs.{is_held_by, may}
-use Rattle.core_state.specs.Openings.{Opening}
-use Rattle.core_state.specs.States.{State}
-use Rattle.core_state.specs.Steps as core
-use Rattle.core_state.specs.Steps.{happens}
+use Rattle.btree_descent.specs.core_state.Needs.{is_held_by, may}
+use Rattle.btree_descent.specs.core_state.Openings.{Opening}
+use Rattle.btree_descent.specs.core_state.States.{State}
+use Rattle.btree_descent.specs.core_state.Steps as core
+use Rattle.btree_descent.specs.core_state.Steps.{happens}
 use Rattle.engine_trait.specs.Logs.{Logs, LogsOne}
 use Rattle.lean_disk.specs.Story.{Story}
 use Rattle.row_changes.proofs.TakesLemmas.{takes_most}
 use Rattle.row_changes.specs.Puts.{MayChange}
-use Rattle.row_words.specs.declared.event.Event.{Event}
-use Rattle.row_words.specs.declared.event.Event.TheVariants as told
-use Rattle.row_words.specs.Moments.{event_of, events_of}
-use Rattle.row_words.specs.Openings.{opening}
-use Rattle.rows_trait.specs.declared.view.View.{View}
-use Rattle.rows_trait.specs.Views.{state}
+use Rattle.btree_descent.specs.row_words.declared.event.Event.{Event}
+use Rattle.btree_descent.specs.row_words.declared.event.Event.TheVariants as told
+use Rattle.btree_descent.specs.row_words.Moments.{event_of, events_of}
+use Rattle.btree_descent.specs.row_words.Openings.{opening}
+use Rattle.btree_descent.specs.rows_trait.declared.view.View.{View}
+use Rattle.btree_descent.specs.rows_trait.Views.{state}
 use Rattle.session_desks.proofs.DeskLemmas.{desk_own}
 use Rattle.session_desks.proofs.SeatLemmas.{turn_high, turn_low}
 use Rattle.session_desks.specs.Parts.{here, logs, shape}
@@ -24,8 +24,8 @@ use Rattle.session_desks.specs.declared.desk.Desk.{Desk}
 use Rattle.session_state.proofs.Moments.{seen_state}
 use Rattle.session_state.proofs.UndoLemmas.{room_to_stage}
 use Rattle.session_state.specs.declared.session.Session.{Session}
-use Rattle.worker_log.specs.Calls.{flushed_log}
-use Rattle.worker_log.specs.Logs.{Log, limit, used}
+use Rattle.disk_runs.specs.worker_log.Calls.{flushed_log}
+use Rattle.disk_runs.specs.worker_log.Logs.{Log, limit, used}
 use Rattle.call_parts.proofs.RunLemmas.{run_core}
 use Rattle.paged_desks.specs.Machines.{IsReady, view_of}
 use Rattle.paged_desks.specs.Pages.{ArePaging, HasPaged, IsKept, is_paging}

@@ -3,13 +3,13 @@ use Rattle.std.specs.Prelude.{◌≡◌, ◌⊎◌, ◌≤◌, ◌<◌, ◌%◌,
 use Rattle.page_model.specs.Limits.{transaction_changes}
 use Rattle.map_model.specs.declared.call.Refusal.{Refusal}
 use Rattle.map_model.specs.declared.call.Refusal.TheVariants as refusal
-use Rattle.core_state.specs.Needs.{is_held_by}
+use Rattle.btree_descent.specs.core_state.Needs.{is_held_by}
 use Rattle.btree_descent.specs.declared.descent.TheConstants.{TOMBSTONE}
 use Rattle.lean_disk.specs.Story.{Story}
-use Rattle.rows_trait.specs.Views.{state}
+use Rattle.btree_descent.specs.rows_trait.Views.{state}
 use Rattle.session_state.specs.Holds.{IsSameSession}
 use Rattle.session_state.specs.Staging.{KeepsLog}
-use Rattle.worker_log.specs.Logs.{limit, used}
+use Rattle.disk_runs.specs.worker_log.Logs.{limit, used}
 use Rattle.row_changes.specs.Puts.{IsChanged}
 use Rattle.row_changes.specs.Reads.{HasRead}
 use Rattle.row_changes.specs.declared.ways.Unmade.{Unmade}

@@ -7,19 +7,19 @@ use Rattle.core_calls.specs.Fronts.{Done}
 use Rattle.core_calls.specs.LogEvents.{IsTight, SyncsWhere}
 use Rattle.core_calls.specs.Room.{room_takes}
 use Rattle.core_calls.specs.Steps.{is_structure}
-use Rattle.core_state.specs.Events as happening
-use Rattle.core_state.specs.Needs.{is_held_by}
-use Rattle.core_state.specs.Openings.{Opening}
-use Rattle.core_state.specs.States.{State}
+use Rattle.btree_descent.specs.core_state.Events as happening
+use Rattle.btree_descent.specs.core_state.Needs.{is_held_by}
+use Rattle.btree_descent.specs.core_state.Openings.{Opening}
+use Rattle.btree_descent.specs.core_state.States.{State}
 use Rattle.engine_calls.specs.Parts.{behind_first}
 use Rattle.engine_trait.specs.Refusals.{is_full_for, room_refusal}
 use Rattle.engine_trait.specs.Rooms.{MakesRoom}
 use Rattle.lean_disk.specs.Story.{Story}
-use Rattle.row_words.specs.declared.event.Event.{Event}
-use Rattle.row_words.specs.declared.event.Event.TheVariants as told
-use Rattle.row_words.specs.Moments.{events_of}
-use Rattle.row_words.specs.Openings.{opening}
-use Rattle.rows_trait.specs.Views.{state}
+use Rattle.btree_descent.specs.row_words.declared.event.Event.{Event}
+use Rattle.btree_descent.specs.row_words.declared.event.Event.TheVariants as told
+use Rattle.btree_descent.specs.row_words.Moments.{events_of}
+use Rattle.btree_descent.specs.row_words.Openings.{opening}
+use Rattle.btree_descent.specs.rows_trait.Views.{state}
 use Rattle.session_desks.specs.Desks.{desk_of}
 use Rattle.session_desks.specs.Parts.{AreAsMany, here}
 use Rattle.session_state.specs.Ties.{Behind}

@@ -5,8 +5,8 @@ use Rattle.map_model.specs.declared.call.Refusal.TheVariants as refusal
 use Rattle.core_calls.specs.Room.{room_takes}
 use Rattle.engine_trait.specs.Refusals.{room_refusal}
 use Rattle.lean_disk.specs.Story.{Story}
-use Rattle.row_words.specs.Openings.{opening}
-use Rattle.rows_trait.specs.Views.{state}
+use Rattle.btree_descent.specs.row_words.Openings.{opening}
+use Rattle.btree_descent.specs.rows_trait.Views.{state}
 use Rattle.session_state.specs.Free.{first_of}
 use Rattle.session_state.specs.Holds.{IsSameSession}
 use Rattle.session_state.specs.Staging.{KeepsLog}

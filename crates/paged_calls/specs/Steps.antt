@@ -3,15 +3,15 @@ use Rattle.std.specs.Prelude.{◌≡◌, ◌≤◌, ◌<◌, ◌%◌, ℕ, true,
 use Rattle.map_model.specs.declared.call.Refusal.{Refusal}
 use Rattle.core_calls.specs.Fronts.{Done}
 use Rattle.core_calls.specs.LogEvents.{IsTight, SyncsWhere}
-use Rattle.core_state.specs.Events as happening
-use Rattle.core_state.specs.Needs.{holds_row}
-use Rattle.core_state.specs.Openings.{Opening}
+use Rattle.btree_descent.specs.core_state.Events as happening
+use Rattle.btree_descent.specs.core_state.Needs.{holds_row}
+use Rattle.btree_descent.specs.core_state.Openings.{Opening}
 use Rattle.engine_calls.specs.Parts.{behind_first}
 use Rattle.key_locks.specs.declared.mode.Mode.{Mode}
 use Rattle.lean_disk.specs.Story.{Story}
-use Rattle.row_words.specs.declared.event.Event.{Event}
-use Rattle.row_words.specs.Moments.{events_of}
-use Rattle.rows_trait.specs.Views.{state}
+use Rattle.btree_descent.specs.row_words.declared.event.Event.{Event}
+use Rattle.btree_descent.specs.row_words.Moments.{events_of}
+use Rattle.btree_descent.specs.rows_trait.Views.{state}
 use Rattle.call_parts.specs.Parts.{Part}
 use Rattle.session_state.specs.Staging.{IsButClock}
 use Rattle.session_state.specs.Ties.{Behind}

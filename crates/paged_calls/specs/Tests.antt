@@ -7,7 +7,7 @@ use Rattle.paged_desks.specs.declared.warming.Unwarmed.{Unwarmed}
 use Rattle.paged_desks.specs.declared.warming.Unwarmed.TheVariants as stopped
 use Rattle.session_state.specs.declared.session.Session.{Session}
 use Rattle.engine_trait.specs.Refusals.{log_refusal}
-use Rattle.worker_log.specs.Logs.{Log}
+use Rattle.disk_runs.specs.worker_log.Logs.{Log}
 
 -- a transaction is open, and its abort is not half done
 abbrev pub is_going : Session → Bool

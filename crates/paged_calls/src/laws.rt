@@ -1,15 +1,18 @@
 // What the calls rest on.
 ghost use Rattle.core_calls.specs.Room.{EveryRoom};
-ghost use Rattle.core_disk.specs.Versions.{EveryVersion};
-ghost use Rattle.core_paging.specs.Paging.{EveryResidence};
-ghost use Rattle.disk_image.specs.Laws.{EverySealed};
+ghost use Rattle.disk_runs.specs.core_disk.Versions.{EveryVersion};
+ghost use Rattle.btree_descent.specs.core_paging.Paging.{EveryResidence};
+ghost use Rattle.disk_runs.specs.disk_image.Laws.{EverySealed};
 ghost use Rattle.engine_calls.specs.Answers.{EveryAnswer};
 ghost use Rattle.engine_calls.specs.Clauses.{EveryComing};
 ghost use Rattle.page_pool.specs.Counts.{EveryFrame};
 ghost use Rattle.page_pool.specs.Pools.{EveryStanding};
 ghost use Rattle.row_opening.specs.Openings.{EveryNeed, EveryReached};
 ghost use Rattle.session_state.specs.Others.{EveryOther};
-ghost use Rattle.worker_log.specs.Laws.{EveryKept, EveryPrefix};
+ghost use Rattle.disk_runs.specs.worker_log.Laws.{EveryKept, EveryPrefix};
+
+use btree_descent::core_paging;
+use disk_runs::{core_disk, disk_image, worker_log};
 
 // The laws of versions, logs, seals and openings, of answers, of other sessions, of what the pager knows over their steps, of places and frames, and of room for a key.
 pub(crate) fn laws()

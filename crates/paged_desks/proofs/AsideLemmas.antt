@@ -1,15 +1,15 @@
 -- A machine of which the session in the store has worked on, with its log and its disk.
 use Rattle.std.proofs.Common.{◌≡◌, ◌∙◌, ◌≤◌, ◌<◌, ◌^◌, ◌⊎◌, inl, inr, ℕ, suc, true, IsTrue, List, length, Global, Vec, ap, sym, subst, arith}
 use Rattle.std.proofs.lemmas.Bool.{cases_eq}
-use Rattle.disk_slots.specs.declared.master.Master.{Master}
+use Rattle.disk_runs.specs.disk_slots.declared.master.Master.{Master}
 use Rattle.lean_disk.specs.Area.{Area}
 use Rattle.lean_disk.specs.Moments.{Framed}
 use Rattle.page_calls.specs.Mirrors.{HoldsLast}
 use Rattle.page_provider.specs.Mirrored.{IsMirrored}
 use Rattle.page_provider.specs.Providers.{Keeps}
-use Rattle.page_store.specs.Saved.{Reaches}
-use Rattle.row_words.specs.declared.given.Given.{Given}
-use Rattle.rows_trait.specs.Views.{Shape, state}
+use Rattle.disk_runs.specs.page_store.Saved.{Reaches}
+use Rattle.btree_descent.specs.row_words.declared.given.Given.{Given}
+use Rattle.btree_descent.specs.rows_trait.Views.{Shape, state}
 use Rattle.session_desks.proofs.MachineLemmas.{machine_behind}
 use Rattle.session_desks.specs.Machines.{IsMachine}
 use Rattle.session_desks.specs.Parts.{HasLogs, IsSound, SeatFits}

@@ -11,11 +11,11 @@ use Rattle.call_parts.specs.Rooms as rooms
 use Rattle.call_parts.specs.Rooms.{makes_sync}
 use Rattle.call_parts.specs.Steps.{moves_page}
 use Rattle.core_calls.specs.LogEvents.{AreFlushes, IsSync}
-use Rattle.core_state.specs.Events as happening
-use Rattle.core_state.specs.Local.{is_sync}
-use Rattle.core_disk.specs.Versions.{EveryVersion}
+use Rattle.btree_descent.specs.core_state.Events as happening
+use Rattle.btree_descent.specs.core_state.Local.{is_sync}
+use Rattle.disk_runs.specs.core_disk.Versions.{EveryVersion}
 use Rattle.desk_parts.specs.Laws.{EveryPagePart, EverySyncPart}
-use Rattle.disk_image.specs.Laws.{EverySealed}
+use Rattle.disk_runs.specs.disk_image.Laws.{EverySealed}
 use Rattle.engine_calls.proofs.MoveLemmas.{every_move}
 use Rattle.lean_disk.specs.Story.{IsLawful, Story}
 use Rattle.map_model.specs.Lists.{all, any}
@@ -25,17 +25,17 @@ use Rattle.page_provider.specs.declared.refusal.Refusal.{Refusal}
 use Rattle.page_provider.specs.declared.refusal.Refusal.TheVariants as refusal
 use Rattle.page_provider.specs.Moves.{Moved}
 use Rattle.page_provider.specs.Refusals.{breaks}
-use Rattle.row_words.specs.declared.event.Event.{Event}
-use Rattle.row_words.specs.declared.event.Event.TheVariants as told
-use Rattle.row_words.specs.Moments.{event_of, events_of}
-use Rattle.rows_trait.specs.declared.view.View.{View}
+use Rattle.btree_descent.specs.row_words.declared.event.Event.{Event}
+use Rattle.btree_descent.specs.row_words.declared.event.Event.TheVariants as told
+use Rattle.btree_descent.specs.row_words.Moments.{event_of, events_of}
+use Rattle.btree_descent.specs.rows_trait.declared.view.View.{View}
 use Rattle.call_parts.specs.Memory.{Memory}
 use Rattle.session_desks.specs.Parts.{AreAsMany, FailsToSync, SeatFits, here, shape}
 use Rattle.session_desks.specs.Parts as desks
 use Rattle.session_desks.specs.declared.machine.Machine.{Machine}
 use Rattle.session_desks.proofs.SeatLemmas.{holds_of}
 use Rattle.session_state.specs.declared.session.Session.{Session}
-use Rattle.worker_log.specs.Laws.{EveryKept, EveryPrefix}
+use Rattle.disk_runs.specs.worker_log.Laws.{EveryKept, EveryPrefix}
 use Rattle.paged_desks.specs.Inside.{HasBroken, HasDone, HasServed, IsBeside, IsOfPage, IsStopped, stopped_by}
 use Rattle.paged_desks.specs.Machines.{IsReady, memory, view_of}
 use Rattle.paged_desks.specs.Pages.{ArePaging, goes_on, is_paging, most_a_level}

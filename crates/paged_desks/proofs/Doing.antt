@@ -7,11 +7,11 @@ use Rattle.call_parts.specs.Areas.{is_save}
 use Rattle.call_parts.specs.Memory.{Memory, with_slots}
 use Rattle.call_parts.specs.Parts.{Part}
 use Rattle.core_calls.specs.LogEvents.{EveryWhere, IsTight}
-use Rattle.core_disk.specs.Versions.{EveryVersion}
-use Rattle.core_state.specs.Events as happening
+use Rattle.disk_runs.specs.core_disk.Versions.{EveryVersion}
+use Rattle.btree_descent.specs.core_state.Events as happening
 use Rattle.desk_parts.specs.Laws.{EveryPagePart, PageLaws}
 use Rattle.desk_parts.specs.Pages.{HasSlots}
-use Rattle.disk_image.specs.Laws.{EverySealed}
+use Rattle.disk_runs.specs.disk_image.Laws.{EverySealed}
 use Rattle.engine_calls.proofs.MoveLemmas.{every_move}
 use Rattle.lean_disk.specs.Story.{IsLawful, Story}
 use Rattle.map_model.specs.Lists.{any}
@@ -22,12 +22,12 @@ use Rattle.page_provider.specs.Moves.{Moved}
 use Rattle.page_provider.specs.Providers.{pool}
 use Rattle.page_provider.specs.Sequels.{EverySequel}
 use Rattle.row_opening.specs.Openings.{EveryNeed, EveryReached}
-use Rattle.row_words.specs.Moments.{events_of}
-use Rattle.row_words.specs.Openings.{opening}
-use Rattle.rows_trait.specs.Views.{state}
+use Rattle.btree_descent.specs.row_words.Moments.{events_of}
+use Rattle.btree_descent.specs.row_words.Openings.{opening}
+use Rattle.btree_descent.specs.rows_trait.Views.{state}
 use Rattle.session_desks.specs.Parts.{here, shape}
 use Rattle.session_desks.proofs.SeatLemmas.{holds_of}
-use Rattle.worker_log.specs.Laws.{EveryKept, EveryPrefix}
+use Rattle.disk_runs.specs.worker_log.Laws.{EveryKept, EveryPrefix}
 use Rattle.paged_desks.specs.Inside.{HasDone, HasServed, IsBeside}
 use Rattle.paged_desks.specs.Syncs.{IsSynced}
 use Rattle.paged_desks.specs.Machines.{IsReady, memory, view_of}

@@ -12,11 +12,11 @@ use Rattle.core_calls.specs.Fronts.{Done, front, outcomes}
 use Rattle.core_calls.specs.Marks.{is_half}
 use Rattle.core_calls.specs.Runs.{Tells}
 use Rattle.core_calls.specs.Steps.{is_structure}
-use Rattle.core_state.specs.Events as happening
-use Rattle.core_state.specs.Local.{is_sync}
-use Rattle.core_state.specs.Openings.{Opening}
-use Rattle.core_state.specs.States.{State}
-use Rattle.core_state.specs.Steps.{AllMet, state_after}
+use Rattle.btree_descent.specs.core_state.Events as happening
+use Rattle.btree_descent.specs.core_state.Local.{is_sync}
+use Rattle.btree_descent.specs.core_state.Openings.{Opening}
+use Rattle.btree_descent.specs.core_state.States.{State}
+use Rattle.btree_descent.specs.core_state.Steps.{AllMet, state_after}
 use Rattle.disk_runs.specs.Masters.{IsNoEarlier}
 use Rattle.disk_runs.specs.Stands.{Known, Stands}
 use Rattle.engine_calls.specs.Answers.{EveryAnswer}
@@ -31,15 +31,15 @@ use Rattle.engine_trait.specs.Refusals.{IsRefusedFor, refusal_in}
 use Rattle.engine_trait.specs.Rooms.{MakesItsRoom}
 use Rattle.lean_disk.specs.Moments.{LeavesOnly}
 use Rattle.lean_disk.specs.Story.{Crash, IsLawful, Story}
-use Rattle.row_words.specs.declared.event.Event.{Event}
-use Rattle.row_words.specs.Moments.{events_of}
-use Rattle.row_words.specs.Openings.{opening}
-use Rattle.rows_trait.specs.declared.view.View.{View}
+use Rattle.btree_descent.specs.row_words.declared.event.Event.{Event}
+use Rattle.btree_descent.specs.row_words.Moments.{events_of}
+use Rattle.btree_descent.specs.row_words.Openings.{opening}
+use Rattle.btree_descent.specs.rows_trait.declared.view.View.{View}
 use Rattle.session_desks.specs.Desks.{desk_of}
 use Rattle.session_desks.specs.Machines.{IsLogged}
 use Rattle.session_desks.specs.Parts.{AreAsMany, HasLogs, here, logs}
 use Rattle.session_state.specs.Ties.{Behind, Ties}
-use Rattle.worker_log.specs.Logs.{Log}
+use Rattle.disk_runs.specs.worker_log.Logs.{Log}
 use Rattle.call_parts.proofs.EndLemmas.{every_end}
 use Rattle.call_parts.proofs.RunLemmas.{behind_more, core_is}
 use Rattle.call_parts.specs.Areas.{Around, Beside, is_save}
@@ -52,10 +52,10 @@ use Rattle.engine_trait.specs.Rooms.{needs_sync}
 use Rattle.paged_desks.specs.Machines.{memory, view_of}
 use Rattle.paged_desks.specs.declared.machine.PagedMachine.{PagedMachine}
 use Rattle.paged_desks.specs.Calls.{AreHalf, DoesTied, Tied}
-use Rattle.core_disk.specs.Versions.{EveryVersion}
-use Rattle.disk_image.specs.Laws.{EverySealed}
+use Rattle.disk_runs.specs.core_disk.Versions.{EveryVersion}
+use Rattle.disk_runs.specs.disk_image.Laws.{EverySealed}
 use Rattle.row_opening.specs.Openings.{EveryNeed, EveryReached}
-use Rattle.worker_log.specs.Laws.{EveryKept, EveryPrefix}
+use Rattle.disk_runs.specs.worker_log.Laws.{EveryKept, EveryPrefix}
 
 -- the laws on which a call stands
 pub record Grounds : Type 0 where

@@ -7,9 +7,9 @@ use Rattle.page_provider.specs.Refusals.{Caused}
 use Rattle.paged_rows.specs.Paged.{Paged}
 use Rattle.paged_rows.specs.Warms.{IsRefusedTo}
 use Rattle.paged_rows.specs.declared.wanted.Wanted.{Wanted}
-use Rattle.rows_trait.specs.Causes.{EveryLow}
-use Rattle.rows_trait.specs.declared.view.View.{View}
-use Rattle.rows_trait.specs.Views.{AreLow}
+use Rattle.btree_descent.specs.rows_trait.Causes.{EveryLow}
+use Rattle.btree_descent.specs.rows_trait.declared.view.View.{View}
+use Rattle.btree_descent.specs.rows_trait.Views.{AreLow}
 use Rattle.session_desks.specs.Desks.{desk_of}
 use Rattle.session_desks.specs.Machines.{AreDesks}
 use Rattle.session_desks.specs.Parts.{MaySync, here, shape}

@@ -3,8 +3,8 @@ use Rattle.std.proofs.Common.{◌≡◌, ◌∙◌, ◌⊎◌, ◌++◌, ℕ, Re
 use Rattle.call_parts.specs.Memory.{IsOf}
 use Rattle.call_parts.specs.Parts.{Part}
 use Rattle.core_calls.specs.Fronts.{Done, front}
-use Rattle.core_state.specs.Events as happening
-use Rattle.core_state.specs.Openings.{Opening}
+use Rattle.btree_descent.specs.core_state.Events as happening
+use Rattle.btree_descent.specs.core_state.Openings.{Opening}
 use Rattle.disk_runs.specs.Stands.{Known, Stands}
 use Rattle.lean_disk.specs.Story.{Crash, Story}
 use Rattle.page_provider.specs.Disks.{Runs}
@@ -12,8 +12,8 @@ use Rattle.page_provider.specs.Faults.{EveryFound}
 use Rattle.page_provider.specs.declared.refusal.Refusal.{Refusal}
 use Rattle.page_provider.specs.declared.refusal.Refusal.TheVariants as refusal
 use Rattle.paged_rows.specs.Warms.{IsLost, LostTo}
-use Rattle.row_words.specs.declared.event.Event.{Event}
-use Rattle.row_words.specs.Moments.{events_of}
+use Rattle.btree_descent.specs.row_words.declared.event.Event.{Event}
+use Rattle.btree_descent.specs.row_words.Moments.{events_of}
 use Rattle.session_desks.specs.Parts.{shape}
 use Rattle.session_state.specs.Ties.{Behind}
 use Rattle.paged_desks.specs.Inside.{AwayCause, UnreadCause, stopped_by}

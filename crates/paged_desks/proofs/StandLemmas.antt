@@ -1,16 +1,16 @@
 -- A machine stands while the session whose turn it is begins, takes a row, or reads.
 use Rattle.std.proofs.Common.{◌≡◌, ◌∙◌, ◌≤◌, ◌++◌, ◌^◌, ◌⊎◌, inl, inr, ℕ, zero, suc, Bool, true, false, cond, List, [], ◌∷◌, Global, Vec, get_or, ap, refl, sym, subst, true≢false}
 use Rattle.std.proofs.lemmas.Bool.{cases_eq}
-use Rattle.core_paging.specs.Paging.{Waiting}
-use Rattle.core_state.specs.Events as happening
-use Rattle.core_state.specs.Needs.{may}
-use Rattle.core_state.specs.Openings.{Opening}
-use Rattle.core_state.specs.States.{Row, State, Worker}
-use Rattle.core_state.specs.Steps.{happens}
+use Rattle.btree_descent.specs.core_paging.Paging.{Waiting}
+use Rattle.btree_descent.specs.core_state.Events as happening
+use Rattle.btree_descent.specs.core_state.Needs.{may}
+use Rattle.btree_descent.specs.core_state.Openings.{Opening}
+use Rattle.btree_descent.specs.core_state.States.{Row, State, Worker}
+use Rattle.btree_descent.specs.core_state.Steps.{happens}
 use Rattle.btree_descent.specs.Known.{IsSound as IsSoundTree}
 use Rattle.desk_parts.specs.Pages.{HasSlots}
-use Rattle.disk_slots.specs.declared.master.Master.{Master}
-use Rattle.image_model.specs.Entries.{Entry, is_record}
+use Rattle.disk_runs.specs.disk_slots.declared.master.Master.{Master}
+use Rattle.btree_descent.specs.image_model.Entries.{Entry, is_record}
 use Rattle.lean_disk.specs.Story.{Story, Tells}
 use Rattle.map_model.specs.Maps.{MapAnswer}
 use Rattle.map_model.specs.Lists.{Has}
@@ -18,15 +18,15 @@ use Rattle.page_calls.specs.Mirrors.{Mirrors}
 use Rattle.page_pool.specs.Pools.{Agrees, Pool}
 use Rattle.page_provider.specs.Mirrored.{IsMirrored}
 use Rattle.page_provider.specs.Providers.{IsKept, Keeps, Provider, pool}
-use Rattle.row_words.specs.declared.event.Event.{Event}
-use Rattle.row_words.specs.declared.event.Event.TheVariants as told
-use Rattle.row_words.specs.declared.event.Met.TheVariants as met
-use Rattle.row_words.specs.declared.given.Given.{Given}
-use Rattle.row_words.specs.Moments.{Moment, event_of, mode_of}
-use Rattle.row_words.specs.Openings.{opening}
-use Rattle.row_words.specs.Sealed.{stepped}
-use Rattle.rows_trait.specs.declared.view.View.{View}
-use Rattle.rows_trait.specs.Views.{Shape, after_all, state}
+use Rattle.btree_descent.specs.row_words.declared.event.Event.{Event}
+use Rattle.btree_descent.specs.row_words.declared.event.Event.TheVariants as told
+use Rattle.btree_descent.specs.row_words.declared.event.Met.TheVariants as met
+use Rattle.btree_descent.specs.row_words.declared.given.Given.{Given}
+use Rattle.btree_descent.specs.row_words.Moments.{Moment, event_of, mode_of}
+use Rattle.btree_descent.specs.row_words.Openings.{opening}
+use Rattle.btree_descent.specs.row_words.Sealed.{stepped}
+use Rattle.btree_descent.specs.rows_trait.declared.view.View.{View}
+use Rattle.btree_descent.specs.rows_trait.Views.{Shape, after_all, state}
 use Rattle.session_desks.specs.Desks.{desk_of, log_of, place_of}
 use Rattle.session_desks.specs.Machines.{AreLogged, IsMachine}
 use Rattle.session_desks.specs.Parts.{IsSound, SeatFits, here, logs, shape}
@@ -38,7 +38,7 @@ use Rattle.session_desks.proofs.MachineLemmas.{machine_behind}
 use Rattle.session_state.proofs.Moments.{acts}
 use Rattle.session_state.specs.Holds.{Holds, IsSameSession}
 use Rattle.session_state.specs.Others.{EveryOther, Steps}
-use Rattle.worker_log.specs.Logs.{Log}
+use Rattle.disk_runs.specs.worker_log.Logs.{Log}
 use Rattle.paged_desks.specs.Machines.{IsNobodyInside, IsReady, memory, view_of}
 use Rattle.paged_desks.specs.declared.machine.PagedMachine.{PagedMachine}
 use Rattle.call_parts.specs.Memory.{Memory}

@@ -2,11 +2,11 @@
 use Rattle.std.proofs.Common.{◌≡◌, ◌∙◌, ◌≤◌, ◌↔◌, ℕ, zero, suc, if◌then◌else◌, Bool, true, false, List, [], ◌∷◌, ap, refl, sym, subst, arith}
 use Rattle.core_calls.specs.LogEvents.{behind}
 use Rattle.core_calls.specs.Room.{free_list, frees_from}
-use Rattle.core_state.specs.Needs.{holds_row}
-use Rattle.core_state.specs.States.{State, flushed_by_all}
+use Rattle.btree_descent.specs.core_state.Needs.{holds_row}
+use Rattle.btree_descent.specs.core_state.States.{State, flushed_by_all}
 use Rattle.desk_parts.specs.Pages.{HasSlots}
-use Rattle.disk_slots.specs.declared.master.Master.{Master}
-use Rattle.image_model.specs.Entries.{Entry, is_record}
+use Rattle.disk_runs.specs.disk_slots.declared.master.Master.{Master}
+use Rattle.btree_descent.specs.image_model.Entries.{Entry, is_record}
 use Rattle.lean_disk.specs.Story.{Story}
 use Rattle.log_calls.specs.Wholes.{EndsInRecord}
 use Rattle.map_model.specs.Lists.{Has}
@@ -14,10 +14,10 @@ use Rattle.page_model.specs.Nodes.{Node}
 use Rattle.page_provider.specs.Moves.{Moved}
 use Rattle.page_provider.specs.Sequels.{EverySequel}
 use Rattle.paged_rows.specs.Paged.{IsFedIfFaithful, IsPaged}
-use Rattle.row_words.specs.declared.given.Given.{Given}
-use Rattle.row_words.specs.Openings.{opening}
-use Rattle.rows_trait.specs.declared.view.View.{View}
-use Rattle.rows_trait.specs.Views.{Shape, state}
+use Rattle.btree_descent.specs.row_words.declared.given.Given.{Given}
+use Rattle.btree_descent.specs.row_words.Openings.{opening}
+use Rattle.btree_descent.specs.rows_trait.declared.view.View.{View}
+use Rattle.btree_descent.specs.rows_trait.Views.{Shape, state}
 use Rattle.session_desks.specs.Desks.{desk_of, log_of}
 use Rattle.session_desks.specs.Machines.{AreDesks, AreLogged}
 use Rattle.session_desks.specs.Parts.{IsSound, SeatFits, here, logs, shape}
@@ -26,7 +26,7 @@ use Rattle.session_desks.specs.declared.desk.Desk.{Desk}
 use Rattle.session_state.proofs.HoldLemmas.{rows_on}
 use Rattle.session_state.specs.Holds.{Holds, IsOf}
 use Rattle.session_state.specs.declared.session.Session.{Session}
-use Rattle.worker_log.specs.Logs.{Log}
+use Rattle.disk_runs.specs.worker_log.Logs.{Log}
 use Rattle.paged_desks.specs.Machines.{IsNobodyInside, IsReady, memory, pages, view_of}
 use Rattle.paged_desks.specs.Inside.{IsBeside}
 use Rattle.paged_desks.specs.declared.machine.PagedMachine.{PagedMachine}

@@ -1,16 +1,16 @@
 -- A page is brought, or not, and the machine goes on, or stops.
 use Rattle.std.proofs.Common.{◌≡◌, ◌∙◌, arith, refl, subst, sym, ℕ, true, false, Err}
 use Rattle.core_covers.specs.Lows.{EveryLow, IsAllFlushed}
-use Rattle.core_state.specs.States.{State}
+use Rattle.btree_descent.specs.core_state.States.{State}
 use Rattle.lean_disk.specs.Story.{Story}
 use Rattle.page_provider.specs.declared.refusal.Refusal.{Refusal}
 use Rattle.page_provider.specs.Sequels.{EverySequel}
 use Rattle.paged_rows.specs.Warms.{IsRefusedTo}
 use Rattle.paged_rows.specs.declared.wanted.Wanted.{Wanted}
 use Rattle.row_opening.specs.Openings.{EveryReached}
-use Rattle.row_words.specs.declared.given.Given.{Given}
-use Rattle.row_words.specs.Openings.{opening}
-use Rattle.rows_trait.specs.Views.{state}
+use Rattle.btree_descent.specs.row_words.declared.given.Given.{Given}
+use Rattle.btree_descent.specs.row_words.Openings.{opening}
+use Rattle.btree_descent.specs.rows_trait.Views.{state}
 use Rattle.session_desks.specs.Syncs.{HasOpening}
 use Rattle.paged_desks.specs.Machines.{IsNobodyInside, IsReady, pages, view_of}
 use Rattle.paged_desks.specs.Pages.{goes_on}

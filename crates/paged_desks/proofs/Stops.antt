@@ -8,8 +8,8 @@ use Rattle.page_provider.specs.Refusals.{breaks}
 use Rattle.paged_rows.specs.Paged.{IsPaged, Paged}
 use Rattle.paged_rows.specs.Warms.{CrowdedCause, IsCrowded, IsRefusedTo}
 use Rattle.paged_rows.specs.declared.wanted.Wanted.{Wanted}
-use Rattle.rows_trait.specs.declared.view.View.{View}
-use Rattle.rows_trait.specs.Views.{Shape}
+use Rattle.btree_descent.specs.rows_trait.declared.view.View.{View}
+use Rattle.btree_descent.specs.rows_trait.Views.{Shape}
 use Rattle.session_desks.specs.Desks.{desk_of, place_of}
 use Rattle.session_desks.specs.Machines.{AreDesks}
 use Rattle.session_desks.specs.Syncs.{AreWhole, has_half, is_half_desk}

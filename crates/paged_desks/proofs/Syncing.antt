@@ -8,17 +8,17 @@ use Rattle.call_parts.specs.Parts.{Part}
 use Rattle.core_calls.specs.Fronts.{Done}
 use Rattle.core_calls.specs.LogEvents.{IsSync}
 use Rattle.core_covers.specs.Lows.{EverySync, IsAllFlushed}
-use Rattle.core_state.specs.Events as happening
+use Rattle.btree_descent.specs.core_state.Events as happening
 use Rattle.rfa_model.specs.Reaches.{least}
-use Rattle.core_state.specs.Needs.{is_empty_frame, may}
-use Rattle.core_state.specs.Openings.{Opening}
-use Rattle.core_state.specs.States.{State, epoch_of, in_frame, is_cooling, is_hot}
-use Rattle.core_state.specs.Steps as steps
+use Rattle.btree_descent.specs.core_state.Needs.{is_empty_frame, may}
+use Rattle.btree_descent.specs.core_state.Openings.{Opening}
+use Rattle.btree_descent.specs.core_state.States.{State, epoch_of, in_frame, is_cooling, is_hot}
+use Rattle.btree_descent.specs.core_state.Steps as steps
 use Rattle.cooling_stage.specs.declared.stage.Cooling.{Cooling}
 use Rattle.desk_parts.proofs.SyncLemmas.{sync_slots}
 use Rattle.desk_parts.specs.Laws.{EverySyncPart}
 use Rattle.desk_parts.specs.Syncs.{memory_with_slots}
-use Rattle.disk_slots.specs.declared.master.Master.{Master}
+use Rattle.disk_runs.specs.disk_slots.declared.master.Master.{Master}
 use Rattle.engine_trait.specs.Logs.{Logs}
 use Rattle.lean_disk.specs.Area.{Area}
 use Rattle.lean_disk.specs.Story.{Story}
@@ -28,13 +28,13 @@ use Rattle.page_pool.specs.Pools.{Agrees, IsEntry, Pool}
 use Rattle.page_provider.specs.Providers.{IsKept, Keeps, Provider, pool}
 use Rattle.paged_rows.specs.Paged.{IsFedIfFaithful, paged}
 use Rattle.row_opening.specs.Openings.{EveryNeed, EveryReached}
-use Rattle.row_words.specs.declared.event.Event.{Event}
-use Rattle.row_words.specs.declared.event.Event.TheVariants as told
-use Rattle.row_words.specs.declared.given.Given.{Given}
-use Rattle.row_words.specs.Moments.{Moment, event_of, events_of}
-use Rattle.row_words.specs.Openings.{opening}
-use Rattle.rows_trait.specs.declared.view.View.{View}
-use Rattle.rows_trait.specs.Views.{Shape, state}
+use Rattle.btree_descent.specs.row_words.declared.event.Event.{Event}
+use Rattle.btree_descent.specs.row_words.declared.event.Event.TheVariants as told
+use Rattle.btree_descent.specs.row_words.declared.given.Given.{Given}
+use Rattle.btree_descent.specs.row_words.Moments.{Moment, event_of, events_of}
+use Rattle.btree_descent.specs.row_words.Openings.{opening}
+use Rattle.btree_descent.specs.rows_trait.declared.view.View.{View}
+use Rattle.btree_descent.specs.rows_trait.Views.{Shape, state}
 use Rattle.session_desks.specs.Desks.{desk_of}
 use Rattle.session_desks.specs.Parts.{HasLogs, HasTurned, IsSound, MakesSync, Works, here, logs, shape}
 use Rattle.session_desks.specs.Parts as desks
@@ -44,7 +44,7 @@ use Rattle.session_desks.proofs.FloorLemmas.{seen_more}
 use Rattle.session_desks.proofs.SyncViews.{events_more}
 use Rattle.session_state.specs.Ties.{Behind}
 use Rattle.session_state.specs.declared.session.Session.{Session}
-use Rattle.worker_log.specs.Logs.{Log}
+use Rattle.disk_runs.specs.worker_log.Logs.{Log}
 use Rattle.paged_desks.specs.Machines.{IsNobodyInside, IsReady, memory, pages}
 use Rattle.core_calls.specs.LogEvents.{AreFlushes}
 use Rattle.paged_desks.specs.Pages.{AreKept, ArePaging, is_paging}
@@ -78,9 +78,9 @@ module _ (g : Opening) (s t : State) (r : IsFlushed s t) where
 -- behind events that do nothing to pages it keeps what it has to
 pub keeps_on : (z y : Shape) (v u : View) (k : Provider) → y.alone ≡ true → u.given ≡ v.given → y.sizes.frames ≡ k.frames → y.sizes.workers ≡ k.workers → IsFlushed (state v).core (state u).core → Keeps z v k → Keeps y u k
 keeps_on z y v u k alone given frames workers r c = record {
-  actor = ap (λ b. Rattle.rows_trait.specs.Views.may b u Rattle.row_words.specs.Moments.pager) alone;
+  actor = ap (λ b. Rattle.btree_descent.specs.rows_trait.Views.may b u Rattle.btree_descent.specs.row_words.Moments.pager) alone;
   sound = subst Rattle.btree_descent.specs.Known.IsSound (sym given) c.sound;
-  waiting = subst (λ (q : Given). (es : List Event) → Rattle.core_paging.specs.Paging.Waiting (Rattle.rows_trait.specs.Views.after_all q es).core) (sym given) c.waiting;
+  waiting = subst (λ (q : Given). (es : List Event) → Rattle.btree_descent.specs.core_paging.Paging.Waiting (Rattle.btree_descent.specs.rows_trait.Views.after_all q es).core) (sym given) c.waiting;
   sized = record { some = c.sized.some; shape = frames; given = ap (λ (q : Given). (opening q).frames) given ∙ c.sized.given };
   some = c.some;
   workers = (workers, ap (λ (q : Given). (opening q).workers) given ∙ c.workers.1);
@@ -97,7 +97,7 @@ fed_same z y v u k old new r tells same given h faithful = let f = h (sym (ap (�
   mirrored = record {
     mirrors = λ t p lt page holds.
         f.mirrored.mirrors f.tells p lt page (subst (λ (a : Area). HoldsLast k.slots k.generation p a.bytes page) same holds) ∙ sym (ap (λ (q : State). q.saved p) r.is);
-    spans = λ t. subst (λ (a : Area). Rattle.page_store.specs.Saved.Reaches (length k.slots) a.bytes) (sym same) (f.mirrored.spans f.tells);
+    spans = λ t. subst (λ (a : Area). Rattle.disk_runs.specs.page_store.Saved.Reaches (length k.slots) a.bytes) (sym same) (f.mirrored.spans f.tells);
   };
 }
 

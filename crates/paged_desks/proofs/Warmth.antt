@@ -4,9 +4,9 @@ use Rattle.btree_descent.specs.Known.{Sound}
 use Rattle.cold_pages.specs.Laws.{IsButEntries}
 use Rattle.core_calls.specs.Room.{free_list}
 use Rattle.core_calls.specs.Warms.{EveryWarm, IsWarmFrom}
-use Rattle.core_state.specs.Openings.{Opening}
-use Rattle.core_state.specs.States.{State, is_hot}
-use Rattle.image_model.specs.Entries.{Contents}
+use Rattle.btree_descent.specs.core_state.Openings.{Opening}
+use Rattle.btree_descent.specs.core_state.States.{State, is_hot}
+use Rattle.btree_descent.specs.image_model.Entries.{Contents}
 use Rattle.lean_disk.specs.Story.{Story}
 use Rattle.page_model.specs.Nodes.{covers}
 use Rattle.page_provider.specs.declared.refusal.Refusal.{Refusal}
@@ -16,9 +16,9 @@ use Rattle.paged_rows.specs.Paged.{IsPaged, IsWarm, Paged}
 use Rattle.paged_rows.specs.Warms.{Brings, CanBring, HasCome, IsRefusedTo, most_a_page}
 use Rattle.paged_rows.specs.declared.wanted.Wanted.{Wanted}
 use Rattle.paged_rows.specs.declared.wanted.Wanted.TheVariants as want
-use Rattle.row_words.specs.declared.given.Given.{Given}
-use Rattle.row_words.specs.Openings.{opening}
-use Rattle.rows_trait.specs.Views.{state}
+use Rattle.btree_descent.specs.row_words.declared.given.Given.{Given}
+use Rattle.btree_descent.specs.row_words.Openings.{opening}
+use Rattle.btree_descent.specs.rows_trait.Views.{state}
 use Rattle.session_desks.specs.Parts.{here, shape}
 use Rattle.session_desks.proofs.SeatLemmas.{holds_of}
 use Rattle.paged_desks.specs.Machines.{IsReady, pages, view_of}

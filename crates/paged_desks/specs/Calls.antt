@@ -5,15 +5,15 @@ use Rattle.map_model.specs.declared.call.Answer.TheVariants as answer
 use Rattle.map_model.specs.declared.call.Call.{Call}
 use Rattle.map_model.specs.declared.call.Refusal.{Refusal}
 use Rattle.map_model.specs.declared.call.Refusal.TheVariants as refusal
-use Rattle.core_state.specs.Openings.{Opening}
-use Rattle.core_state.specs.Steps.{state_after}
+use Rattle.btree_descent.specs.core_state.Openings.{Opening}
+use Rattle.btree_descent.specs.core_state.Steps.{state_after}
 use Rattle.core_calls.specs.Fronts.{Done, front, outcomes}
 use Rattle.disk_runs.specs.Stands.{Known}
 use Rattle.lean_disk.specs.Story.{Crash, Story}
 use Rattle.engine_calls.specs.Clauses.{Between, IsNewLine}
 use Rattle.engine_trait.specs.Calls.{is_half_done}
 use Rattle.engine_trait.specs.Limits.{limits}
-use Rattle.rows_trait.specs.declared.view.View.{View}
+use Rattle.btree_descent.specs.rows_trait.declared.view.View.{View}
 use Rattle.call_parts.specs.Deeds.{Does, Fails}
 use Rattle.call_parts.specs.Memory.{IsOf, Memory}
 use Rattle.session_state.specs.Ties.{Ties}

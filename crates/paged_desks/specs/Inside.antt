@@ -2,8 +2,8 @@
 use Rattle.std.specs.Prelude.{◌≡◌, ◌≤◌, ◌<◌, ◌+◌, ◌*◌, ◌-◌, ℕ, Bool, true, false, List, length, Option, Some, None}
 use Rattle.call_parts.specs.Parts.{Failed, Part}
 use Rattle.call_parts.specs.Rooms as rooms
-use Rattle.core_state.specs.Events as happening
-use Rattle.core_state.specs.States.{Place}
+use Rattle.btree_descent.specs.core_state.Events as happening
+use Rattle.btree_descent.specs.core_state.States.{Place}
 use Rattle.desk_parts.specs.Pages.{StaysWithin}
 use Rattle.lean_disk.specs.Story.{Story}
 use Rattle.page_provider.specs.Disks.{Disked}
@@ -13,8 +13,8 @@ use Rattle.paged_rows.specs.Paged.{IsWarm}
 use Rattle.paged_rows.specs.Warms.{IsCrowded, ReadsUnlessSaved}
 use Rattle.paged_rows.specs.declared.wanted.Wanted.{Wanted}
 use Rattle.paged_rows.specs.declared.wanted.Wanted.TheVariants as want
-use Rattle.rows_trait.specs.declared.view.View.{View}
-use Rattle.rows_trait.specs.Views.{state}
+use Rattle.btree_descent.specs.rows_trait.declared.view.View.{View}
+use Rattle.btree_descent.specs.rows_trait.Views.{state}
 use Rattle.session_desks.specs.Parts.{AreAsMany, SeatFits, shape}
 use Rattle.paged_desks.specs.Machines.{memory, pages, view_of}
 use Rattle.paged_desks.specs.Pages.{HasPaged, hot_in}

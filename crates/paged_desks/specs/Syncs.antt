@@ -4,15 +4,15 @@ use Rattle.call_parts.specs.Parts.{Failed, Part}
 use Rattle.core_calls.specs.Fronts.{Done}
 use Rattle.core_calls.specs.LogEvents.{IsSync}
 use Rattle.core_covers.specs.Lows.{IsAllFlushed}
-use Rattle.core_state.specs.Events as happening
-use Rattle.core_state.specs.Openings.{Opening}
-use Rattle.core_state.specs.States.{State, Worker}
+use Rattle.btree_descent.specs.core_state.Events as happening
+use Rattle.btree_descent.specs.core_state.Openings.{Opening}
+use Rattle.btree_descent.specs.core_state.States.{State, Worker}
 use Rattle.engine_trait.specs.Logs.{Logs}
 use Rattle.lean_disk.specs.Story.{Story}
-use Rattle.row_words.specs.declared.event.Event.{Event}
-use Rattle.row_words.specs.Moments.{events_of}
-use Rattle.row_words.specs.Openings.{opening}
-use Rattle.rows_trait.specs.Views.{state}
+use Rattle.btree_descent.specs.row_words.declared.event.Event.{Event}
+use Rattle.btree_descent.specs.row_words.Moments.{events_of}
+use Rattle.btree_descent.specs.row_words.Openings.{opening}
+use Rattle.btree_descent.specs.rows_trait.Views.{state}
 use Rattle.session_desks.specs.Parts.{AreAsMany, SeatFits, logs}
 use Rattle.session_state.specs.Ties.{Behind}
 use Rattle.paged_desks.specs.Machines.{memory, view_of}

@@ -2,14 +2,14 @@
 ghost use Rattle.core_calls.specs.LogEvents.{EveryWhere};
 ghost use Rattle.core_calls.specs.Warms.{EveryWarm};
 ghost use Rattle.core_covers.specs.Lows.{EveryLow, EverySync};
-ghost use Rattle.core_disk.specs.Versions.{EveryVersion};
-ghost use Rattle.disk_image.specs.Laws.{EverySealed};
+ghost use Rattle.disk_runs.specs.core_disk.Versions.{EveryVersion};
+ghost use Rattle.disk_runs.specs.disk_image.Laws.{EverySealed};
 ghost use Rattle.page_pool.specs.Counts.{EveryFrame};
 ghost use Rattle.page_provider.specs.Amounts.{EveryFew};
 ghost use Rattle.page_provider.specs.Sequels.{EverySequel};
 ghost use Rattle.row_opening.specs.Openings.{EveryNeed, EveryReached};
 ghost use Rattle.session_state.specs.Syncs.{EveryFlush};
-ghost use Rattle.worker_log.specs.Laws.{EveryKept, EveryPrefix};
+ghost use Rattle.disk_runs.specs.worker_log.Laws.{EveryKept, EveryPrefix};
 
 // The laws of ways, of syncs, of the pager's calls, and of rows in a run.
 pub(crate) fn laws()

@@ -9,13 +9,14 @@ ghost use Rattle.paged_desks.specs.Inside.{AwayCause, HasBroken, HasDone, IsBesi
 ghost use Rattle.paged_desks.specs.Syncs.{HasNotSynced, IsSynced};
 
 use crate::laws::laws;
+use btree_descent::rows_trait;
+use btree_descent::rows_trait::rows::Rows;
+use disk_runs::worker_log::DiskFault;
 use lean_disk::AreaOf;
 use page_provider::{Pager, Refusal};
 use paged_rows::{Wanted, bring_wanted};
-use rows_trait::rows::Rows;
 use session_desks::Machine;
 use session_state::Stages;
-use worker_log::DiskFault;
 
 /// Sessions that take turns on rows and a disk, and the pager that moves pages between these two.
 pub struct PagedMachine<D> {

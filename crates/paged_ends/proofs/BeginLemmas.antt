@@ -8,9 +8,9 @@ use Rattle.map_model.specs.declared.call.Refusal.TheVariants as refusal
 use Rattle.core_calls.specs.Fronts.{Done, front}
 use Rattle.core_calls.specs.LogEvents.{Prepares, PreparesBy, is_log}
 use Rattle.core_calls.specs.Steps.{is_step, is_structure}
-use Rattle.core_state.specs.Openings.{Opening}
-use Rattle.core_state.specs.States.{State}
-use Rattle.core_state.specs.Steps.{state_after}
+use Rattle.rows_trait.specs.core_state.Openings.{Opening}
+use Rattle.rows_trait.specs.core_state.States.{State}
+use Rattle.rows_trait.specs.core_state.Steps.{state_after}
 use Rattle.disk_runs.specs.MasterLaws.{raised}
 use Rattle.engine_calls.specs.Answers.{EveryAnswer}
 use Rattle.engine_calls.specs.Clauses.{EveryComing}
@@ -21,7 +21,7 @@ use Rattle.engine_trait.specs.Refusals.{log_refusal, refusal_in}
 use Rattle.engine_trait.specs.Rooms.{needs_sync}
 use Rattle.lean_disk.specs.Faults.{HasCause}
 use Rattle.lean_disk.specs.Story.{IsLawful, Story}
-use Rattle.row_words.specs.Moments.{events_of}
+use Rattle.rows_trait.specs.row_words.Moments.{events_of}
 use Rattle.rows_trait.specs.Views.{state}
 use Rattle.row_ends.proofs.BeginLemmas.{begin_told, test_is}
 use Rattle.row_ends.specs.Tests.{begin_test}
@@ -33,7 +33,7 @@ use Rattle.session_desks.proofs.SeatLemmas.{holds_of, turn_high, turn_low}
 use Rattle.session_desks.specs.Desks.{desk_of}
 use Rattle.session_desks.specs.Parts.{AreAsMany, here, shape}
 use Rattle.session_desks.specs.declared.desk.Desk.{Desk}
-use Rattle.worker_log.specs.Logs.{Log, limit, used}
+use Rattle.disk_runs.specs.worker_log.Logs.{Log, limit, used}
 use Rattle.call_parts.proofs.RunLemmas.{core_is, front_is}
 use Rattle.call_parts.proofs.StepLemmas.{every_step}
 use Rattle.paged_desks.specs.Calls as calls

@@ -17,10 +17,10 @@ use Rattle.core_calls.specs.Refusals.{IsCause}
 use Rattle.core_calls.specs.Runs.{Tells}
 use Rattle.core_calls.specs.Scans.{StopsOnWay}
 use Rattle.core_calls.specs.Steps.{Tries, call_behind, is_step, is_structure}
-use Rattle.core_state.specs.Events as happening
-use Rattle.core_state.specs.Openings.{Opening}
-use Rattle.core_state.specs.States.{State}
-use Rattle.core_state.specs.Steps.{AllMet, state_after}
+use Rattle.rows_trait.specs.core_state.Events as happening
+use Rattle.rows_trait.specs.core_state.Openings.{Opening}
+use Rattle.rows_trait.specs.core_state.States.{State}
+use Rattle.rows_trait.specs.core_state.Steps.{AllMet, state_after}
 use Rattle.engine_calls.proofs.MarkLemmas.{any_append, keep_none}
 use Rattle.engine_calls.specs.Answers.{EveryAnswer}
 use Rattle.engine_calls.specs.Begins.{IsBegin, begun_by}
@@ -32,9 +32,9 @@ use Rattle.engine_trait.specs.Limits.{limits}
 use Rattle.engine_trait.specs.Refusals.{log_refusal, refusal_in}
 use Rattle.engine_trait.specs.Rooms.{MakesItsRoom}
 use Rattle.lean_disk.specs.Story.{IsLawful, Story}
-use Rattle.row_words.specs.declared.event.Event.{Event}
-use Rattle.row_words.specs.declared.event.Event.TheVariants as told
-use Rattle.row_words.specs.Moments.{events_of}
+use Rattle.rows_trait.specs.row_words.declared.event.Event.{Event}
+use Rattle.rows_trait.specs.row_words.declared.event.Event.TheVariants as told
+use Rattle.rows_trait.specs.row_words.Moments.{events_of}
 use Rattle.rows_trait.specs.Views.{state}
 use Rattle.session_state.proofs.Moments.{events_more}
 use Rattle.session_state.specs.Ties.{Behind}
@@ -43,7 +43,7 @@ use Rattle.session_desks.proofs.DeskLemmas.{desk_own}
 use Rattle.session_desks.specs.Desks.{desk_of}
 use Rattle.session_desks.specs.Parts.{AreAsMany, here}
 use Rattle.session_desks.specs.declared.desk.Desk.{Desk}
-use Rattle.worker_log.specs.Logs.{Log, limit, used}
+use Rattle.disk_runs.specs.worker_log.Logs.{Log, limit, used}
 use Rattle.call_parts.proofs.RunLemmas.{behind_more, core_is}
 use Rattle.call_parts.specs.Deeds.{Answers}
 use Rattle.call_parts.specs.Parts.{Part}

@@ -2,8 +2,8 @@
 use Rattle.std.proofs.Common.{◌∙◌, ◌++◌, ℕ, List, [], ◌∷◌, ap, refl, sym, subst}
 use Rattle.engine_calls.proofs.MoveLemmas.{every_move}
 use Rattle.lean_disk.specs.Story.{IsLawful, Story}
-use Rattle.row_words.specs.declared.event.Event.{Event}
-use Rattle.row_words.specs.declared.event.Event.TheVariants as told
+use Rattle.rows_trait.specs.row_words.declared.event.Event.{Event}
+use Rattle.rows_trait.specs.row_words.declared.event.Event.TheVariants as told
 use Rattle.row_ends.specs.Begins.{Begins}
 use Rattle.session_desks.specs.Parts.{SeatFits, shape}
 use Rattle.session_state.specs.Holds.{Holds, IsSameSession}

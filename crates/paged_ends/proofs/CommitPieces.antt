@@ -14,10 +14,10 @@ use Rattle.core_calls.specs.LogEvents.{is_log}
 use Rattle.core_calls.specs.Marks.{is_half}
 use Rattle.core_calls.specs.Scans.{StopsOnWay}
 use Rattle.core_calls.specs.Steps.{Tries, call_behind, is_step}
-use Rattle.core_state.specs.Events as happening
-use Rattle.core_state.specs.Openings.{Opening}
-use Rattle.core_state.specs.States.{State}
-use Rattle.core_state.specs.Steps.{state_after}
+use Rattle.rows_trait.specs.core_state.Events as happening
+use Rattle.rows_trait.specs.core_state.Openings.{Opening}
+use Rattle.rows_trait.specs.core_state.States.{State}
+use Rattle.rows_trait.specs.core_state.Steps.{state_after}
 use Rattle.engine_calls.proofs.MarkLemmas.{keep_none}
 use Rattle.engine_calls.specs.Answers.{EveryAnswer}
 use Rattle.engine_calls.specs.Clauses.{EveryComing, IsNewLine}
@@ -30,9 +30,9 @@ use Rattle.engine_trait.specs.Rooms.{MakesItsRoom}
 use Rattle.lean_disk.proofs.MomentLemmas.{framed}
 use Rattle.lean_disk.specs.Moments.{Framed}
 use Rattle.lean_disk.specs.Story.{IsLawful, Story}
-use Rattle.row_words.specs.declared.event.Event.{Event}
-use Rattle.row_words.specs.Moments.{events_of}
-use Rattle.row_words.specs.Openings.{opening}
+use Rattle.rows_trait.specs.row_words.declared.event.Event.{Event}
+use Rattle.rows_trait.specs.row_words.Moments.{events_of}
+use Rattle.rows_trait.specs.row_words.Openings.{opening}
 use Rattle.rows_trait.specs.Views.{state}
 use Rattle.row_ends.proofs.GoingLemmas.{not_going, tests_as}
 use Rattle.row_ends.proofs.Misses.{misses_core, misses_log, misses_met, misses_quiet, misses_steps, misses_structure}
@@ -49,7 +49,7 @@ use Rattle.session_desks.proofs.SeatLemmas.{holds_of, turn_high, turn_low}
 use Rattle.session_desks.specs.Machines.{AreLogged}
 use Rattle.session_desks.specs.Parts.{SeatFits, here, shape}
 use Rattle.session_desks.specs.declared.desk.Desk.{Desk}
-use Rattle.worker_log.specs.Logs.{Log}
+use Rattle.disk_runs.specs.worker_log.Logs.{Log}
 use Rattle.call_parts.proofs.RunLemmas.{behind_more, core_is}
 use Rattle.call_parts.proofs.StepLemmas.{every_step}
 use Rattle.call_parts.specs.Memory.{Memory}

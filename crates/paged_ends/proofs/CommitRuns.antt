@@ -13,12 +13,12 @@ use Rattle.core_calls.specs.Fronts.{Done, front, outcomes}
 use Rattle.core_calls.specs.LogEvents as log_events
 use Rattle.core_calls.specs.Runs.{Tells}
 use Rattle.core_calls.specs.Steps.{call_behind, is_structure}
-use Rattle.core_state.specs.Events as happening
-use Rattle.core_state.specs.Needs.{holds_row}
-use Rattle.core_state.specs.Openings.{Opening}
-use Rattle.core_state.specs.States.{State}
-use Rattle.core_state.specs.Steps.{AllMet, state_after}
-use Rattle.disk_image.specs.Records.{entry_of}
+use Rattle.rows_trait.specs.core_state.Events as happening
+use Rattle.rows_trait.specs.core_state.Needs.{holds_row}
+use Rattle.rows_trait.specs.core_state.Openings.{Opening}
+use Rattle.rows_trait.specs.core_state.States.{State}
+use Rattle.rows_trait.specs.core_state.Steps.{AllMet, state_after}
+use Rattle.disk_runs.specs.disk_image.Records.{entry_of}
 use Rattle.disk_runs.specs.Quiet.{is_quiet}
 use Rattle.engine_calls.proofs.MoveLemmas.{every_move}
 use Rattle.engine_calls.proofs.UnlockLemmas.{unlocks_quiet}
@@ -32,12 +32,12 @@ use Rattle.engine_trait.specs.Limits.{limits}
 use Rattle.engine_trait.specs.Refusals.{refusal_in}
 use Rattle.engine_trait.specs.Rooms.{MakesItsRoom}
 use Rattle.lean_disk.specs.Story.{IsLawful, Story}
-use Rattle.log_record.specs.declared.record.Body.TheVariants as body
-use Rattle.log_record.specs.declared.record.Record.{Record}
-use Rattle.row_words.specs.declared.event.Event.{Event}
-use Rattle.row_words.specs.declared.event.Event.TheVariants as told
-use Rattle.row_words.specs.Moments.{events_of}
-use Rattle.row_words.specs.Openings.{opening}
+use Rattle.disk_runs.specs.log_record.declared.record.Body.TheVariants as body
+use Rattle.disk_runs.specs.log_record.declared.record.Record.{Record}
+use Rattle.rows_trait.specs.row_words.declared.event.Event.{Event}
+use Rattle.rows_trait.specs.row_words.declared.event.Event.TheVariants as told
+use Rattle.rows_trait.specs.row_words.Moments.{events_of}
+use Rattle.rows_trait.specs.row_words.Openings.{opening}
 use Rattle.rows_trait.specs.declared.view.View.{View}
 use Rattle.rows_trait.specs.Views.{Shape, state}
 use Rattle.row_ends.proofs.LatchLemmas.{gives_events}
@@ -49,8 +49,8 @@ use Rattle.session_state.specs.Staging.{KeepsLog}
 use Rattle.session_state.specs.Ties.{Behind}
 use Rattle.session_state.specs.declared.session.Session.{Session}
 use Rattle.log_calls.specs.Calls.{StagesOn}
-use Rattle.worker_log.specs.Calls.{After}
-use Rattle.worker_log.specs.Logs.{Log}
+use Rattle.disk_runs.specs.worker_log.Calls.{After}
+use Rattle.disk_runs.specs.worker_log.Logs.{Log}
 use Rattle.call_parts.proofs.JoinLemmas.{every_join}
 use Rattle.call_parts.proofs.OwnLemmas.{every_own}
 use Rattle.call_parts.proofs.RunLemmas.{behind_more, core_is}
@@ -132,7 +132,7 @@ module _ (l : Grounds) (enter : EveryEnter) {D : Type 0} (story : D → Story) (
       ((every_own l.reached l.needs (story at) (story new) many own u w ended is low high workers_u).flush (suc x.clock.clock) (record {
         sees = record { given = f.given; seen = f.seen; met = (f.met, tt) };
         within = (let a = ap (λ (k : Log). k.last) own_is in let b = e.last in omega arith);
-        after = f.after ∙ ap Rattle.worker_log.specs.Calls.flushed_log (sym own_is);
+        after = f.after ∙ ap Rattle.disk_runs.specs.worker_log.Calls.flushed_log (sym own_is);
         stands = subst (λ (k : Log). Rattle.log_calls.specs.Calls.FlushesOn own k is (story at) (story new)) (sym own_is) f.stands;
         keeps = subst (λ (k : Log). KeepsLog own k (story at) (story new)) (sym own_is) keeps;
       }))
@@ -150,8 +150,8 @@ module _ (l : Grounds) (enter : EveryEnter) {D : Type 0} (story : D → Story) (
       saves : (any Rattle.call_parts.specs.Areas.is_save (events_of events) || false) ≡ false
       saves = ap (λ ys. any Rattle.call_parts.specs.Areas.is_save ys || false) events_are ∙ ap (λ b. b || false) (unlocks_none Rattle.call_parts.specs.Areas.is_save (λ _ _. refl) e.ended.rows)
 
-      syncs : (any Rattle.core_state.specs.Local.is_sync (events_of events) || false) ≡ false
-      syncs = ap (λ ys. any Rattle.core_state.specs.Local.is_sync ys || false) events_are ∙ ap (λ b. b || false) (unlocks_none Rattle.core_state.specs.Local.is_sync (λ _ _. refl) e.ended.rows)
+      syncs : (any Rattle.rows_trait.specs.core_state.Local.is_sync (events_of events) || false) ≡ false
+      syncs = ap (λ ys. any Rattle.rows_trait.specs.core_state.Local.is_sync ys || false) events_are ∙ ap (λ b. b || false) (unlocks_none Rattle.rows_trait.specs.core_state.Local.is_sync (λ _ _. refl) e.ended.rows)
 
 -- ## In a run
 

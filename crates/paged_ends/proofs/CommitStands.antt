@@ -3,17 +3,17 @@ use Rattle.std.proofs.Common.{◌≡◌, ◌∙◌, ◌≤◌, ◌<◌, ◌⊎�
 use Rattle.std.proofs.lemmas.Bool.{cases_eq}
 use Rattle.map_model.proofs.ListLemmas.{upd_other, upd_same}
 use Rattle.map_model.specs.Lists.{Has}
-use Rattle.image_model.specs.Entries.{Entry, Kind, is_record}
-use Rattle.core_state.specs.Events as happening
-use Rattle.core_state.specs.Needs.{may}
-use Rattle.core_state.specs.Openings.{Opening}
-use Rattle.core_state.specs.States.{State}
-use Rattle.core_state.specs.Steps.{end_entry, ends, happens, run, step}
+use Rattle.rows_trait.specs.image_model.Entries.{Entry, Kind, is_record}
+use Rattle.rows_trait.specs.core_state.Events as happening
+use Rattle.rows_trait.specs.core_state.Needs.{may}
+use Rattle.rows_trait.specs.core_state.Openings.{Opening}
+use Rattle.rows_trait.specs.core_state.States.{State}
+use Rattle.rows_trait.specs.core_state.Steps.{end_entry, ends, happens, run, step}
 use Rattle.engine_calls.specs.Commits.{unlocks}
 use Rattle.lean_disk.specs.Moments.{Framed}
 use Rattle.lean_disk.specs.Story.{Story}
-use Rattle.row_words.specs.declared.event.Event.TheVariants as told
-use Rattle.row_words.specs.Openings.{opening}
+use Rattle.rows_trait.specs.row_words.declared.event.Event.TheVariants as told
+use Rattle.rows_trait.specs.row_words.Openings.{opening}
 use Rattle.rows_trait.specs.declared.view.View.{View}
 use Rattle.rows_trait.specs.Views.{Shape, state}
 use Rattle.row_ends.proofs.CommitLemmas.{core_w, entries_w, flushed_w}
@@ -32,7 +32,7 @@ use Rattle.session_desks.proofs.SeatLemmas.{holds_of, turn_high, turn_low}
 use Rattle.session_desks.specs.Machines.{IsLogged}
 use Rattle.session_desks.specs.Parts.{HasLogs, SeatFits, here, logs, shape}
 use Rattle.session_desks.specs.declared.desk.Desk.{Desk}
-use Rattle.worker_log.specs.Logs.{Log}
+use Rattle.disk_runs.specs.worker_log.Logs.{Log}
 use Rattle.paged_desks.specs.Calls.{IsAside}
 use Rattle.paged_desks.specs.Machines.{IsReady, view_of}
 use Rattle.paged_desks.specs.declared.machine.PagedMachine.{PagedMachine}

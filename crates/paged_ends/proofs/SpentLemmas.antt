@@ -10,9 +10,9 @@ use Rattle.core_calls.specs.Marks.{Mark, is_half}
 use Rattle.core_calls.specs.Scans.{StopsOnWay}
 use Rattle.core_calls.proofs.ScanLemmas.{stops_none}
 use Rattle.core_calls.specs.Steps.{Tries, call_behind}
-use Rattle.core_state.specs.Openings.{Opening}
-use Rattle.core_state.specs.States.{State}
-use Rattle.core_state.specs.Steps.{state_after}
+use Rattle.rows_trait.specs.core_state.Openings.{Opening}
+use Rattle.rows_trait.specs.core_state.States.{State}
+use Rattle.rows_trait.specs.core_state.Steps.{state_after}
 use Rattle.engine_calls.specs.Answers.{EveryAnswer}
 use Rattle.engine_calls.specs.Clauses.{EveryComing, IsNewLine}
 use Rattle.engine_calls.specs.Refused.{IsRefusal, refused_by}

@@ -2,7 +2,7 @@
 use Rattle.std.proofs.Common.{◌≡◌, ◌∙◌, ◌||◌, ◌++◌, ℕ, Bool, true, false, List, [], ◌∷◌, ap, refl, sym, subst, true≢false}
 use Rattle.map_model.specs.Lists.{any, keep}
 use Rattle.core_calls.specs.LogEvents.{AreFlushes, IsSync, is_log}
-use Rattle.core_state.specs.Events.{Event}
+use Rattle.rows_trait.specs.core_state.Events.{Event}
 use Rattle.engine_calls.proofs.MarkLemmas.{any_append, keep_append}
 
 either : (a b : Bool) → a ≡ false → b ≡ false → (a || b) ≡ false

@@ -10,9 +10,9 @@ use Rattle.core_calls.specs.Fronts.{Done, front, outcomes}
 use Rattle.core_calls.specs.Marks.{Mark}
 use Rattle.core_calls.specs.Runs.{Tells}
 use Rattle.core_calls.specs.Steps.{call_behind, is_step, is_structure}
-use Rattle.core_state.specs.Events.{Event}
-use Rattle.core_state.specs.Openings.{Opening}
-use Rattle.core_state.specs.Steps.{AllMet, state_after}
+use Rattle.rows_trait.specs.core_state.Events.{Event}
+use Rattle.rows_trait.specs.core_state.Openings.{Opening}
+use Rattle.rows_trait.specs.core_state.Steps.{AllMet, state_after}
 use Rattle.engine_calls.proofs.ComingLemmas.{follows, goes_on}
 use Rattle.engine_calls.proofs.MarkLemmas.{fresh_none, has_mark, keep_none, marks_none}
 use Rattle.engine_calls.specs.Clauses.{IsNewLine}
@@ -22,7 +22,7 @@ use Rattle.engine_trait.specs.Limits.{limits}
 use Rattle.engine_trait.specs.Refusals.{refusal_in}
 use Rattle.engine_trait.specs.Rooms.{MakesItsRoom, needs_sync}
 use Rattle.lean_disk.specs.Story.{IsLawful, Story}
-use Rattle.row_words.specs.Moments.{events_of}
+use Rattle.rows_trait.specs.row_words.Moments.{events_of}
 use Rattle.call_parts.specs.Deeds.{Answers, Fails}
 use Rattle.call_parts.specs.Rooms.{IsRoomFor, makes_sync, may_save}
 use Rattle.session_desks.proofs.SeatLemmas.{holds_of}

@@ -4,7 +4,7 @@ use Rattle.map_model.specs.declared.call.Answer.{Answer}
 use Rattle.map_model.specs.declared.call.Answer.TheVariants as answer
 use Rattle.map_model.specs.declared.call.Call.TheVariants as call
 use Rattle.map_model.specs.declared.call.Refusal.{Refusal}
-use Rattle.core_state.specs.Openings.{Opening}
+use Rattle.rows_trait.specs.core_state.Openings.{Opening}
 use Rattle.core_calls.specs.Fronts.{Done, outcomes}
 use Rattle.engine_calls.specs.Clauses.{IsNewLine}
 use Rattle.engine_trait.specs.Rooms.{needs_sync}

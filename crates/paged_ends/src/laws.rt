@@ -1,6 +1,6 @@
 // What the calls rest on.
-ghost use Rattle.core_disk.specs.Versions.{EveryVersion};
-ghost use Rattle.disk_image.specs.Laws.{EverySealed};
+ghost use Rattle.disk_runs.specs.core_disk.Versions.{EveryVersion};
+ghost use Rattle.disk_runs.specs.disk_image.Laws.{EverySealed};
 ghost use Rattle.engine_calls.specs.Answers.{EveryAnswer};
 ghost use Rattle.engine_calls.specs.Clauses.{EveryComing};
 ghost use Rattle.engine_calls.specs.Entries.{EveryEntry};
@@ -8,7 +8,7 @@ ghost use Rattle.page_pool.specs.Pools.{EveryStanding};
 ghost use Rattle.row_opening.specs.Openings.{EveryNeed, EveryReached};
 ghost use Rattle.session_state.specs.Others.{EveryOther};
 ghost use Rattle.session_state.specs.Syncs.{EveryFlush};
-ghost use Rattle.worker_log.specs.Laws.{EveryKept, EveryPrefix};
+ghost use Rattle.disk_runs.specs.worker_log.Laws.{EveryKept, EveryPrefix};
 
 // The laws of versions, logs, seals and openings, of answers and entries, of other sessions and of flushes, and of what the pager knows over their steps.
 pub(crate) fn laws()

@@ -11,10 +11,10 @@ ghost use Rattle.paged_desks.specs.Parts.{IsCramped};
 ghost use Rattle.paged_ends.specs.Ends.{sync_answer};
 
 use crate::laws::laws;
+use disk_runs::worker_log::DiskFault;
 use map_model::Refusal;
 use paged_desks::PagedMachine;
 use session_state::Stages;
-use worker_log::DiskFault;
 
 /// Flushes every log, and raises every clock, and what is flushed of every log, to the greatest clock; where some log ends below that, the next master is
 /// written first. The answer is that number. Where an abort is half done and what it has still to put back would find no room behind a flush of its log, it is refused,

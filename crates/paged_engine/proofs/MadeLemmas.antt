@@ -1,12 +1,12 @@
 -- The logs and desks that are made as a machine is opened.
 use Rattle.std.proofs.Common.{◌≡◌, ⊎_elim, ◌+◌, ◌++◌, ◌∷◌, [], ℕ, List, length, slice_get, Some, Result, Ok, Err, IfOk, sym, subst, arith}
-use Rattle.disk_slots.specs.declared.master.Master.{Master}
+use Rattle.disk_runs.specs.disk_slots.declared.master.Master.{Master}
 use Rattle.lean_disk.specs.Area.{Area}
 use Rattle.recovery.proofs.LoadLemmas.{get_more}
 use Rattle.session_state.specs.declared.session.Session.{Session}
 use Rattle.run_opening.specs.Starts.{empty_log}
-use Rattle.worker_log.specs.Kept.{IsFresh, IsInRange, IsKept, fresh_account}
-use Rattle.worker_log.specs.Logs.{Log}
+use Rattle.disk_runs.specs.worker_log.Kept.{IsFresh, IsInRange, IsKept, fresh_account}
+use Rattle.disk_runs.specs.worker_log.Logs.{Log}
 use Rattle.paged_engine.specs.Openings.{IsFurther, IsMadeBy}
 use Rattle.session_desks.specs.declared.desk.Desk.{Desk}
 

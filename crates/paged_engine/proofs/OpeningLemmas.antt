@@ -6,17 +6,17 @@ use Rattle.page_model.specs.Page.{Page}
 use Rattle.page_model.specs.Nodes.{Format, Node, holds}
 use Rattle.page_model.specs.Pairs.{find}
 use Rattle.page_model.specs.Tree.{entry, value_of}
-use Rattle.image_model.specs.Entries.{Contents}
-use Rattle.image_model.specs.Images.{Image, map_of, recovered_page}
-use Rattle.image_model.specs.Laws.{EveryUndone, UndoneLaws}
-use Rattle.image_model.proofs.WordLemmas.{words}
-use Rattle.core_state.specs.Openings.{Opening, first_map, start_page}
+use Rattle.btree_descent.specs.image_model.Entries.{Contents}
+use Rattle.btree_descent.specs.image_model.Images.{Image, map_of, recovered_page}
+use Rattle.btree_descent.specs.image_model.Laws.{EveryUndone, UndoneLaws}
+use Rattle.btree_descent.proofs.image_model_lemmas.WordLemmas.{words}
+use Rattle.btree_descent.specs.core_state.Openings.{Opening, first_map, start_page}
 use Rattle.lean_disk.specs.Story.{Story, areas_of, Tells}
 use Rattle.disk_runs.specs.Pages.{Firm}
-use Rattle.disk_slots.specs.declared.master.Master.{Master}
-use Rattle.disk_image.specs.Formats.{format_of}
-use Rattle.disk_image.specs.Shown.{Areas, IsCleanDisk, image_by}
-use Rattle.worker_log.specs.Logs.{Log}
+use Rattle.disk_runs.specs.disk_slots.declared.master.Master.{Master}
+use Rattle.disk_runs.specs.disk_image.Formats.{format_of}
+use Rattle.disk_runs.specs.disk_image.Shown.{Areas, IsCleanDisk, image_by}
+use Rattle.disk_runs.specs.worker_log.Logs.{Log}
 use Rattle.recovery.specs.Masters.{IsOpenable}
 use Rattle.recovery.specs.Opened.{IsGreatest, IsRecovered, IsUntouched, Keeps}
 use Rattle.recovery.specs.Own.{EveryOwn}

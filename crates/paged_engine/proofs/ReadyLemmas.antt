@@ -1,16 +1,16 @@
 -- What an opening made is a machine that is ready, at the start of a run.
 use Rattle.std.proofs.Common.{◌≡◌, ◌≤◌, ◌<◌, ◌+◌, ◌-◌, ◌^◌, ℕ, suc, true, false, List, [], length, map, replicate, refl, sym, ap, ◌∙◌, subst, arith}
-use Rattle.image_model.specs.Laws.{EveryUndone}
-use Rattle.core_state.specs.Openings.{Opening}
-use Rattle.core_state.specs.States as core
-use Rattle.draw_trait.specs.declared.staged.Staged.{Staged}
+use Rattle.btree_descent.specs.image_model.Laws.{EveryUndone}
+use Rattle.btree_descent.specs.core_state.Openings.{Opening}
+use Rattle.btree_descent.specs.core_state.States as core
+use Rattle.btree_descent.specs.draw_trait.declared.staged.Staged.{Staged}
 use Rattle.disk_runs.specs.Openings as runs
-use Rattle.disk_slots.specs.declared.master.Master.{Master}
+use Rattle.disk_runs.specs.disk_slots.declared.master.Master.{Master}
 use Rattle.lean_disk.specs.Story.{Story, Tells}
 use Rattle.btree_descent.specs.Known as descent
-use Rattle.row_words.specs.declared.given.Given.{Given}
-use Rattle.rows_trait.specs.declared.view.View.{View}
-use Rattle.rows_trait.specs.Views.{Shape, first_plain, state}
+use Rattle.btree_descent.specs.row_words.declared.given.Given.{Given}
+use Rattle.btree_descent.specs.rows_trait.declared.view.View.{View}
+use Rattle.btree_descent.specs.rows_trait.Views.{Shape, first_plain, state}
 use Rattle.call_parts.specs.Memory.{Memory}
 use Rattle.page_calls.specs.Mirrors.{IsMirror}
 use Rattle.page_calls.specs.Slots.{opened_slot}
@@ -31,7 +31,7 @@ use Rattle.session_state.specs.Opened.{IsFirst, plain_shape}
 use Rattle.session_state.specs.Ties.{Behind, Ties}
 use Rattle.session_state.specs.Undo.{HasHand}
 use Rattle.session_state.specs.declared.session.Session.{Session}
-use Rattle.worker_log.specs.Logs.{Log}
+use Rattle.disk_runs.specs.worker_log.Logs.{Log}
 use Rattle.paged_opening.specs.Opened as paging
 use Rattle.paged_opening.specs.Opened.{given_by}
 use Rattle.paged_opening.specs.declared.opening.Opened as paged

@@ -2,9 +2,9 @@
 use Rattle.std.proofs.Common.{◌≡◌, ◌≤◌, ◌<◌, ◌-◌, ◌==◌, ℕ, Bool, List, get_or, cond, refl, sym, subst, inl, inr, arith}
 use Rattle.std.proofs.lemmas.Bool.{cases_eq, ne_eqb}
 use Rattle.std.proofs.lemmas.Option.{slice_get-get_or}
-use Rattle.disk_slots.specs.declared.master.Master.{Master}
+use Rattle.disk_runs.specs.disk_slots.declared.master.Master.{Master}
 use Rattle.session_state.specs.declared.session.Session.{Session}
-use Rattle.worker_log.specs.Logs.{Log}
+use Rattle.disk_runs.specs.worker_log.Logs.{Log}
 use Rattle.session_desks.specs.Desks.{desk_of, place_of}
 use Rattle.paged_engine.specs.Openings.{AreFurther, IsFurther}
 use Rattle.session_desks.specs.declared.desk.Desk.{Desk}

@@ -6,17 +6,17 @@ use Rattle.map_model.specs.Lists.{Has}
 use Rattle.page_model.specs.Nodes.{Node}
 use Rattle.page_model.specs.Page.{Page}
 use Rattle.rfa_model.proofs.ReachLemmas.{least_from}
-use Rattle.core_state.specs.Needs.{holds_row, is_worker}
-use Rattle.core_state.specs.Openings.{Opening, start_page}
-use Rattle.core_state.specs.States.{State, flushed_by_all, nodes_of, start}
+use Rattle.btree_descent.specs.core_state.Needs.{holds_row, is_worker}
+use Rattle.btree_descent.specs.core_state.Openings.{Opening, start_page}
+use Rattle.btree_descent.specs.core_state.States.{State, flushed_by_all, nodes_of, start}
 use Rattle.core_calls.specs.LogEvents.{behind}
 use Rattle.core_calls.specs.Room.{frees_from}
 use Rattle.core_numbers.specs.Numbers.{AreUpTo}
 use Rattle.row_numbers.specs.Views.{EveryBegun}
-use Rattle.row_words.specs.declared.given.Given.{Given}
-use Rattle.row_words.specs.Moments.{format_of}
-use Rattle.row_words.specs.Openings.{opening}
-use Rattle.rows_trait.specs.Views.{Shape, first_plain, state}
+use Rattle.btree_descent.specs.row_words.declared.given.Given.{Given}
+use Rattle.btree_descent.specs.row_words.Moments.{format_of}
+use Rattle.btree_descent.specs.row_words.Openings.{opening}
+use Rattle.btree_descent.specs.rows_trait.Views.{Shape, first_plain, state}
 use Rattle.row_opening.specs.Opened.{contents_of, page_at, pages_of}
 use Rattle.row_opening.specs.Openings.{EveryOpened, EveryReached, Opens}
 use Rattle.row_opening.specs.Rooted.{IsRooted, rooted_of}
@@ -24,7 +24,7 @@ use Rattle.btree_descent.specs.Known as descent
 use Rattle.key_locks.specs.Rows as locking
 use Rattle.key_locks.specs.Rows.{IsWorker}
 use Rattle.key_locks.specs.Soundness.{EverySound, unbegun}
-use Rattle.worker_log.specs.Logs.{Log}
+use Rattle.disk_runs.specs.worker_log.Logs.{Log}
 use Rattle.session_state.specs.Free.{nodes_in}
 use Rattle.session_state.specs.Holds.{AreNumbers, AreRows, Holds, IsOf}
 use Rattle.session_state.specs.Numbers.{AreNumbered}

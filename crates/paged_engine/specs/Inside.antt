@@ -1,6 +1,6 @@
 -- Words of private functions.
 use Rattle.std.specs.Prelude.{◌≡◌, ℕ, false, List, length, replicate}
-use Rattle.disk_slots.specs.declared.master.Master.{Master}
+use Rattle.disk_runs.specs.disk_slots.declared.master.Master.{Master}
 use Rattle.session_state.specs.Opened.{IsFirst}
 use Rattle.session_state.specs.declared.session.Session.{Session}
 use Rattle.paged_engine.specs.Openings.{AreFurther, IsMadeBy}

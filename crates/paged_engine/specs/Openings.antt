@@ -1,15 +1,15 @@
 -- What the opening of a disk gives to a machine whose pages need not all be in memory.
 use Rattle.std.specs.Prelude.{◌≡◌, ◌≤◌, ◌<◌, ◌%◌, ◌+◌, ℕ, suc, true, false, List, [], length, slice_get, Some}
 use Rattle.page_model.specs.Limits.{most_sessions}
-use Rattle.image_model.specs.Images.{lost_by, map_of, won_by}
+use Rattle.btree_descent.specs.image_model.Images.{lost_by, map_of, won_by}
 use Rattle.call_parts.specs.Memory.{IsOf, Memory}
-use Rattle.core_state.specs.Openings.{Opening, first_map}
-use Rattle.core_state.specs.States.{start}
-use Rattle.disk_image.specs.Breaks.{IsDamaged}
-use Rattle.disk_image.specs.Shown.{IsCleanDisk, IsSoundDisk, image_by}
+use Rattle.btree_descent.specs.core_state.Openings.{Opening, first_map}
+use Rattle.btree_descent.specs.core_state.States.{start}
+use Rattle.disk_runs.specs.disk_image.Breaks.{IsDamaged}
+use Rattle.disk_runs.specs.disk_image.Shown.{IsCleanDisk, IsSoundDisk, image_by}
 use Rattle.disk_runs.specs.Fair.{IsAsRead}
 use Rattle.disk_runs.specs.Stands.{Known, Stands}
-use Rattle.disk_slots.specs.declared.master.Master.{Master}
+use Rattle.disk_runs.specs.disk_slots.declared.master.Master.{Master}
 use Rattle.lean_disk.specs.Area.{Area}
 use Rattle.lean_disk.specs.Moments.{LeavesOnly}
 use Rattle.lean_disk.specs.Story.{Crash, Story, areas_of}
@@ -32,8 +32,8 @@ use Rattle.session_desks.specs.declared.desk.Desk.{Desk}
 use Rattle.session_state.specs.Opened.{IsFirst}
 use Rattle.session_state.specs.Ties.{Behind, Ties}
 use Rattle.session_state.specs.declared.session.Session.{Session}
-use Rattle.worker_log.specs.Kept.{IsFresh, IsInRange, IsKept, fresh_account}
-use Rattle.worker_log.specs.Logs.{Log}
+use Rattle.disk_runs.specs.worker_log.Kept.{IsFresh, IsInRange, IsKept, fresh_account}
+use Rattle.disk_runs.specs.worker_log.Logs.{Log}
 use Rattle.paged_engine.specs.declared.opening.Size.{Size}
 
 -- ## Sessions and logs

@@ -8,6 +8,7 @@ ghost use Rattle.paged_desks.specs.Machines.{IsReady};
 ghost use Rattle.paged_engine.specs.Openings.{HasOpened, OpenKeeps, Shows};
 
 use crate::seats::{Seats, seat_sessions};
+use btree_descent::image_model;
 use lean_disk::Disk;
 use paged_desks::PagedMachine;
 use recovery::Unrecovered;

@@ -2,7 +2,7 @@
 use Rattle.std.proofs.Common.{◌≡◌, ◌≢◌, ◌≤◌, ◌<◌, ◌+◌, ◌⊎◌, ◌&&◌, ℕ, zero, suc, Bool, true, false, ltb, List, [], ◌∷◌, length, replicate, set, Some, inl, inr, refl, sym, ap, ◌∙◌, subst, arith}
 use Rattle.std.proofs.lemmas.Bool.{and_from, cases_lt, le-ltb, lt-ltb}
 use Rattle.std.proofs.lemmas.List.{length-replicate, length-set}
-use Rattle.image_model.specs.Entries.{Contents}
+use Rattle.btree_descent.specs.image_model.Entries.{Contents}
 use Rattle.page_model.specs.Nodes.{Format}
 use Rattle.page_model.specs.Page.{Page}
 use Rattle.page_model.specs.Tree.{IsTree}

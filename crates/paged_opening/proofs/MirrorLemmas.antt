@@ -5,10 +5,10 @@ use Rattle.page_model.specs.Nodes.{free}
 use Rattle.page_model.specs.Page.{Page, new_page}
 use Rattle.lean_disk.specs.Area.{Area, IsApart}
 use Rattle.lean_disk.specs.Story.{Story, Tells}
-use Rattle.disk_image.specs.PageSlots.{page_in}
-use Rattle.row_words.specs.declared.given.Given.{Given}
-use Rattle.rows_trait.specs.Views.{first_plain, state}
-use Rattle.rows_trait.specs.declared.view.View.{View}
+use Rattle.page_store.specs.disk_image.PageSlots.{page_in}
+use Rattle.btree_descent.specs.row_words.declared.given.Given.{Given}
+use Rattle.btree_descent.specs.rows_trait.Views.{first_plain, state}
+use Rattle.btree_descent.specs.rows_trait.declared.view.View.{View}
 use Rattle.page_store.specs.Bases.{image_page}
 use Rattle.page_store.specs.Laws.{EveryWhole}
 use Rattle.page_store.specs.Saved.{Reaches, place_of}

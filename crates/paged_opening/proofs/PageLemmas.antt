@@ -4,7 +4,7 @@ use Rattle.std.proofs.lemmas.Option.{slice_get_cases}
 use Rattle.page_model.specs.Nodes.{Node}
 use Rattle.page_model.specs.Page.{Page}
 use Rattle.page_model.specs.Tree.{IsTree}
-use Rattle.disk_image.specs.Formats.{format_of}
+use Rattle.page_store.specs.disk_image.Formats.{format_of}
 use Rattle.node_tree.specs.Nodes.{node_or, nodes_of}
 use Rattle.recovery.specs.Opened.{IsWhole}
 use Rattle.recovery.specs.declared.opening.Recovered.{Recovered}

@@ -4,14 +4,14 @@ use Rattle.std.specs.Prelude.{◌≡◌, ◌<◌, ◌≤◌, ◌+◌, ◌^◌, �
 use Rattle.page_model.specs.Page.{Page}
 use Rattle.core_calls.specs.Room.{frees_from}
 use Rattle.lean_disk.specs.Story.{Story, Tells, areas_of}
-use Rattle.disk_slots.specs.declared.master.Master.{Master}
-use Rattle.disk_image.specs.MasterSlots.{master_on}
-use Rattle.disk_image.specs.Shown.{IsCleanDisk}
-use Rattle.row_words.specs.declared.given.Given.{Given}
-use Rattle.rows_trait.specs.Plain.{sizes}
-use Rattle.rows_trait.specs.Rule.{IsPicture, plan}
-use Rattle.rows_trait.specs.Views.{Shape, first_plain, no_place}
-use Rattle.rows_trait.specs.declared.plain.PlainRows.{PlainRows}
+use Rattle.page_store.specs.disk_slots.declared.master.Master.{Master}
+use Rattle.page_store.specs.disk_image.MasterSlots.{master_on}
+use Rattle.page_store.specs.disk_image.Shown.{IsCleanDisk}
+use Rattle.btree_descent.specs.row_words.declared.given.Given.{Given}
+use Rattle.btree_descent.specs.rows_trait.Plain.{sizes}
+use Rattle.btree_descent.specs.rows_trait.Rule.{IsPicture, plan}
+use Rattle.btree_descent.specs.rows_trait.Views.{Shape, first_plain, no_place}
+use Rattle.btree_descent.specs.rows_trait.declared.plain.PlainRows.{PlainRows}
 use Rattle.row_opening.specs.Rooted.{IsRooted, rooted_of}
 use Rattle.cold_pages.specs.declared.kept.Kept.{Kept}
 use Rattle.cold_pages.specs.Kept.{left, nothing}

@@ -4,7 +4,7 @@ ghost use Rattle.cold_pages.specs.Kept.{AreWithin};
 ghost use Rattle.row_opening.specs.Opened.{page_at};
 ghost use Rattle.paged_opening.specs.Opened.{cold_of};
 
-use btree_node::Node;
+use btree_descent::btree_node::Node;
 use cold_pages::ColdPages;
 use std::alloc::{AllocError, Global};
 

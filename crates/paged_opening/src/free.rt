@@ -2,7 +2,7 @@
 ghost use Rattle.std.specs.Prelude.{◌≡◌, ◌<◌, ◌^◌, length, IfOk};
 ghost use Rattle.paged_opening.specs.Opened.{free_of};
 
-use btree_node::Node;
+use btree_descent::btree_node::Node;
 use free_pages::FreePages;
 use std::alloc::{AllocError, Global};
 

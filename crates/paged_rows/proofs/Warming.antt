@@ -2,14 +2,14 @@
 use Rattle.std.proofs.Common.{◌≡◌, ◌∙◌, ◌<◌, ◌≤◌, ◌-◌, ℕ, suc, Bool, true, false, List, [], ap, arith, refl, subst, sym, ◌&&◌, ◌==◌, leb, ltb}
 use Rattle.std.proofs.lemmas.Bool.{and_from, and_parts, eqb-true, le-leb, lt-ltb, or_cases}
 use Rattle.core_calls.specs.Warms.{EveryWarm, IsWarmFrom}
-use Rattle.core_state.specs.Openings.{Opening}
-use Rattle.core_state.specs.States.{Place, State, is_hot, nodes_of}
+use Rattle.btree_descent.specs.core_state.Openings.{Opening}
+use Rattle.btree_descent.specs.core_state.States.{Place, State, is_hot, nodes_of}
 use Rattle.page_model.specs.Nodes.{covers, is_leaf}
-use Rattle.row_words.specs.declared.given.Given.{Given}
-use Rattle.row_words.specs.Moments.{Moment}
-use Rattle.row_words.specs.Openings.{opening}
-use Rattle.rows_trait.specs.declared.view.View.{View}
-use Rattle.rows_trait.specs.Views.{Shape, after_all, state}
+use Rattle.btree_descent.specs.row_words.declared.given.Given.{Given}
+use Rattle.btree_descent.specs.row_words.Moments.{Moment}
+use Rattle.btree_descent.specs.row_words.Openings.{opening}
+use Rattle.btree_descent.specs.rows_trait.declared.view.View.{View}
+use Rattle.btree_descent.specs.rows_trait.Views.{Shape, after_all, state}
 use Rattle.btree_descent.specs.Known.{Sound}
 use Rattle.btree_descent.specs.Puts.{IsLeafAt}
 use Rattle.btree_descent.specs.Trails.{IsColdBelow}
@@ -29,7 +29,7 @@ use Rattle.paged_rows.specs.Paged.{paged}
 use Rattle.paged_rows.specs.Warms.{CrowdedCause, HasCome, HasJoined, HasMoved, IsKept, IsLost, IsNeeded, IsRefusedTo, LostTo, most_a_page}
 use Rattle.paged_rows.specs.declared.wanted.Wanted.{Wanted}
 use Rattle.paged_rows.specs.declared.wanted.Wanted.TheVariants as want
-use Rattle.image_model.specs.Entries.{Contents}
+use Rattle.btree_descent.specs.image_model.Entries.{Contents}
 use Rattle.page_model.specs.Check.{names_page}
 use Rattle.page_model.specs.Pairs.{Span, spans}
 use Rattle.page_provider.specs.Moves.{KeepsPath}
@@ -40,17 +40,17 @@ use Rattle.map_model.proofs.ListLemmas.{any_has}
 use Rattle.page_pool.specs.Full.{IsTaken}
 use Rattle.cold_pages.specs.Laws.{IsButEntries}
 use Rattle.page_provider.specs.Moves.{is_on, way}
-use Rattle.core_state.specs.States.{is_cold}
+use Rattle.btree_descent.specs.core_state.States.{is_cold}
 use Rattle.std.proofs.Common.{◌++◌, append-nil}
 use Rattle.std.proofs.Common.{Result, IfErr, IfOk, Ok, Err, Some, None, ◌∷◌, inl, inr, length, zero}
 use Rattle.std.specs.Prelude.{slice_index}
 use Rattle.std.proofs.lemmas.Bool.{cond-true, eq-eqb}
-use Rattle.lean_proto.specs.Paths.{above}
+use Rattle.btree_descent.specs.lean_proto.Paths.{above}
 use Rattle.btree_descent.specs.Trails.{IsAbove, IsTrail, Routes}
-use Rattle.core_state.specs.States.{in_frame}
+use Rattle.btree_descent.specs.core_state.States.{in_frame}
 use Rattle.page_model.proofs.Tree as page_tree
 use Rattle.map_model.specs.Lists.{Has}
-use Rattle.rows_trait.specs.Turns.{Ran}
+use Rattle.btree_descent.specs.rows_trait.Turns.{Ran}
 use Rattle.btree_descent.specs.Reaches.{CameThere, MetLeaf}
 use Rattle.btree_descent.specs.declared.reach.Way.TheVariants.{Cold, Leaf}
 use Rattle.btree_descent.specs.Descents.{Sized}

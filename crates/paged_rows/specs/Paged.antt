@@ -4,9 +4,9 @@ use Rattle.core_calls.specs.Warms.{IsWarmFrom}
 use Rattle.lean_disk.specs.Story.{Story, Tells}
 use Rattle.page_provider.specs.Mirrored.{IsMirrored}
 use Rattle.page_provider.specs.Providers.{Keeps, Provider}
-use Rattle.row_words.specs.Openings.{opening}
-use Rattle.rows_trait.specs.declared.view.View.{View}
-use Rattle.rows_trait.specs.Views.{Shape, state}
+use Rattle.btree_descent.specs.row_words.Openings.{opening}
+use Rattle.btree_descent.specs.rows_trait.declared.view.View.{View}
+use Rattle.btree_descent.specs.rows_trait.Views.{Shape, state}
 
 -- the rows, what their seat has seen, and the pager's memory
 pub record Paged : Type 0 where

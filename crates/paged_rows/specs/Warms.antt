@@ -1,6 +1,6 @@
 -- A page of a key's way, or a free one, is brought into a frame.
 use Rattle.std.specs.Prelude.{◌≡◌, ◌<◌, ◌≤◌, ◌+◌, ◌⊎◌, ℕ, true, false, [], Option, Some, None}
-use Rattle.core_state.specs.States.{Place, flushed_by_all, in_frame, is_cold, is_cooling, is_hot}
+use Rattle.btree_descent.specs.core_state.States.{Place, flushed_by_all, in_frame, is_cold, is_cooling, is_hot}
 use Rattle.page_model.specs.Nodes.{covers}
 use Rattle.page_pool.specs.Full.{IsHeldBack}
 use Rattle.page_provider.specs.declared.refusal.Refusal.{Refusal}
@@ -12,9 +12,9 @@ use Rattle.page_provider.specs.Disks.{saves_page}
 use Rattle.page_provider.specs.Ends.{HasRefused}
 use Rattle.page_provider.specs.Faults.{LostCause}
 use Rattle.page_provider.specs.Moves.{Moved}
-use Rattle.row_words.specs.Moments.{events_of}
-use Rattle.row_words.specs.Openings.{opening}
-use Rattle.rows_trait.specs.Views.{state}
+use Rattle.btree_descent.specs.row_words.Moments.{events_of}
+use Rattle.btree_descent.specs.row_words.Openings.{opening}
+use Rattle.btree_descent.specs.rows_trait.Views.{state}
 use Rattle.paged_rows.specs.Paged.{IsFree, IsWarm, Paged}
 use Rattle.paged_rows.specs.declared.wanted.Wanted.{Wanted}
 use Rattle.paged_rows.specs.declared.wanted.Wanted.TheVariants as want

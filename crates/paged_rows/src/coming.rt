@@ -9,11 +9,11 @@ ghost use Rattle.paged_rows.specs.Paged.{IsFedIfFaithful, IsPaged, paged};
 ghost use Rattle.paged_rows.specs.Warms.{IsRefusedTo, LostTo, ReadsUnlessSaved, Warms};
 ghost use Rattle.paged_rows.specs.declared.wanted.Wanted.TheVariants as want;
 
+use btree_descent::lean_proto::path::Path;
 use btree_descent::reach::{Way, reach};
+use btree_descent::rows_trait::rows::Rows;
 use lean_disk::Part;
-use lean_proto::path::Path;
 use page_provider::{Pager, Refusal};
-use rows_trait::rows::Rows;
 
 /// Brings the first page of a key's way that is not hot into a frame, and answers which. None: there is none, and nothing was done.
 ///

@@ -9,11 +9,11 @@ ghost use Rattle.paged_rows.specs.Paged.{IsFedIfFaithful, IsFree, IsPaged, IsWar
 ghost use Rattle.paged_rows.specs.Warms.{HasJoined, IsRefusedTo, LostTo, ReadsUnlessSaved};
 ghost use Rattle.paged_rows.specs.declared.wanted.Wanted.TheVariants as want;
 
+use btree_descent::lean_proto::path::Path;
 use btree_descent::reach::{Way, reach};
+use btree_descent::rows_trait::rows::Rows;
 use lean_disk::Part;
-use lean_proto::path::Path;
 use page_provider::{Pager, Refusal};
-use rows_trait::rows::Rows;
 
 /// Brings a free page into a frame, where a change of the tree on a key's way is to take it, and answers which. The pages of that way, which are
 /// hot, stay so. It is read from the device as any page that is in no frame.

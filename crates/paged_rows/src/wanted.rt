@@ -10,9 +10,9 @@ ghost use Rattle.paged_rows.specs.Warms.{Brings, CanBring, IsRefusedTo, LostTo, 
 
 use crate::coming::bring;
 use crate::joining::bring_free;
+use btree_descent::rows_trait::rows::Rows;
 use lean_disk::Part;
 use page_provider::{Pager, Refusal};
-use rows_trait::rows::Rows;
 
 /// What is brought into a frame.
 #[derive(Clone, Copy)]

@@ -4,23 +4,23 @@ use Rattle.std.proofs.lemmas.Bool.{and_parts, eqb-true, ltb-true}
 use Rattle.map_model.specs.Maps.{MapAnswer}
 use Rattle.core_calls.specs.Scans.{rows_met}
 use Rattle.core_index.specs.Walks.{met_keys}
-use Rattle.core_paging.specs.Paging.{Residence}
-use Rattle.core_state.specs.Events as happening
-use Rattle.core_state.specs.Lists.{count_below}
-use Rattle.core_state.specs.Needs.{are_hot, following, holds_answer, is_following, is_leaf_of, may, needs, pages_of}
-use Rattle.core_state.specs.Openings.{Opening}
-use Rattle.core_state.specs.States.{State, is_hot}
-use Rattle.core_state.specs.Steps.{AllMet, happens, run, step}
-use Rattle.image_model.specs.Entries.{Contents}
+use Rattle.disk_runs.specs.core_paging.Paging.{Residence}
+use Rattle.rows_trait.specs.core_state.Events as happening
+use Rattle.rows_trait.specs.core_state.Lists.{count_below}
+use Rattle.rows_trait.specs.core_state.Needs.{are_hot, following, holds_answer, is_following, is_leaf_of, may, needs, pages_of}
+use Rattle.rows_trait.specs.core_state.Openings.{Opening}
+use Rattle.rows_trait.specs.core_state.States.{State, is_hot}
+use Rattle.rows_trait.specs.core_state.Steps.{AllMet, happens, run, step}
+use Rattle.rows_trait.specs.image_model.Entries.{Contents}
 use Rattle.lean_disk.specs.Story.{Story}
 use Rattle.page_model.specs.Nodes.{Format, Node, holds}
 use Rattle.page_model.specs.Pairs.{Pair}
-use Rattle.row_words.specs.declared.event.Event.{Event}
-use Rattle.row_words.specs.declared.event.Event.TheVariants.{Next}
-use Rattle.row_words.specs.Moments.{Moment, events_of, met_of}
-use Rattle.row_words.specs.Openings.{opening}
-use Rattle.row_words.specs.Sealed.{begun}
-use Rattle.row_words.proofs.SealedLemmas.{run_append}
+use Rattle.rows_trait.specs.row_words.declared.event.Event.{Event}
+use Rattle.rows_trait.specs.row_words.declared.event.Event.TheVariants.{Next}
+use Rattle.rows_trait.specs.row_words.Moments.{Moment, events_of, met_of}
+use Rattle.rows_trait.specs.row_words.Openings.{opening}
+use Rattle.rows_trait.specs.row_words.Sealed.{begun}
+use Rattle.rows_trait.proofs.row_words_lemmas.SealedLemmas.{run_append}
 use Rattle.rows_trait.specs.declared.view.View.{View}
 use Rattle.rows_trait.specs.Views.{state}
 use Rattle.session_state.proofs.Moments.{seen_state}

@@ -2,7 +2,7 @@
 use Rattle.std.proofs.Common.{◌≡◌, ◌∙◌, ◌++◌, ◌==◌, ℕ, true, List, [], ◌∷◌, Result, Ok, Err, append-nil, ap, refl, sym, subst}
 use Rattle.std.proofs.lemmas.Bool.{and_from}
 use Rattle.std.proofs.lemmas.List.{append_assoc}
-use Rattle.core_state.specs.States.{State}
+use Rattle.rows_trait.specs.core_state.States.{State}
 use Rattle.lean_disk.specs.Story.{Story}
 use Rattle.map_model.specs.Lists.{Has, all}
 use Rattle.map_model.specs.declared.call.Refusal.TheVariants as refusal
@@ -10,9 +10,9 @@ use Rattle.row_scans.specs.Meets.{HasMet, HasTaken, IsButRows, Meets, takes_of, 
 use Rattle.row_scans.specs.declared.meets.Met.{Met}
 use Rattle.row_scans.specs.declared.meets.Unmet.{Unmet}
 use Rattle.row_scans.specs.declared.meets.Unmet.TheVariants as unmet
-use Rattle.row_words.specs.declared.event.Event.{Event}
-use Rattle.row_words.specs.declared.event.Event.TheVariants.{Next}
-use Rattle.row_words.specs.Openings.{opening}
+use Rattle.rows_trait.specs.row_words.declared.event.Event.{Event}
+use Rattle.rows_trait.specs.row_words.declared.event.Event.TheVariants.{Next}
+use Rattle.rows_trait.specs.row_words.Openings.{opening}
 use Rattle.rows_trait.specs.declared.view.View.{View}
 use Rattle.rows_trait.specs.Views.{state}
 use Rattle.core_calls.specs.Scans.{rows_met}

@@ -12,8 +12,8 @@ use Rattle.core_calls.specs.Scans.{TakesMet, rows_met}
 use Rattle.core_calls.specs.Steps.{Walks, is_step, is_structure}
 use Rattle.core_calls.proofs.WhereLemmas.{syncs_more, syncs_weaker}
 use Rattle.core_index.specs.Walks.{met_keys}
-use Rattle.core_state.specs.Steps.{run, state_after}
-use Rattle.core_state.proofs.Runs.{run_more}
+use Rattle.rows_trait.specs.core_state.Steps.{run, state_after}
+use Rattle.rows_trait.proofs.core_state_lemmas.Runs.{run_more}
 use Rattle.engine_calls.specs.Parts.{behind_first}
 use Rattle.engine_calls.specs.Scans.{PassesGaps}
 use Rattle.engine_calls.proofs.MarkLemmas.{any_append}
@@ -25,15 +25,15 @@ use Rattle.paged_desks.specs.Parts.{StandsNowhere}
 use Rattle.paged_desks.proofs.StandLemmas.{halves_are}
 use Rattle.paged_calls.specs.Steps.{FailsWarm}
 use Rattle.paged_calls.proofs.EventLemmas.{paging_steps, paging_structure}
-use Rattle.core_state.specs.Events as happening
-use Rattle.core_state.specs.Openings.{Opening}
-use Rattle.core_state.specs.States.{State}
+use Rattle.rows_trait.specs.core_state.Events as happening
+use Rattle.rows_trait.specs.core_state.Openings.{Opening}
+use Rattle.rows_trait.specs.core_state.States.{State}
 use Rattle.disk_runs.specs.Quiet.{is_quiet}
 use Rattle.lean_disk.specs.Story.{IsLawful, Story}
-use Rattle.row_words.specs.declared.event.Event.{Event}
-use Rattle.row_words.specs.declared.event.Event.TheVariants.{Next}
-use Rattle.row_words.specs.Moments.{events_of}
-use Rattle.row_words.specs.Openings.{opening}
+use Rattle.rows_trait.specs.row_words.declared.event.Event.{Event}
+use Rattle.rows_trait.specs.row_words.declared.event.Event.TheVariants.{Next}
+use Rattle.rows_trait.specs.row_words.Moments.{events_of}
+use Rattle.rows_trait.specs.row_words.Openings.{opening}
 use Rattle.rows_trait.specs.Views.{state}
 use Rattle.call_parts.specs.Parts.{Part}
 use Rattle.call_parts.specs.Rooms.{AreWalk, is_paging, walks}

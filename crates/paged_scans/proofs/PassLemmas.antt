@@ -4,11 +4,11 @@ use Rattle.std.proofs.lemmas.List.{append_assoc}
 use Rattle.map_model.specs.Lists.{any, keep}
 use Rattle.map_model.specs.Maps.{MapAnswer}
 use Rattle.core_index.specs.Walks.{met_keys}
-use Rattle.core_state.specs.Events as happening
-use Rattle.core_state.specs.Needs.{may}
-use Rattle.core_state.specs.Openings.{Opening}
-use Rattle.core_state.specs.States.{State}
-use Rattle.core_state.specs.Steps.{happens, run, step}
+use Rattle.rows_trait.specs.core_state.Events as happening
+use Rattle.rows_trait.specs.core_state.Needs.{may}
+use Rattle.rows_trait.specs.core_state.Openings.{Opening}
+use Rattle.rows_trait.specs.core_state.States.{State}
+use Rattle.rows_trait.specs.core_state.Steps.{happens, run, step}
 use Rattle.core_calls.specs.LogEvents.{SyncsWhere}
 use Rattle.core_calls.specs.Scans.{TakesMet, behind, rows_met}
 use Rattle.core_calls.specs.Steps.{Walks, is_step, is_structure}

@@ -26,13 +26,13 @@ use Rattle.core_calls.specs.Scans.{IsHinderedNext, IsOnWay, IsTold, IsWay, Scans
 use Rattle.core_calls.specs.Steps.{IsAnAbort, MayPutBack, Tries, Walks, is_step, is_structure, met_last, scan_from}
 use Rattle.core_calls.proofs.WhereLemmas.{syncs_more, syncs_weaker}
 use Rattle.core_index.specs.Walks.{met_keys}
-use Rattle.core_state.proofs.Runs.{run_more}
-use Rattle.core_state.specs.Events as happening
-use Rattle.core_state.specs.Local.{is_sync}
-use Rattle.core_state.specs.Needs.{value_in}
-use Rattle.core_state.specs.Openings.{Opening}
-use Rattle.core_state.specs.States.{State}
-use Rattle.core_state.specs.Steps.{AllMet, run, state_after, step}
+use Rattle.rows_trait.proofs.core_state_lemmas.Runs.{run_more}
+use Rattle.rows_trait.specs.core_state.Events as happening
+use Rattle.rows_trait.specs.core_state.Local.{is_sync}
+use Rattle.rows_trait.specs.core_state.Needs.{value_in}
+use Rattle.rows_trait.specs.core_state.Openings.{Opening}
+use Rattle.rows_trait.specs.core_state.States.{State}
+use Rattle.rows_trait.specs.core_state.Steps.{AllMet, run, state_after, step}
 use Rattle.disk_runs.specs.Quiet.{is_quiet}
 use Rattle.disk_runs.specs.Stands.{Stands}
 use Rattle.engine_calls.proofs.MarkLemmas.{any_append, either_false, fresh_none, has_mark, marks_none, no_step}
@@ -53,10 +53,10 @@ use Rattle.page_model.specs.Pairs.{Pair}
 use Rattle.page_pool.specs.Counts.{EveryFrame}
 use Rattle.row_scans.specs.Meets.{HasMet, HasMetConflict, HasMetSpent, HasTaken, IsButRows, takes_of, told_of, walk_of}
 use Rattle.row_scans.specs.declared.meets.Met.TheVariants as met
-use Rattle.row_words.specs.declared.event.Event.{Event}
-use Rattle.row_words.specs.declared.event.Event.TheVariants.{Next}
-use Rattle.row_words.specs.Moments.{events_of}
-use Rattle.row_words.specs.Openings.{opening}
+use Rattle.rows_trait.specs.row_words.declared.event.Event.{Event}
+use Rattle.rows_trait.specs.row_words.declared.event.Event.TheVariants.{Next}
+use Rattle.rows_trait.specs.row_words.Moments.{events_of}
+use Rattle.rows_trait.specs.row_words.Openings.{opening}
 use Rattle.rows_trait.specs.declared.view.View.{View}
 use Rattle.rows_trait.specs.Views.{Shape, state}
 use Rattle.session_desks.proofs.DeskLemmas.{desk_own}
@@ -68,7 +68,7 @@ use Rattle.session_state.proofs.Moments.{events_more}
 use Rattle.session_state.specs.Holds.{Holds}
 use Rattle.session_state.specs.Ties.{Behind}
 use Rattle.session_state.specs.declared.session.Session.{Session}
-use Rattle.worker_log.specs.Logs.{Log}
+use Rattle.disk_runs.specs.worker_log.Logs.{Log}
 use Rattle.paged_desks.proofs.Doing.{hot_few}
 use Rattle.paged_desks.proofs.EndingLemmas.{Grounds, begins, does_tied, end_laws, half_own, refused_tied}
 use Rattle.paged_desks.proofs.HalfLates.{half_late}

@@ -5,8 +5,8 @@ use Rattle.lean_disk.specs.Story.{Story}
 use Rattle.map_model.specs.declared.call.Refusal.{Refusal}
 use Rattle.map_model.specs.declared.call.Refusal.TheVariants as refusal
 use Rattle.page_pool.specs.Counts.{hot_pages}
-use Rattle.row_words.specs.declared.event.Event.{Event}
-use Rattle.row_words.specs.Openings.{opening}
+use Rattle.rows_trait.specs.row_words.declared.event.Event.{Event}
+use Rattle.rows_trait.specs.row_words.Openings.{opening}
 use Rattle.rows_trait.specs.Views.{after_all}
 use Rattle.rows_trait.specs.declared.view.View.{View}
 use Rattle.session_state.specs.declared.session.Session.{Session}

@@ -3,10 +3,10 @@ use Rattle.std.specs.Prelude.{◌≡◌, ◌⊎◌, ◌≤◌, ◌<◌, ◌+◌,
 use Rattle.map_model.specs.Lists.{any, keep}
 use Rattle.map_model.specs.declared.call.Refusal.{Refusal}
 use Rattle.map_model.specs.declared.call.Refusal.TheVariants as refusal
-use Rattle.core_state.specs.Events as happening
-use Rattle.core_state.specs.Lists.{count_below}
-use Rattle.core_state.specs.Openings.{Opening}
-use Rattle.core_state.specs.States.{State}
+use Rattle.rows_trait.specs.core_state.Events as happening
+use Rattle.rows_trait.specs.core_state.Lists.{count_below}
+use Rattle.rows_trait.specs.core_state.Openings.{Opening}
+use Rattle.rows_trait.specs.core_state.States.{State}
 use Rattle.core_calls.specs.Fronts.{Done}
 use Rattle.core_calls.specs.LogEvents.{IsTightSomewhere, SyncsWhere}
 use Rattle.core_calls.specs.Scans.{TakesMet}
@@ -14,9 +14,9 @@ use Rattle.core_calls.specs.Steps.{Walks, is_step, is_structure}
 use Rattle.engine_calls.specs.Parts.{behind_first}
 use Rattle.engine_calls.specs.Scans.{PassesGaps}
 use Rattle.lean_disk.specs.Story.{Story}
-use Rattle.row_words.specs.declared.event.Event.{Event}
-use Rattle.row_words.specs.Moments.{events_of}
-use Rattle.row_words.specs.Openings.{opening}
+use Rattle.rows_trait.specs.row_words.declared.event.Event.{Event}
+use Rattle.rows_trait.specs.row_words.Moments.{events_of}
+use Rattle.rows_trait.specs.row_words.Openings.{opening}
 use Rattle.rows_trait.specs.Views.{state}
 use Rattle.call_parts.specs.Parts.{Part}
 use Rattle.call_parts.specs.Rooms.{AreWalk}

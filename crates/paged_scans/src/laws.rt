@@ -1,13 +1,15 @@
 // What the steps of a scan rest on.
-ghost use Rattle.core_disk.specs.Versions.{EveryVersion};
-ghost use Rattle.core_paging.specs.Paging.{EveryResidence};
-ghost use Rattle.disk_image.specs.Laws.{EverySealed};
+ghost use Rattle.disk_runs.specs.core_disk.Versions.{EveryVersion};
+ghost use Rattle.disk_runs.specs.core_paging.Paging.{EveryResidence};
+ghost use Rattle.disk_runs.specs.disk_image.Laws.{EverySealed};
 ghost use Rattle.engine_calls.specs.Answers.{EveryAnswer};
 ghost use Rattle.engine_calls.specs.Clauses.{EveryComing};
 ghost use Rattle.page_pool.specs.Counts.{EveryFrame};
 ghost use Rattle.row_opening.specs.Openings.{EveryNeed, EveryReached};
 ghost use Rattle.session_state.specs.Others.{EveryOther};
-ghost use Rattle.worker_log.specs.Laws.{EveryKept, EveryPrefix};
+ghost use Rattle.disk_runs.specs.worker_log.Laws.{EveryKept, EveryPrefix};
+
+use disk_runs::{core_disk, core_paging, disk_image, worker_log};
 
 // The laws of versions, logs, seals and openings, of answers, of other sessions, and of places and frames.
 pub(crate) fn laws()

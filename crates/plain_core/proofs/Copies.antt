@@ -1,6 +1,6 @@
 -- What a loop that copies entries keeps.
 use Rattle.std.proofs.Common.{◌≡◌, List, ◌++◌}
-use Rattle.image_model.specs.Entries as model
+use Rattle.core_state.specs.image_model.Entries as model
 use Rattle.plain_core.specs.declared.records.Entry.{Entry}
 use Rattle.plain_core.specs.Records.{entries_of}
 

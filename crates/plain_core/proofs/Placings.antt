@@ -5,7 +5,7 @@ use Rattle.map_model.specs.Lists.{upd}
 use Rattle.page_model.specs.Pairs as paired
 use Rattle.page_model.specs.Records.{Ref, any}
 use Rattle.page_model.specs.Needs.{key_at}
-use Rattle.image_model.specs.Entries as logged
+use Rattle.core_state.specs.image_model.Entries as logged
 use Rattle.core_state.specs.States as model
 use Rattle.plain_core.specs.declared.records.Page as pages
 use Rattle.plain_core.specs.declared.table.Placed.{Placed}

@@ -8,7 +8,7 @@ use Rattle.core_state.specs.Lists as lists
 use Rattle.core_state.specs.Steps as steps
 use Rattle.plain_core.specs.Inside.{written_in, write_entry_in, write_kind, newest_of, tail}
 use Rattle.map_model.specs.Lists.{upd}
-use Rattle.image_model.specs.Entries as logged
+use Rattle.core_state.specs.image_model.Entries as logged
 use Rattle.core_state.specs.States as model
 use Rattle.core_state.specs.Openings as openings
 use Rattle.core_state.specs.Events as events

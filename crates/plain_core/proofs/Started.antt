@@ -1,7 +1,7 @@
 -- What opening gives.
 use Rattle.std.proofs.Common.{◌≡◌, ℕ, List, [], Option, None, ◌∙◌, ap}
 use mathlib.Core.Path.{fun_ext}
-use Rattle.image_model.specs.Entries as logged
+use Rattle.core_state.specs.image_model.Entries as logged
 use Rattle.core_state.specs.States as model
 use Rattle.core_state.specs.Openings as openings
 

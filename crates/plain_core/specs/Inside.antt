@@ -1,7 +1,7 @@
 -- Words of private functions: needs that lean on the numbers of an opening alone.
 use Rattle.std.specs.Prelude.{ℕ, suc, max, Bool, true, false, ◌&&◌, ◌||◌, not, ltb, leb, List, [], ◌∷◌, length, map, Option, Some, None, if◌then◌else◌}
 use Rattle.map_model.specs.Lists.{any, all as every}
-use Rattle.image_model.specs.Entries.{Kind, Entry, Contents, page_kind, is_record}
+use Rattle.core_state.specs.image_model.Entries.{Kind, Entry, Contents, page_kind, is_record}
 use Rattle.page_model.specs.Records as records
 use Rattle.page_model.specs.Records.{nowhere}
 use Rattle.page_model.specs.Pairs.{Pair, find, put}

@@ -2,7 +2,7 @@
 use Rattle.std.specs.Prelude.{List, map}
 use Rattle.page_model.specs.Nodes as nodes
 use Rattle.page_model.specs.Records as records
-use Rattle.image_model.specs.Entries as model
+use Rattle.core_state.specs.image_model.Entries as model
 use Rattle.plain_images.specs.Pages.{pair_of}
 use Rattle.plain_core.specs.declared.records.Node.{Node}
 use Rattle.plain_core.specs.declared.records.Page.{Page}

@@ -1,7 +1,7 @@
 -- Words of private functions: what changes of the tree need and say, by the numbers of an opening and the pages that they name.
 use Rattle.std.specs.Prelude.{◌+◌, ℕ, suc, Bool, false, ◌&&◌, not, ltb, leb, ◌==◌, List, [], ◌∷◌, length, Option, Some, None}
 use Rattle.rfa_model.specs.Reaches.{least}
-use Rattle.image_model.specs.Entries.{Kind, Entry, Contents, written}
+use Rattle.core_state.specs.image_model.Entries.{Kind, Entry, Contents, written}
 use Rattle.page_model.specs.Pairs.{find, onward}
 use Rattle.page_model.specs.Nodes.{Node}
 use Rattle.page_model.specs.Records as records

@@ -2,7 +2,7 @@
 ghost use Rattle.std.specs.Prelude.{◌≡◌, ◌∷◌, [], IfOk};
 ghost use Rattle.page_model.specs.Nodes as nodes;
 ghost use Rattle.page_model.specs.Records as records;
-ghost use Rattle.image_model.specs.Entries as logged;
+ghost use Rattle.core_state.specs.image_model.Entries as logged;
 ghost use Rattle.plain_core.specs.Records.{node_of, page_of, record_of, kind_of, entry_of};
 
 use crate::effects::next;

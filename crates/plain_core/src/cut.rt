@@ -1,7 +1,7 @@
 // A cut: up to which number the logs are needed no more, and where they begin then.
 ghost use Rattle.std.specs.Prelude.{◌≡◌, ◌&&◌, ◌||◌, not, leb, min, max, ℕ, ◌++◌, map, IfOk};
 ghost use Rattle.map_model.specs.Lists.{any, all};
-ghost use Rattle.image_model.specs.Entries as logged;
+ghost use Rattle.core_state.specs.image_model.Entries as logged;
 ghost use Rattle.core_state.specs.Needs as needs;
 ghost use Rattle.core_state.specs.Steps as steps;
 ghost use Rattle.core_state.specs.Events as events;

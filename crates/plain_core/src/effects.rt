@@ -4,7 +4,7 @@ ghost use Rattle.map_model.specs.Lists.{upd, keep};
 ghost use Rattle.page_model.specs.Pairs as paired;
 ghost use Rattle.page_model.specs.Records as model_records;
 ghost use Rattle.page_model.specs.Tree.{word_or};
-ghost use Rattle.image_model.specs.Entries as logged;
+ghost use Rattle.core_state.specs.image_model.Entries as logged;
 ghost use Rattle.rfa_model.specs.Stamps as stamps;
 ghost use Rattle.core_state.specs.Needs as needs;
 ghost use Rattle.core_state.specs.States as states;

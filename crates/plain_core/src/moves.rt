@@ -2,7 +2,7 @@
 ghost use Rattle.std.specs.Prelude.{◌≡◌, ◌∷◌, [], ◌++◌, map, IfOk, if◌then◌else◌};
 ghost use Rattle.map_model.specs.Lists.{upd};
 ghost use Rattle.page_model.specs.Needs as page_needs;
-ghost use Rattle.image_model.specs.Entries as logged;
+ghost use Rattle.core_state.specs.image_model.Entries as logged;
 ghost use Rattle.core_state.specs.States as states;
 ghost use Rattle.core_state.specs.Steps as steps;
 ghost use Rattle.plain_core.specs.Structure.{placed_by, placing_of, at_number};

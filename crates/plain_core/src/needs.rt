@@ -2,7 +2,7 @@
 ghost use Rattle.std.specs.Prelude.{◌≡◌, ◌<◌, ◌≤◌, ◌==◌, ◌&&◌, ltb, ℕ, not, List, ◌∷◌, [], map, length};
 ghost use Rattle.map_model.specs.Lists.{any};
 ghost use Rattle.rfa_model.specs.Reaches.{least};
-ghost use Rattle.image_model.specs.Entries as logged;
+ghost use Rattle.core_state.specs.image_model.Entries as logged;
 ghost use Rattle.page_model.specs.Pairs as paired;
 ghost use Rattle.page_model.specs.Nodes as nodes;
 ghost use Rattle.page_model.specs.Redo as redo;

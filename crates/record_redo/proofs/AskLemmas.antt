@@ -1,10 +1,10 @@
 -- A test of each page that a record names, as far as a loop has come.
 use Rattle.std.proofs.Common.{◌≡◌, ◌<◌, ◌+◌, ℕ, Bool, true, false, ◌||◌, not, leb, ◌==◌, List, length, get_or, drop, refl, sym, ◌∙◌, ap}
 use Rattle.page_model.specs.Page.{Page}
-use Rattle.image_model.specs.Entries.{Contents}
-use Rattle.log_record.specs.Model.{model_ref}
-use Rattle.log_record.specs.declared.record.Body.{Body}
-use Rattle.log_record.specs.declared.record.PageRef.{PageRef}
+use Rattle.disk_image.specs.image_model.Entries.{Contents}
+use Rattle.disk_image.specs.log_record.Model.{model_ref}
+use Rattle.disk_image.specs.log_record.declared.record.Body.{Body}
+use Rattle.disk_image.specs.log_record.declared.record.PageRef.{PageRef}
 use Rattle.record_redo.specs.Pages.{page_of, pages_of}
 use Rattle.record_redo.specs.Inside.{model_refs, are_below, are_met, is_at, can_be, can_all}
 use Rattle.record_redo.proofs.PageLemmas.{page_here}

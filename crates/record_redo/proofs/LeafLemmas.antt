@@ -3,8 +3,8 @@ use Rattle.std.proofs.Common.{◌≡◌, ◌<◌, ℕ, Bool, true, false, ◌&&�
 use Rattle.map_model.specs.Lists.{all}
 use Rattle.page_model.specs.Page.{Page}
 use Rattle.page_model.specs.Records.{Ref}
-use Rattle.image_model.specs.Entries.{Contents}
-use Rattle.log_record.specs.declared.record.Body.{Body}
+use Rattle.disk_image.specs.image_model.Entries.{Contents}
+use Rattle.disk_image.specs.log_record.declared.record.Body.{Body}
 use Rattle.record_redo.specs.Pages.{pages_of}
 use Rattle.record_redo.specs.Inside.{are_below, are_met, can_be, can_all}
 use Rattle.record_redo.proofs.PageLemmas.{page_here}

@@ -7,14 +7,14 @@ use Rattle.page_model.specs.Pairs.{Pair, Rising}
 use Rattle.page_model.specs.Nodes.{Node}
 use Rattle.page_model.specs.Check.{is_rising}
 use Rattle.page_model.specs.Redo.{is_ordered}
-use Rattle.btree_node.specs.Words.{IsOrdered, pairs_of, flat}
-use Rattle.btree_node.proofs.FlatLemmas.{words-pairs_of, words-whole, length-flat, flat-append}
-use Rattle.log_record.specs.Model.{model_pair, model_pairs}
-use Rattle.log_record.specs.declared.record.PageRef.{PageRef}
-use Rattle.log_record.specs.declared.record.Pairs.{Pairs}
-use Rattle.log_record.specs.declared.record.Pair as log
-use Rattle.log_record.specs.declared.record.Body.TheVariants.{Split, Lift, Join, DropRoot}
-use Rattle.log_record.specs.declared.record.Body.{Body}
+use Rattle.disk_image.specs.btree_node.Words.{IsOrdered, pairs_of, flat}
+use Rattle.disk_image.proofs.btree_node_lemmas.FlatLemmas.{words-pairs_of, words-whole, length-flat, flat-append}
+use Rattle.disk_image.specs.log_record.Model.{model_pair, model_pairs}
+use Rattle.disk_image.specs.log_record.declared.record.PageRef.{PageRef}
+use Rattle.disk_image.specs.log_record.declared.record.Pairs.{Pairs}
+use Rattle.disk_image.specs.log_record.declared.record.Pair as log
+use Rattle.disk_image.specs.log_record.declared.record.Body.TheVariants.{Split, Lift, Join, DropRoot}
+use Rattle.disk_image.specs.log_record.declared.record.Body.{Body}
 use Rattle.record_redo.specs.Inside.{record_in, is_sayable, can_be, AreWordsOf}
 
 -- ## Order

@@ -5,7 +5,7 @@ use Rattle.std.proofs.lemmas.List.{length-set, get_or-set_same, get_or-set_other
 use Rattle.std.proofs.lemmas.Option.{slice_get-get_or, same_Some, slice_get_within}
 use mathlib.Core.Path.{fun_ext}
 use Rattle.page_model.specs.Page.{Page}
-use Rattle.image_model.specs.Entries.{Contents}
+use Rattle.disk_image.specs.image_model.Entries.{Contents}
 use Rattle.record_redo.specs.Pages.{page_of, page_or, pages_of, SameOwn, Keeps, MarksFor}
 
 -- ## Places of a list

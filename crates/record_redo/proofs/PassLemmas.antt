@@ -5,14 +5,14 @@ use Rattle.page_model.specs.Nodes.{Node}
 use Rattle.page_model.specs.Redo as asked
 use Rattle.page_model.specs.Records as records
 use Rattle.page_model.specs.Records.{Ref}
-use Rattle.image_model.specs.Entries.{Contents, page_kind}
-use Rattle.image_model.specs.Redo.{passes, is_sayable_as, can_change}
+use Rattle.disk_image.specs.image_model.Entries.{Contents, page_kind}
+use Rattle.disk_image.specs.image_model.Redo.{passes, is_sayable_as, can_change}
 use Rattle.disk_image.specs.Formats.{format_of}
 use Rattle.disk_image.specs.Records.{entry_of, kind_of, refs_of}
-use Rattle.log_record.specs.Model.{model_ref, root_ref}
-use Rattle.log_record.specs.declared.record.Record.{Record}
-use Rattle.log_record.specs.declared.record.Body.{Body}
-use Rattle.log_record.specs.declared.record.Body.TheVariants.{Change, PutBack, Split, Lift, Join, DropRoot, Purge, Commit, Abort}
+use Rattle.disk_image.specs.log_record.Model.{model_ref, root_ref}
+use Rattle.disk_image.specs.log_record.declared.record.Record.{Record}
+use Rattle.disk_image.specs.log_record.declared.record.Body.{Body}
+use Rattle.disk_image.specs.log_record.declared.record.Body.TheVariants.{Change, PutBack, Split, Lift, Join, DropRoot, Purge, Commit, Abort}
 use Rattle.record_redo.specs.Inside.{is_page, is_sayable, can_all, are_below, are_met, record_in}
 use Rattle.record_redo.proofs.StepLemmas.{Distinct, all_same, own_stood}
 

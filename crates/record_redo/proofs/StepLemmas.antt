@@ -4,12 +4,12 @@ use Rattle.std.proofs.lemmas.Bool.{cases_Bool, and_parts, and_left, or_from, or_
 use mathlib.Core.Path.{fun_ext}
 use Rattle.map_model.specs.Lists.{Has, any, all}
 use Rattle.page_model.specs.Records.{Ref}
-use Rattle.image_model.specs.Entries.{Entry, Contents, written}
-use Rattle.image_model.specs.Redo.{stands, at_prev}
+use Rattle.disk_image.specs.image_model.Entries.{Entry, Contents, written}
+use Rattle.disk_image.specs.image_model.Redo.{stands, at_prev}
 use Rattle.record_redo.specs.Pages.{one_redone}
 use Rattle.record_redo.specs.Inside.{is_at, step, steps, can_all}
 use Rattle.record_redo.specs.Inside as inside
-use Rattle.log_record.specs.declared.record.Body.{Body}
+use Rattle.disk_image.specs.log_record.declared.record.Body.{Body}
 
 -- the page is none of these
 abbrev pub Apart : ℕ → List Ref → Type 0

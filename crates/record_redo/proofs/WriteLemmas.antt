@@ -5,10 +5,10 @@ use Rattle.std.proofs.lemmas.List.{at_drop_more}
 use mathlib.Core.Path.{fun_ext}
 use Rattle.page_model.specs.Page.{Page}
 use Rattle.page_model.specs.Records.{Ref}
-use Rattle.image_model.specs.Entries.{Entry, Contents, written, touches}
-use Rattle.log_record.specs.Model.{model_ref}
-use Rattle.log_record.specs.declared.record.Body.{Body}
-use Rattle.log_record.specs.declared.record.PageRef.{PageRef}
+use Rattle.disk_image.specs.image_model.Entries.{Entry, Contents, written, touches}
+use Rattle.disk_image.specs.log_record.Model.{model_ref}
+use Rattle.disk_image.specs.log_record.declared.record.Body.{Body}
+use Rattle.disk_image.specs.log_record.declared.record.PageRef.{PageRef}
 use Rattle.record_redo.specs.Pages.{page_of, pages_of, Keeps, MarksFor}
 use Rattle.record_redo.specs.Inside as inside
 use Rattle.record_redo.specs.Inside.{model_refs, is_among, are_below, is_at, can_all, step, steps}

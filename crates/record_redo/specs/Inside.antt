@@ -7,15 +7,15 @@ use Rattle.page_model.specs.Page.{Page}
 use Rattle.page_model.specs.Redo as asked
 use Rattle.page_model.specs.Records as records
 use Rattle.page_model.specs.Records.{Ref, any}
-use Rattle.image_model.specs.Entries as model
-use Rattle.image_model.specs.Entries.{Entry, page_kind, written}
-use Rattle.image_model.specs.Redo.{is_sayable_as}
+use Rattle.disk_image.specs.image_model.Entries as model
+use Rattle.disk_image.specs.image_model.Entries.{Entry, page_kind, written}
+use Rattle.disk_image.specs.image_model.Redo.{is_sayable_as}
 use Rattle.disk_image.specs.Formats.{format_of}
 use Rattle.disk_image.specs.Records.{kind_of, record_or}
-use Rattle.btree_node.specs.Words as words
-use Rattle.log_record.specs.Model.{model_of, model_ref}
-use Rattle.log_record.specs.declared.record.Body.{Body}
-use Rattle.log_record.specs.declared.record.PageRef.{PageRef}
+use Rattle.disk_image.specs.btree_node.Words as words
+use Rattle.disk_image.specs.log_record.Model.{model_of, model_ref}
+use Rattle.disk_image.specs.log_record.declared.record.Body.{Body}
+use Rattle.disk_image.specs.log_record.declared.record.PageRef.{PageRef}
 use Rattle.record_redo.specs.declared.refs.Refs.{Refs}
 
 -- ## A record's body

@@ -2,9 +2,9 @@
 use Rattle.std.specs.Prelude.{◌≡◌, ◌⊎◌, ℕ, Bool, true, false, List, length, slice_index_or, Option, Some, None, slice_get}
 use Rattle.page_model.specs.Page.{Page}
 use Rattle.page_model.specs.Nodes.{free}
-use Rattle.image_model.specs.Entries as model
-use Rattle.image_model.specs.Entries.{Entry}
-use Rattle.image_model.specs.Redo.{redo_one}
+use Rattle.disk_image.specs.image_model.Entries as model
+use Rattle.disk_image.specs.image_model.Entries.{Entry}
+use Rattle.disk_image.specs.image_model.Redo.{redo_one}
 
 -- a page with the number and the log of its last record
 abbrev pub page_of : Page → model.Contents

@@ -3,17 +3,17 @@ ghost use Rattle.std.specs.Prelude.{◌≡◌, ◌<◌, ◌≤◌, ◌||◌, ◌
 ghost use Rattle.page_model.specs.Page.{with_pairs};
 ghost use Rattle.page_model.specs.Pairs.{put};
 ghost use Rattle.page_model.specs.Redo as asked;
-ghost use Rattle.image_model.specs.Entries.{written, touches};
+ghost use Rattle.disk_image.specs.image_model.Entries.{written, touches};
 ghost use Rattle.disk_image.specs.Records.{entry_of, refs_of};
-ghost use Rattle.log_record.specs.Spelling.{IsCounted};
-ghost use Rattle.log_record.specs.Model.{model_ref};
+ghost use Rattle.disk_image.specs.log_record.Spelling.{IsCounted};
+ghost use Rattle.disk_image.specs.log_record.Model.{model_ref};
 ghost use Rattle.record_redo.specs.Pages.{page_of, pages_of, SameOwn, Keeps, MarksFor};
 ghost use Rattle.record_redo.specs.Inside as inside;
 ghost use Rattle.record_redo.specs.Inside.{record_in, AreWordsOf, model_refs};
 
 use crate::asks::counted;
-use btree_node::Node;
-use log_record::{Body, PageRef, Record};
+use disk_image::btree_node::Node;
+use disk_image::log_record::{Body, PageRef, Record};
 
 /// Writes and marks each page that stands at its prev.
 pub(crate) fn write_all(

@@ -2,15 +2,15 @@
 ghost use Rattle.std.specs.Prelude.{◌≡◌, ◌<◌, ◌≤◌, ◌+◌, ◌*◌, ◌%◌, ◌++◌, ◌&&◌, ◌||◌, ◌==◌, not, leb, ltb, true, length, take};
 ghost use Rattle.page_model.specs.Nodes.{is_leaf};
 ghost use Rattle.page_model.specs.Redo as asked;
-ghost use Rattle.btree_node.specs.Words.{pairs_of};
-ghost use Rattle.log_record.specs.Spelling.{IsCounted};
-ghost use Rattle.log_record.specs.Model.{model_ref, model_keys};
+ghost use Rattle.disk_image.specs.btree_node.Words.{pairs_of};
+ghost use Rattle.disk_image.specs.log_record.Spelling.{IsCounted};
+ghost use Rattle.disk_image.specs.log_record.Model.{model_ref, model_keys};
 ghost use Rattle.record_redo.specs.Pages.{pages_of};
 ghost use Rattle.record_redo.specs.Inside as inside;
 ghost use Rattle.record_redo.specs.Inside.{record_in, AreWordsOf, model_refs};
 
-use btree_node::{Node, are_ordered};
-use log_record::{Body, Keys, PageRef};
+use disk_image::btree_node::{Node, are_ordered};
+use disk_image::log_record::{Body, Keys, PageRef};
 
 /// The word of a tombstone, which is the greatest word of a leaf.
 const DEAD: u64 = 1 << 63;

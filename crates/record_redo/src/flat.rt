@@ -1,11 +1,11 @@
 // The pairs of a record as words, key and word in turn.
 ghost use Rattle.std.specs.Prelude.{◌≡◌, ◌*◌, ◌≤◌, length, take, map};
-ghost use Rattle.btree_node.specs.Words.{flat};
-ghost use Rattle.log_record.specs.Spelling.{IsCounted};
-ghost use Rattle.log_record.specs.Model.{model_pair};
+ghost use Rattle.disk_image.specs.btree_node.Words.{flat};
+ghost use Rattle.disk_image.specs.log_record.Spelling.{IsCounted};
+ghost use Rattle.disk_image.specs.log_record.Model.{model_pair};
 ghost use Rattle.record_redo.specs.Inside.{record_in, AreWordsOf};
 
-use log_record::{Body, Pair, Pairs};
+use disk_image::log_record::{Body, Pair, Pairs};
 
 /// How many words the pairs of a record take at most.
 pub(crate) const MOST_WORDS: usize = 120;

@@ -1,11 +1,11 @@
 // Redo of one record.
 ghost use Rattle.std.specs.Prelude.{◌≡◌, ◌≤◌, ◌∷◌, [], true, length, is_some, IfSome, IfNone, IsSome};
-ghost use Rattle.image_model.specs.Entries.{touches};
-ghost use Rattle.image_model.specs.Redo as redoing;
+ghost use Rattle.disk_image.specs.image_model.Entries.{touches};
+ghost use Rattle.disk_image.specs.image_model.Redo as redoing;
 ghost use Rattle.disk_image.specs.Formats.{format_of};
 ghost use Rattle.disk_image.specs.Records.{entry_of, refs_of};
-ghost use Rattle.log_record.specs.Spelling.{IsCounted};
-ghost use Rattle.log_record.specs.Model.{model_ref};
+ghost use Rattle.disk_image.specs.log_record.Spelling.{IsCounted};
+ghost use Rattle.disk_image.specs.log_record.Model.{model_ref};
 ghost use Rattle.record_redo.specs.Pages.{pages_of, one_redone, Keeps, MarksFor};
 ghost use Rattle.record_redo.specs.Inside as inside;
 ghost use Rattle.record_redo.specs.Inside.{record_in, AreWordsOf};
@@ -14,8 +14,8 @@ use crate::apply::{write_all, write_one};
 use crate::asks::{are_met, can_all, can_one, is_met, is_sayable};
 use crate::flat::{MOST_WORDS, spell_pairs};
 use crate::refs::{are_there, refs_of};
-use btree_node::Node;
-use log_record::{Body, PageRef, Record};
+use disk_image::btree_node::Node;
+use disk_image::log_record::{Body, PageRef, Record};
 
 /// Redoes a record of a log, and marks the pages that it changes. The answer is whether the record counts. None where
 /// it names a page that there is not, or counts and can't be done: then nothing has changed.

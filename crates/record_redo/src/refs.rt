@@ -1,10 +1,10 @@
 // The pages that a record names.
 ghost use Rattle.std.specs.Prelude.{◌≡◌, ◌≤◌, ◌∷◌, []};
-ghost use Rattle.log_record.specs.Model.{model_ref, root_ref};
+ghost use Rattle.disk_image.specs.log_record.Model.{model_ref, root_ref};
 ghost use Rattle.disk_image.specs.Records.{refs_of};
 ghost use Rattle.record_redo.specs.Inside.{refs_in, model_refs, are_below};
 
-use log_record::{Body, PageRef};
+use disk_image::log_record::{Body, PageRef};
 
 /// The first `count` of these.
 #[derive(Clone, Copy)]

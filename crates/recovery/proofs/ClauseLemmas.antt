@@ -8,12 +8,12 @@ use Rattle.lean_disk.specs.Story.{Story, Tells, areas_of}
 use Rattle.lean_disk.specs.declared.disk.Did.{Did}
 use Rattle.lean_disk.specs.declared.disk.Did.TheVariants.{Done}
 use Rattle.lean_disk.proofs.MomentLemmas.{then, weaker}
-use Rattle.disk_slots.specs.Masters.{master_slot, IsMaster}
-use Rattle.disk_slots.specs.declared.master.Master.{Master}
-use Rattle.disk_image.specs.MasterSlots.{master_on}
-use Rattle.disk_image.specs.Shown.{IsCleanDisk, image_by}
-use Rattle.page_store.specs.Runs.{IsReady}
-use Rattle.page_store.specs.Saved.{LeavesSaves, Save}
+use Rattle.master_store.specs.disk_slots.Masters.{master_slot, IsMaster}
+use Rattle.master_store.specs.disk_slots.declared.master.Master.{Master}
+use Rattle.master_store.specs.disk_image.MasterSlots.{master_on}
+use Rattle.master_store.specs.disk_image.Shown.{IsCleanDisk, image_by}
+use Rattle.master_store.specs.page_store.Runs.{IsReady}
+use Rattle.master_store.specs.page_store.Saved.{LeavesSaves, Save}
 use Rattle.record_redo.specs.Pages as redo_images
 use Rattle.recovery.specs.Crashes.{RecoveryLeaves}
 use Rattle.recovery.specs.Inside.{AreSettled, IsPrepared, IsReadied, IsTurned, OnlySettles, SavesAll, saves_to, turned}
@@ -28,7 +28,7 @@ use Rattle.recovery.proofs.InstallLemmas.{installed}
 use Rattle.recovery.proofs.LastLemmas.{opened, saving, writing}
 use Rattle.master_store.proofs.SlotLemmas.{master_is, slot_of}
 use Rattle.recovery.proofs.MasterLemmas.{valid_next}
-use Rattle.disk_image.specs.Formats.{format_of}
+use Rattle.master_store.specs.disk_image.Formats.{format_of}
 use Rattle.node_tree.specs.Nodes.{nodes_of}
 
 -- nothing was written

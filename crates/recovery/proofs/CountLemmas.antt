@@ -3,9 +3,9 @@ use Rattle.std.proofs.Common.{◌≡◌, ◌⊎◌, ◌<◌, ◌≤◌, ◌-◌,
 use Rattle.std.proofs.lemmas.Bool.{cases_Bool, cases_eq, cases_lt}
 use Rattle.std.proofs.lemmas.Option.{slice_get_within, same_Some}
 use Rattle.page_model.specs.Page.{Page}
-use Rattle.disk_image.specs.Shown.{Areas, page_slot_in}
-use Rattle.page_store.specs.Bases.{IsAhead, IsBase, YieldsTo}
-use Rattle.page_store.specs.Saved.{HoldsOne, HoldsSaves, IsSpared, Save}
+use Rattle.master_store.specs.disk_image.Shown.{Areas, page_slot_in}
+use Rattle.master_store.specs.page_store.Bases.{IsAhead, IsBase, YieldsTo}
+use Rattle.master_store.specs.page_store.Saved.{HoldsOne, HoldsSaves, IsSpared, Save}
 use Rattle.recovery.specs.Inside.{IsBased, IsReadied, IsStray, page_or, save_of, saves_to, turned}
 use Rattle.recovery.specs.Opened.{Counts}
 use Rattle.recovery.specs.declared.prepare.Prepared.{Prepared}

@@ -4,10 +4,10 @@ use Rattle.page_model.specs.Page.{Page}
 use Rattle.lean_disk.specs.Area.{Area, Write, synced, written}
 use Rattle.lean_disk.specs.Moments.{Framed}
 use Rattle.lean_disk.specs.Story.{Story, areas_of}
-use Rattle.disk_slots.specs.Masters.{master_slot}
-use Rattle.page_store.specs.Laws.{IsRead}
-use Rattle.page_store.specs.Saved.{AreApart, AreSaves, HoldsSaves, IsSpared, Reaches, Save, saved, write_of}
-use Rattle.page_store.proofs.HeldLemmas.{every_read}
+use Rattle.master_store.specs.disk_slots.Masters.{master_slot}
+use Rattle.master_store.specs.page_store.Laws.{IsRead}
+use Rattle.master_store.specs.page_store.Saved.{AreApart, AreSaves, HoldsSaves, IsSpared, Reaches, Save, saved, write_of}
+use Rattle.master_store.proofs.page_store_lemmas.HeldLemmas.{every_read}
 use Rattle.recovery.specs.Inside.{IsBased, IsPrepared, IsReadied, OnlySettles, save_of, saves_to}
 use Rattle.recovery.specs.Installed.{HasInstalled}
 use Rattle.recovery.specs.declared.opening.Recovered.{Recovered}

@@ -6,10 +6,10 @@ use Rattle.lean_disk.specs.Story.{Story, Tells, areas_of}
 use Rattle.lean_disk.specs.declared.disk.Did.{Did}
 use Rattle.lean_disk.specs.declared.disk.Did.TheVariants.{Done}
 use Rattle.page_model.specs.Page.{Page}
-use Rattle.disk_slots.specs.declared.master.Master.{Master}
-use Rattle.disk_image.specs.Shown.{page_slot_in}
-use Rattle.page_store.specs.Runs.{IsReady}
-use Rattle.page_store.specs.Saved.{HoldsSaves, Save, saved}
+use Rattle.master_store.specs.disk_slots.declared.master.Master.{Master}
+use Rattle.master_store.specs.disk_image.Shown.{page_slot_in}
+use Rattle.master_store.specs.page_store.Runs.{IsReady}
+use Rattle.master_store.specs.page_store.Saved.{HoldsSaves, Save, saved}
 use Rattle.recovery.specs.Inside.{IsBased, IsReadied, IsTurned, OnlySettles, SavesAll, saves_to}
 use Rattle.recovery.specs.Masters.{next_master}
 use Rattle.recovery.specs.Opened.{Counts, HasSlots, IsSettled}

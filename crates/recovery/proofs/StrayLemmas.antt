@@ -6,16 +6,16 @@ use Rattle.std.proofs.lemmas.Option.{same_Some}
 use Rattle.page_model.specs.Nodes.{Node}
 use Rattle.page_model.specs.Page.{Page}
 use Rattle.page_model.specs.Pairs.{Pair}
-use Rattle.btree_node.specs.Words.{flat}
-use Rattle.disk_slots.specs.declared.master.Master.{Master}
-use Rattle.disk_image.specs.Shown.{Areas, slot_of}
-use Rattle.page_store.specs.Bases.{IsAhead, image_page}
-use Rattle.page_store.specs.Slots.{EverySeal, HasSeal, HoldsIn, slot_bytes}
-use Rattle.page_store.specs.declared.base.Base.{Base}
-use Rattle.page_store.specs.declared.slot.Bounds.{Bounds}
-use Rattle.page_store.specs.declared.slot.Held.TheVariants as held
-use Rattle.page_store.specs.declared.slot.Seal.{Seal}
-use Rattle.page_store.specs.declared.slot.Seal.TheVariants as seal
+use Rattle.master_store.specs.btree_node.Words.{flat}
+use Rattle.master_store.specs.disk_slots.declared.master.Master.{Master}
+use Rattle.master_store.specs.disk_image.Shown.{Areas, slot_of}
+use Rattle.master_store.specs.page_store.Bases.{IsAhead, image_page}
+use Rattle.master_store.specs.page_store.Slots.{EverySeal, HasSeal, HoldsIn, slot_bytes}
+use Rattle.master_store.specs.page_store.declared.base.Base.{Base}
+use Rattle.master_store.specs.page_store.declared.slot.Bounds.{Bounds}
+use Rattle.master_store.specs.page_store.declared.slot.Held.TheVariants as held
+use Rattle.master_store.specs.page_store.declared.slot.Seal.{Seal}
+use Rattle.master_store.specs.page_store.declared.slot.Seal.TheVariants as seal
 use Rattle.recovery.specs.Inside.{HasOther, IsStray}
 use Rattle.recovery.specs.Installed.{EveryClean}
 

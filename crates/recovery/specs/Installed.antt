@@ -3,14 +3,14 @@ use Rattle.std.specs.Prelude.{◌≡◌, ◌⊎◌, ◌<◌, ◌*◌, ◌%◌, �
 use Rattle.map_model.specs.Lists.{Has, any}
 use Rattle.page_model.specs.Nodes.{holds}
 use Rattle.page_model.specs.Page.{Page}
-use Rattle.image_model.specs.Entries.{touches}
-use Rattle.image_model.specs.Images.{Image, recovered_page, sorted}
+use Rattle.core_state.specs.image_model.Entries.{touches}
+use Rattle.core_state.specs.image_model.Images.{Image, recovered_page, sorted}
 use Rattle.lean_disk.specs.Story.{Story, areas_of}
-use Rattle.disk_slots.specs.Masters.{master_slot}
-use Rattle.disk_slots.specs.declared.master.Master.{Master}
-use Rattle.disk_image.specs.Shown.{Areas, image_by, page_slot_in, IsCleanDisk}
-use Rattle.page_store.specs.Bases.{image_page}
-use Rattle.page_store.specs.Saved.{Save, AreApart, AreSaves, HoldsSaves, write_of}
+use Rattle.master_store.specs.disk_slots.Masters.{master_slot}
+use Rattle.master_store.specs.disk_slots.declared.master.Master.{Master}
+use Rattle.master_store.specs.disk_image.Shown.{Areas, image_by, page_slot_in, IsCleanDisk}
+use Rattle.master_store.specs.page_store.Bases.{image_page}
+use Rattle.master_store.specs.page_store.Saved.{Save, AreApart, AreSaves, HoldsSaves, write_of}
 use Rattle.recovery.specs.declared.opening.Recovered.{Recovered}
 
 -- a record names the page, or its key is one that the recovered page, a leaf, may hold

@@ -3,24 +3,24 @@ use Rattle.std.specs.Prelude.{◌≡◌, ◌⊎◌, ◌<◌, ◌≤◌, ◌+◌,
 use Rattle.map_model.specs.Lists.{Has}
 use Rattle.page_model.specs.Page.{Page}
 use Rattle.page_model.specs.Tree.{IsTree}
-use Rattle.image_model.specs.Entries.{Entry}
-use Rattle.image_model.specs.Images.{Image, bases, sorted, won_by, lost_by, recovered_page}
-use Rattle.image_model.specs.Slots.{Shown, Slot, base_of}
+use Rattle.core_state.specs.image_model.Entries.{Entry}
+use Rattle.core_state.specs.image_model.Images.{Image, bases, sorted, won_by, lost_by, recovered_page}
+use Rattle.core_state.specs.image_model.Slots.{Shown, Slot, base_of}
 use Rattle.lean_disk.specs.Area.{Area}
 use Rattle.lean_disk.specs.Story.{Story, areas_of}
-use Rattle.disk_slots.specs.Masters.{IsMaster}
-use Rattle.disk_slots.specs.declared.master.Master.{Master}
-use Rattle.disk_image.specs.Formats.{format_of}
-use Rattle.disk_image.specs.MasterSlots.{master_on}
-use Rattle.disk_image.specs.Shown.{Areas, page_slot_in, shown_by, image_by, IsSoundDisk}
+use Rattle.master_store.specs.disk_slots.Masters.{IsMaster}
+use Rattle.master_store.specs.disk_slots.declared.master.Master.{Master}
+use Rattle.master_store.specs.disk_image.Formats.{format_of}
+use Rattle.master_store.specs.disk_image.MasterSlots.{master_on}
+use Rattle.master_store.specs.disk_image.Shown.{Areas, page_slot_in, shown_by, image_by, IsSoundDisk}
 use Rattle.node_tree.specs.Nodes.{nodes_of}
 use Rattle.record_redo.specs.Pages.{page_of}
-use Rattle.page_store.specs.Bases.{YieldsTo, image_page}
+use Rattle.master_store.specs.page_store.Bases.{YieldsTo, image_page}
 use Rattle.recovery.specs.Masters.{next_master}
 use Rattle.recovery.specs.declared.opening.Recovered.{Recovered}
 use Rattle.recovery.specs.declared.opening.Unrecovered.{Unrecovered}
 use Rattle.recovery.specs.declared.opening.Unrecovered.TheVariants as why
-use Rattle.disk_image.specs.Runs.{HasNone}
+use Rattle.master_store.specs.disk_image.Runs.{HasNone}
 
 -- this is page p as recovery gives it, saved by the generation or one before
 pub record IsPageOf (i : Image) (generation p : ℕ) (v : Page) : Type 0 where

@@ -1,10 +1,10 @@
 -- The start that a disk gives to a run of the core.
 use Rattle.std.specs.Prelude.{◌≡◌, ◌<◌, ℕ, length}
 use Rattle.core_state.specs.Openings.{Opening, start_page}
-use Rattle.image_model.specs.Images.{recovered_page}
-use Rattle.disk_slots.specs.declared.master.Master.{Master}
-use Rattle.disk_image.specs.Formats.{format_of}
-use Rattle.disk_image.specs.Shown.{Areas, image_by}
+use Rattle.core_state.specs.image_model.Images.{recovered_page}
+use Rattle.master_store.specs.disk_slots.declared.master.Master.{Master}
+use Rattle.master_store.specs.disk_image.Formats.{format_of}
+use Rattle.master_store.specs.disk_image.Shown.{Areas, image_by}
 use Rattle.recovery.specs.Opened.{IsGreatest}
 
 -- The opening is the start that a disk gives by its master: its format and logs, the pages that recovery of its image gives, and the greatest number

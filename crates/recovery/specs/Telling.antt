@@ -1,8 +1,8 @@
 -- What a disk is asked to tell for a promise about it.
 use Rattle.std.specs.Prelude.{◌≡◌, ◌<◌, ◌≤◌, ℕ, suc, length, Some}
 use Rattle.lean_disk.specs.Story.{Story, Tells}
-use Rattle.disk_slots.specs.declared.master.Master.{Master}
-use Rattle.disk_image.specs.MasterSlots.{master_on}
+use Rattle.master_store.specs.disk_slots.declared.master.Master.{Master}
+use Rattle.master_store.specs.disk_image.MasterSlots.{master_on}
 use Rattle.recovery.specs.Masters.{IsOpenable}
 
 -- it tells of the areas of the master and of the pages, and, if the master that counts is one by which disks of at most so many logs are opened, of

@@ -5,14 +5,14 @@ use Rattle.map_model.specs.Lists.{Has, upd, insert_by, in_order}
 use Rattle.map_model.proofs.ListLemmas.{has_cases, has_right, insert_has, order_has}
 use Rattle.page_model.specs.Page.{Page}
 use Rattle.page_model.specs.Nodes.{Format}
-use Rattle.image_model.specs.Entries as model
-use Rattle.image_model.specs.Entries.{Entry, earlier}
-use Rattle.image_model.specs.Redo.{mark, redo, stands, names_pages, can_change, passes, all_pass}
-use Rattle.image_model.specs.Images.{IsFalling, gathered}
+use Rattle.disk_image.specs.image_model.Entries as model
+use Rattle.disk_image.specs.image_model.Entries.{Entry, earlier}
+use Rattle.disk_image.specs.image_model.Redo.{mark, redo, stands, names_pages, can_change, passes, all_pass}
+use Rattle.disk_image.specs.image_model.Images.{IsFalling, gathered}
 use Rattle.disk_image.specs.Formats.{format_of}
 use Rattle.disk_image.specs.Records as records
-use Rattle.log_record.specs.declared.record.Body.{Body}
-use Rattle.log_record.specs.declared.record.Body.TheVariants as body
+use Rattle.disk_image.specs.log_record.declared.record.Body.{Body}
+use Rattle.disk_image.specs.log_record.declared.record.Body.TheVariants as body
 use Rattle.log_index.specs.Items.{Item}
 use Rattle.record_redo.specs.Pages.{pages_of}
 use Rattle.recovery_scan.specs.Records.{entry_of, entries_of}

@@ -8,15 +8,15 @@ use Rattle.page_model.specs.Nodes.{Format}
 use Rattle.page_model.specs.Tree.{IsTree, entry}
 use Rattle.page_model.specs.Check.{page_ok}
 use Rattle.page_model.specs.Redo.{is_some}
-use Rattle.image_model.specs.Fair.{piece}
-use Rattle.image_model.specs.Entries as model
-use Rattle.image_model.specs.Entries.{Entry, earlier}
-use Rattle.image_model.specs.Ends as ends
-use Rattle.image_model.specs.Redo.{Redone, redo, passes}
-use Rattle.image_model.specs.Undo as undoing
-use Rattle.image_model.specs.Undo.{is_lost}
-use Rattle.image_model.specs.Images.{Image, gathered, bases, redone, lost, has_entry, page_or, IsFalling}
-use Rattle.disk_slots.specs.declared.master.Master.{Master}
+use Rattle.disk_image.specs.image_model.Fair.{piece}
+use Rattle.disk_image.specs.image_model.Entries as model
+use Rattle.disk_image.specs.image_model.Entries.{Entry, earlier}
+use Rattle.disk_image.specs.image_model.Ends as ends
+use Rattle.disk_image.specs.image_model.Redo.{Redone, redo, passes}
+use Rattle.disk_image.specs.image_model.Undo as undoing
+use Rattle.disk_image.specs.image_model.Undo.{is_lost}
+use Rattle.disk_image.specs.image_model.Images.{Image, gathered, bases, redone, lost, has_entry, page_or, IsFalling}
+use Rattle.disk_image.specs.disk_slots.declared.master.Master.{Master}
 use Rattle.disk_image.specs.Formats.{format_of}
 use Rattle.disk_image.specs.Runs.{Block, Logged, entries_in, records_onto, records_or, logged_onto}
 use Rattle.disk_image.specs.Blocks.{block_in}
@@ -28,7 +28,7 @@ use Rattle.disk_image.specs.Words.{words_in}
 use Rattle.disk_image.proofs.TestLemmas.{if_some}
 use Rattle.disk_image.proofs.AgreementLemmas.{every_agreement}
 use Rattle.node_tree.specs.Nodes.{nodes_of}
-use Rattle.log_record.specs.declared.record.Record.{Record}
+use Rattle.disk_image.specs.log_record.declared.record.Record.{Record}
 use Rattle.log_index.specs.Items.{Item}
 use Rattle.record_redo.specs.Pages.{pages_of}
 use Rattle.recovery_scan.specs.Records.{entry_of, entries_of}
@@ -41,7 +41,7 @@ use Rattle.recovery_redo.proofs.LogLemmas.{entries_split, has_at, has_entry_of, 
 use Rattle.recovery_redo.proofs.PageLemmas.{node_at}
 use Rattle.page_model.proofs.Same.{entry_same}
 use Rattle.recovery_redo.proofs.SameLemmas.{page_ok_same}
-use Rattle.image_model.proofs.SameLemmas.{SameRedone, redo_same, passes_same}
+use Rattle.disk_image.proofs.image_model_lemmas.SameLemmas.{SameRedone, redo_same, passes_same}
 use Rattle.recovery_redo.proofs.CountLemmas.{AreApart, apart_gathered, apart_order, redone_pages, redone_pass, counts_at}
 use Rattle.recovery_redo.proofs.ImageLemmas.{image_in, lost_from, base_from, won_is, undone_is, recovered_is, sound_is}
 
@@ -57,8 +57,8 @@ some_pages n m h =
 some_in : (n : ℕ) (bytes : List ℕ) (m : Master) → master_in n bytes ≡ Some m → 0 < m.pages
 some_in n bytes m h =
     let o = master_of (words_in 126 bytes) in
-    let b = if_some (bytes_eq bytes (Rattle.disk_slots.specs.Masters.master_slot o) && is_master n o) o m h in
-    some_pages n m (ap (is_master n) (sym b.1) ∙ (and_parts (bytes_eq bytes (Rattle.disk_slots.specs.Masters.master_slot o)) (is_master n o) b.0).1)
+    let b = if_some (bytes_eq bytes (Rattle.disk_image.specs.disk_slots.Masters.master_slot o) && is_master n o) o m h in
+    some_pages n m (ap (is_master n) (sym b.1) ∙ (and_parts (bytes_eq bytes (Rattle.disk_image.specs.disk_slots.Masters.master_slot o)) (is_master n o) b.0).1)
 
 newer_one : (a b : Option Master) (m : Master) → newer a b ≡ Some m → (a ≡ Some m) ⊎ (b ≡ Some m)
 newer_one None b m e = inr e

@@ -5,13 +5,13 @@ use Rattle.map_model.specs.Lists.{Has, in_order}
 use Rattle.page_model.specs.Page.{Page}
 use Rattle.page_model.specs.Tree.{IsTree, entry}
 use Rattle.page_model.specs.Redo.{is_some}
-use Rattle.image_model.specs.Entries as model
-use Rattle.image_model.specs.Entries.{Entry, earlier, is_write, written}
-use Rattle.image_model.specs.Ends as ends
-use Rattle.image_model.specs.Redo.{Redone, redo, stands, at_prev, all_pass}
-use Rattle.image_model.specs.Undo as undoing
-use Rattle.image_model.specs.Undo.{is_lost, undo_node}
-use Rattle.image_model.specs.Images.{Image, gathered, sorted, redone, lost, has_entry, recovered_page, won_by, lost_by, IsFalling, IsSound}
+use Rattle.disk_image.specs.image_model.Entries as model
+use Rattle.disk_image.specs.image_model.Entries.{Entry, earlier, is_write, written}
+use Rattle.disk_image.specs.image_model.Ends as ends
+use Rattle.disk_image.specs.image_model.Redo.{Redone, redo, stands, at_prev, all_pass}
+use Rattle.disk_image.specs.image_model.Undo as undoing
+use Rattle.disk_image.specs.image_model.Undo.{is_lost, undo_node}
+use Rattle.disk_image.specs.image_model.Images.{Image, gathered, sorted, redone, lost, has_entry, recovered_page, won_by, lost_by, IsFalling, IsSound}
 use Rattle.image_laws.proofs.OrderLemmas.{every_order}
 use Rattle.disk_image.specs.Formats.{format_of}
 use Rattle.node_tree.specs.Nodes.{nodes_of}

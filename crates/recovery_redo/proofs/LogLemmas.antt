@@ -4,8 +4,8 @@ use Rattle.std.proofs.Math.Seq.{take-suc, take-length}
 use Rattle.std.proofs.lemmas.List.{reverse-append, map-append}
 use Rattle.map_model.specs.Lists.{Has}
 use Rattle.map_model.proofs.ListLemmas.{has_cases, has_right}
-use Rattle.image_model.specs.Entries.{Entry}
-use Rattle.log_record.specs.declared.record.Body.TheVariants.{Commit}
+use Rattle.disk_image.specs.image_model.Entries.{Entry}
+use Rattle.disk_image.specs.log_record.declared.record.Body.TheVariants.{Commit}
 use Rattle.log_index.specs.Items.{Item}
 use Rattle.recovery_scan.specs.Records.{entry_of, entries_of}
 use Rattle.recovery_scan.specs.Scans.{AreOfLogs}

@@ -8,9 +8,9 @@ use Rattle.map_model.proofs.ListLemmas.{has_any}
 use Rattle.page_model.specs.Page.{Page}
 use Rattle.page_model.specs.Pairs.{put}
 use Rattle.page_model.specs.Nodes.{Node, holds}
-use Rattle.image_model.specs.Entries as model
-use Rattle.image_model.specs.Entries.{Entry, touches}
-use Rattle.image_model.specs.Undo.{set_in}
+use Rattle.disk_image.specs.image_model.Entries as model
+use Rattle.disk_image.specs.image_model.Entries.{Entry, touches}
+use Rattle.disk_image.specs.image_model.Undo.{set_in}
 use Rattle.node_tree.specs.Nodes.{nodes_of}
 use Rattle.log_index.specs.Items.{Item}
 use Rattle.record_redo.specs.Pages.{pages_of, MarksFor}

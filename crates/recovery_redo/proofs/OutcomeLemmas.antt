@@ -6,8 +6,8 @@ use Rattle.std.specs.Ordering.{nat_cmp}
 use Rattle.std.specs.BTreeSet.{BTreeSet, contains}
 use Rattle.map_model.specs.Lists.{Has, any, keep}
 use Rattle.rfa_model.specs.Reaches.{least, reach_of}
-use Rattle.image_model.specs.Entries.{Entry, same_txn}
-use Rattle.image_model.specs.Ends as ends
+use Rattle.disk_image.specs.image_model.Entries.{Entry, same_txn}
+use Rattle.disk_image.specs.image_model.Ends as ends
 use Rattle.log_index.specs.Items.{Item}
 use Rattle.recovery_scan.specs.Records.{entry_of, entries_of}
 use Rattle.recovery_redo.specs.Inside.{number_in, AreGreatest, IsTop, of_txn, has_txn, HasNone, AreEnded}

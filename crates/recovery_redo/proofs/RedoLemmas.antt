@@ -3,9 +3,9 @@ use Rattle.std.proofs.Common.{◌≡◌, ◌<◌, ◌⊎◌, ℕ, suc, Bool, tru
 use Rattle.std.proofs.lemmas.Bool.{cases_eq, and_from}
 use Rattle.std.proofs.lemmas.List.{get_or-set_same, get_or-set_other, get_or_default}
 use Rattle.page_model.specs.Page.{Page}
-use Rattle.image_model.specs.Entries as model
-use Rattle.image_model.specs.Entries.{Entry}
-use Rattle.image_model.specs.Redo.{redo, stands, passes, all_pass}
+use Rattle.disk_image.specs.image_model.Entries as model
+use Rattle.disk_image.specs.image_model.Entries.{Entry}
+use Rattle.disk_image.specs.image_model.Redo.{redo, stands, passes, all_pass}
 use Rattle.disk_image.specs.Formats.{format_of}
 use Rattle.log_index.specs.Items.{Item}
 use Rattle.record_redo.specs.Pages.{pages_of, one_redone, Keeps, MarksFor}

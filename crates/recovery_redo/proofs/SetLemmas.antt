@@ -8,8 +8,8 @@ use Rattle.page_model.specs.Nodes.{Node, holds}
 use Rattle.page_model.specs.Tree.{IsTree}
 use Rattle.page_model.specs.Redo.{is_some, has_key}
 use Rattle.page_model.proofs.Entries.{holds_to, one_leaf, entry_at, entry_beyond}
-use Rattle.image_model.specs.Entries as model
-use Rattle.image_model.specs.Undo.{set_in}
+use Rattle.disk_image.specs.image_model.Entries as model
+use Rattle.disk_image.specs.image_model.Undo.{set_in}
 use Rattle.disk_image.specs.Formats.{format_of}
 use Rattle.node_tree.specs.Nodes.{nodes_of}
 use Rattle.record_redo.specs.Pages.{page_of, pages_of, SameOwn}

@@ -2,7 +2,7 @@
 use Rattle.std.proofs.Common.{◌≡◌, ◌<◌, ◌≤◌, ◌⊎◌, ℕ, suc, max, List, length, get_or, refl, sym, ◌∙◌, ap, inl, inr, arith}
 use Rattle.std.proofs.lemmas.Bool.{cases_eq, cases_lt}
 use Rattle.page_model.specs.Page.{Page}
-use Rattle.image_model.specs.Entries as model
+use Rattle.disk_image.specs.image_model.Entries as model
 use Rattle.record_redo.specs.Pages.{pages_of}
 use Rattle.recovery_redo.specs.Inside.{IsAtop}
 use Rattle.record_redo.proofs.PageLemmas.{page_here}

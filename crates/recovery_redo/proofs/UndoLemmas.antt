@@ -7,9 +7,9 @@ use Rattle.page_model.specs.Page.{Page}
 use Rattle.page_model.specs.Nodes.{Node, holds}
 use Rattle.page_model.specs.Tree.{IsTree, entry}
 use Rattle.page_model.specs.Redo.{is_some}
-use Rattle.image_model.specs.Entries as model
-use Rattle.image_model.specs.Entries.{Entry}
-use Rattle.image_model.specs.Undo.{set_in, undo_node}
+use Rattle.disk_image.specs.image_model.Entries as model
+use Rattle.disk_image.specs.image_model.Entries.{Entry}
+use Rattle.disk_image.specs.image_model.Undo.{set_in, undo_node}
 use Rattle.disk_image.specs.Formats.{format_of}
 use Rattle.node_tree.specs.Nodes.{nodes_of}
 use Rattle.log_index.specs.Items.{Item}
@@ -20,7 +20,7 @@ use Rattle.recovery_redo.proofs.LogLemmas.{entries_at, entries_all, has_entry_of
 use Rattle.record_redo.proofs.PageLemmas.{keeps_all, keeps_both, marks_none}
 use Rattle.recovery_redo.proofs.PageLemmas.{node_at}
 use Rattle.recovery_redo.proofs.MarkLemmas.{holds_same, leaves_more}
-use Rattle.image_model.proofs.SetLemmas.{set_tree, set_entries}
+use Rattle.disk_image.proofs.image_model_lemmas.SetLemmas.{set_tree, set_entries}
 use Rattle.page_model.proofs.Same.{tree_same, entry_same}
 
 -- the last records are undone, and the pages are still a tree with the same keys

@@ -9,11 +9,11 @@ use Rattle.page_model.specs.Tree.{entry}
 use Rattle.page_model.specs.Check.{page_ok}
 use Rattle.page_model.specs.Redo.{is_some}
 use Rattle.page_model.specs.Records.{no_record}
-use Rattle.image_model.specs.Entries as model
-use Rattle.image_model.specs.Entries.{Kind, Entry, is_write, touches}
-use Rattle.image_model.specs.Ends as ends
-use Rattle.image_model.specs.Redo.{redo, stands, passes, all_pass}
-use Rattle.image_model.specs.Undo.{set_in, undo_node}
+use Rattle.disk_image.specs.image_model.Entries as model
+use Rattle.disk_image.specs.image_model.Entries.{Kind, Entry, is_write, touches}
+use Rattle.disk_image.specs.image_model.Ends as ends
+use Rattle.disk_image.specs.image_model.Redo.{redo, stands, passes, all_pass}
+use Rattle.disk_image.specs.image_model.Undo.{set_in, undo_node}
 use Rattle.disk_image.specs.Formats.{format_of}
 use Rattle.node_tree.specs.Nodes.{nodes_of}
 use Rattle.log_index.specs.Items.{Item}

@@ -3,10 +3,10 @@ use Rattle.std.specs.Prelude.{◌≡◌, ◌⊎◌, ◌<◌, ◌≤◌, ◌||◌
 use Rattle.map_model.specs.Lists.{Has, any}
 use Rattle.page_model.specs.Nodes.{Node, holds}
 use Rattle.page_model.specs.Page.{Page}
-use Rattle.image_model.specs.Entries.{Entry, touches}
-use Rattle.image_model.specs.Images.{sorted, won_by, lost_by, recovered_page}
-use Rattle.image_model.specs.Slots.{base_of}
-use Rattle.disk_slots.specs.declared.master.Master.{Master}
+use Rattle.disk_image.specs.image_model.Entries.{Entry, touches}
+use Rattle.disk_image.specs.image_model.Images.{sorted, won_by, lost_by, recovered_page}
+use Rattle.disk_image.specs.image_model.Slots.{base_of}
+use Rattle.disk_image.specs.disk_slots.declared.master.Master.{Master}
 use Rattle.disk_image.specs.MasterSlots.{master_on}
 use Rattle.disk_image.specs.Shown.{Areas, shown_by, image_by, IsSoundDisk}
 use Rattle.log_index.specs.Items.{Item}

@@ -1,6 +1,6 @@
 // The kinds of records, as they stand on disks.
 ghost use Rattle.std.specs.Prelude.{◌≡◌, ◌<◌, length, HoldsAt};
-ghost use Rattle.image_model.specs.Entries as model;
+ghost use Rattle.disk_image.specs.image_model.Entries as model;
 ghost use Rattle.recovery_scan.specs.Records.{entry_of};
 
 use log_index::LogIndex;

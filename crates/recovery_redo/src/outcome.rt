@@ -1,7 +1,7 @@
 // How far the logs reach, and which transactions are ended.
 ghost use Rattle.std.specs.Prelude.{◌≡◌, ◌≤◌, ◌<◌, ◌||◌, ◌&&◌, ◌==◌, ℕ, false, not, leb, length, IfOk, OnOk, HoldsAt, replicate};
 ghost use Rattle.rfa_model.specs.Reaches.{reach_of};
-ghost use Rattle.image_model.specs.Ends as ends;
+ghost use Rattle.disk_image.specs.image_model.Ends as ends;
 ghost use Rattle.recovery_scan.specs.Records.{entry_of, entries_of};
 ghost use Rattle.recovery_scan.specs.Scans.{AreOfLogs};
 ghost use Rattle.recovery_redo.specs.Inside.{of_txn, has_txn, number_in, AreGreatest, IsTop, AreEnded};
@@ -9,8 +9,8 @@ ghost use Rattle.recovery_redo.specs.Inside.{of_txn, has_txn, number_in, AreGrea
 use crate::fields::need_of;
 use crate::kinds::{is_commit, is_end};
 use crate::txns::{add_txn, has_txn, no_txns};
+use disk_image::log_record::Record;
 use log_index::{Head, LogIndex};
-use log_record::Record;
 use std::alloc::{AllocError, Global};
 use std::collections::BTreeSet;
 

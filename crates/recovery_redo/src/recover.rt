@@ -1,7 +1,7 @@
 // The pages that recovery gives, from their bases and the records of all logs.
 ghost use Rattle.std.specs.Prelude.{◌≡◌, ◌<◌, ◌≤◌, ℕ, suc, Err, IfOk, OnOk, HoldsAt, false, length, replicate, slice_get, slice_index_or, true};
 ghost use Rattle.page_model.specs.Tree.{IsTree};
-ghost use Rattle.disk_slots.specs.declared.master.Master.{Master};
+ghost use Rattle.disk_image.specs.disk_slots.declared.master.Master.{Master};
 ghost use Rattle.disk_image.specs.Breaks.{Breaks};
 ghost use Rattle.disk_image.specs.Formats.{format_of};
 ghost use Rattle.disk_image.specs.Shown.{Areas};
@@ -15,9 +15,9 @@ ghost use Rattle.recovery_redo.specs.Inside as inside;
 use crate::outcome::{ended, losers, reach, top, winners};
 use crate::redo::redo;
 use crate::undo::undo;
-use btree_node::Node;
+use disk_image::btree_node::Node;
+use disk_image::log_record::{Body, Record};
 use log_index::LogIndex;
-use log_record::{Body, Record};
 use node_tree::first_break;
 use page_model::every_check;
 use std::alloc::{AllocError, Global};

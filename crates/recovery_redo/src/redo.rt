@@ -1,7 +1,7 @@
 // Redo: which records count, and what they make of the pages.
 ghost use Rattle.std.specs.Prelude.{◌≡◌, ◌<◌, ℕ, length, is_some, IfSome, IsSome, OnOk, Err, HoldsAt};
-ghost use Rattle.image_model.specs.Entries.{touches};
-ghost use Rattle.image_model.specs.Redo as redoing;
+ghost use Rattle.disk_image.specs.image_model.Entries.{touches};
+ghost use Rattle.disk_image.specs.image_model.Redo as redoing;
 ghost use Rattle.disk_image.specs.Formats.{format_of};
 ghost use Rattle.record_redo.specs.Pages.{pages_of, one_redone, Keeps, MarksFor};
 ghost use Rattle.recovery_scan.specs.Records.{entry_of, entries_of};
@@ -9,9 +9,9 @@ ghost use Rattle.recovery_redo.specs.Inside as inside;
 
 use crate::kinds::is_end;
 use crate::recover::{Failed, damaged_by};
-use btree_node::Node;
+use disk_image::btree_node::Node;
+use disk_image::log_record::Record;
 use log_index::LogIndex;
-use log_record::Record;
 use record_redo::redo_record;
 
 /// Redoes the records in turn, and marks those that count. The first that can't be done is told.

@@ -17,9 +17,9 @@ use crate::kinds::is_write;
 use crate::outcome::head_in;
 use crate::recover::{Failed, damaged_by};
 use crate::txns::has_txn;
-use btree_node::Node;
+use disk_image::btree_node::Node;
+use disk_image::log_record::Record;
 use log_index::LogIndex;
-use log_record::Record;
 use node_tree::leaf_of;
 use std::collections::BTreeSet;
 

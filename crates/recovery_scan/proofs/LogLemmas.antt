@@ -4,11 +4,11 @@ use Rattle.std.proofs.lemmas.Bool.{cases_lt}
 use mathlib.Core.Path.{fun_ext}
 use Rattle.map_model.specs.Lists.{Has, in_order}
 use Rattle.map_model.proofs.ListLemmas.{order_has}
-use Rattle.image_model.specs.Entries.{Entry, earlier}
-use Rattle.image_model.specs.Images.{IsFalling}
+use Rattle.disk_image.specs.image_model.Entries.{Entry, earlier}
+use Rattle.disk_image.specs.image_model.Images.{IsFalling}
 use Rattle.lean_disk.specs.Moments.{OnlyReads}
 use Rattle.lean_disk.specs.Story.{Story, Tells, areas_of}
-use Rattle.disk_slots.specs.declared.master.Master.{Master}
+use Rattle.disk_image.specs.disk_slots.declared.master.Master.{Master}
 use Rattle.disk_image.specs.Runs.{Logged, AreReadable, entries_in}
 use Rattle.disk_image.specs.Shown.{Areas, run_of, logged_in, image_by}
 use Rattle.disk_image.specs.Breaks.{StandsAt}

@@ -2,7 +2,7 @@
 use Rattle.std.proofs.Common.{◌≡◌, ◌-◌, ◌*◌, ◌++◌, ℕ, suc, List, length, take, drop, min, sym, ◌∙◌, ap, subst, arith}
 use Rattle.std.proofs.lemmas.List.{length-drop, length-take-le, take_min}
 use Rattle.std.proofs.Math.Seq.{take-append_seam}
-use Rattle.image_model.specs.Fair.{piece}
+use Rattle.disk_image.specs.image_model.Fair.{piece}
 use Rattle.lean_disk.specs.Area.{Area}
 use Rattle.lean_disk.specs.Story.{Seat, Story, Tells}
 use Rattle.lean_disk.specs.Calls.{Looked}

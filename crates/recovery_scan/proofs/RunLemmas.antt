@@ -3,11 +3,11 @@ use Rattle.std.proofs.Common.{◌≡◌, ◌⊎◌, inl, inr, ◌<◌, ◌≤◌
 use Rattle.std.proofs.lemmas.Bool.{cond-true, cond-false, false_from_ne_true}
 use Rattle.std.proofs.lemmas.List.{append_assoc, length-append}
 use Rattle.map_model.specs.Lists.{Has}
-use Rattle.image_model.specs.Images.{IsFalling}
-use Rattle.log_record.specs.declared.record.Record.{Record}
-use Rattle.log_block.specs.Block.{Belongs}
+use Rattle.disk_image.specs.image_model.Images.{IsFalling}
+use Rattle.disk_image.specs.log_record.declared.record.Record.{Record}
+use Rattle.disk_image.specs.log_block.Block.{Belongs}
 use Rattle.log_index.specs.Items.{Item, items_of}
-use Rattle.disk_slots.specs.declared.master.Master.{Master}
+use Rattle.disk_image.specs.disk_slots.declared.master.Master.{Master}
 use Rattle.disk_image.specs.Records.{entry_of as entry_in}
 use Rattle.disk_image.specs.Blocks.{belongs, block_in}
 use Rattle.disk_image.specs.Runs as runs

@@ -1,11 +1,11 @@
 -- Words of private functions: how far a scan has come.
 use Rattle.std.specs.Prelude.{◌≡◌, ◌⊎◌, ◌≤◌, ◌<◌, ◌-◌, ◌+◌, ◌++◌, ℕ, suc, List, ◌∷◌, map, length, Some, None}
 use Rattle.map_model.specs.Lists.{Has}
-use Rattle.image_model.specs.Images.{IsFalling, gathered}
-use Rattle.log_record.specs.declared.record.Record.{Record}
-use Rattle.log_block.specs.Block.{Belongs}
+use Rattle.disk_image.specs.image_model.Images.{IsFalling, gathered}
+use Rattle.disk_image.specs.log_record.declared.record.Record.{Record}
+use Rattle.disk_image.specs.log_block.Block.{Belongs}
 use Rattle.log_index.specs.Items.{Item, items_of, newest_first}
-use Rattle.disk_slots.specs.declared.master.Master.{Master}
+use Rattle.disk_image.specs.disk_slots.declared.master.Master.{Master}
 use Rattle.disk_image.specs.Blocks.{block_in}
 use Rattle.disk_image.specs.Runs.{Block, Logged, run_in, logged_onto, entries_in, AreReadable}
 use Rattle.disk_image.specs.Shown.{Areas, head_of, run_of, logged_in, image_by}

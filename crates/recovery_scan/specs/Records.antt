@@ -1,6 +1,6 @@
 -- The records of logs in memory, as the entries of the model for which they stand.
 use Rattle.std.specs.Prelude.{List, map}
-use Rattle.image_model.specs.Entries.{Entry}
+use Rattle.disk_image.specs.image_model.Entries.{Entry}
 use Rattle.log_index.specs.Items.{Item, newest_first}
 use Rattle.disk_image.specs.Records as records
 use Rattle.disk_image.specs.Runs.{Logged}

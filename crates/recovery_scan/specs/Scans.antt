@@ -1,9 +1,9 @@
 -- What the scan of the logs found.
 use Rattle.std.specs.Prelude.{◌≡◌, ◌⊎◌, ◌<◌, ◌≤◌, ℕ, suc, List, length}
 use Rattle.map_model.specs.Lists.{Has}
-use Rattle.image_model.specs.Images.{IsFalling, sorted}
+use Rattle.disk_image.specs.image_model.Images.{IsFalling, sorted}
 use Rattle.lean_disk.specs.Story.{Story, Tells}
-use Rattle.disk_slots.specs.declared.master.Master.{Master}
+use Rattle.disk_image.specs.disk_slots.declared.master.Master.{Master}
 use Rattle.disk_image.specs.Shown.{Areas, image_by, IsReadable}
 use Rattle.disk_image.specs.Breaks.{IsNoBlock, IsUnordered, StandsAt}
 use Rattle.log_index.specs.Items.{Item}

@@ -1,10 +1,10 @@
 // The records of one block.
 ghost use Rattle.std.specs.Prelude.{◌≡◌, ◌≤◌, ◌<◌, ◌+◌, ◌^◌, suc, ℕ, List, true, false, Err, OnOk, length};
-ghost use Rattle.log_block.specs.Block.{Belongs};
+ghost use Rattle.disk_image.specs.log_block.Block.{Belongs};
 ghost use Rattle.log_index.specs.Items.{held};
 ghost use Rattle.recovery_scan.specs.Inside.{BlockAdded, IsBadBlock, IsAbove, IsLate, NoneIsLate};
 
-use log_block::{Refusal, open_block};
+use disk_image::log_block::{Refusal, open_block};
 use log_index::{LogIndex, PushError};
 
 /// Why the records of a block are not taken.

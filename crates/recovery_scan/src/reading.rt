@@ -3,13 +3,13 @@ ghost use Rattle.std.specs.Prelude.{◌≡◌, ◌<◌, ◌≤◌, ◌+◌, ◌*
 ghost use Rattle.lean_disk.specs.Faults.{HasCause};
 ghost use Rattle.lean_disk.specs.Moments.{OnlyReads};
 ghost use Rattle.lean_disk.specs.Story.{Tells, areas_of};
-ghost use Rattle.disk_slots.specs.Masters.{IsMaster};
+ghost use Rattle.disk_image.specs.disk_slots.Masters.{IsMaster};
 ghost use Rattle.log_index.specs.Items.{held};
 ghost use Rattle.recovery_scan.specs.Scans.{AreOfLogs, IsBadLog, IsScanned, TellsLogs};
 ghost use Rattle.recovery_scan.specs.Inside.{IsGathered, IsScan, Joined};
 
 use crate::block::{Stop, take_block};
-use disk_slots::Master;
+use disk_image::disk_slots::Master;
 use lean_disk::{AreaOf, Disk, Part, Read};
 use log_index::LogIndex;
 use std::alloc::Global;

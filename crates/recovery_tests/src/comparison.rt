@@ -1,8 +1,8 @@
 // Whether the plain program tells of an image what recovery gave.
 use crate::engine::{Opened, Stop};
 use crate::plain::page_of;
-use btree_node::Node;
 use log_index::LogIndex;
+use master_store::btree_node::Node;
 use plain_images::{
     Damage, Image, Page, first_damage, losers, reach, recovered_page, sorted, winners,
 };

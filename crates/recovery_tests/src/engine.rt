@@ -4,12 +4,12 @@ ghost use Rattle.std.proofs.Props.{props};
 ghost use Rattle.recovery_scan.specs.Scans.{AreOfLogs};
 ghost use Rattle.master_store.specs.Masters.{IsOfSlot};
 
-use btree_node::Node;
-use disk_slots::Master;
 use lean_disk::{AreaOf, Disk};
 use log_index::LogIndex;
-use master_store::choose;
-use page_store::fetch;
+use master_store::btree_node::Node;
+use master_store::disk_slots::Master;
+use master_store::page_store::fetch;
+use master_store::{choose, page_store};
 use recovery_redo::{Failed, Outcome, recover_pages};
 use recovery_scan::{Unread, scan_logs};
 use std::alloc::Global;

@@ -2,9 +2,9 @@
 use crate::comparison::is_same;
 use crate::engine::Stop;
 use crate::plain::page_of;
-use btree_node::Node;
 use lean_disk::{AreaOf, Choice, MemDisk};
-use page_store::fetch_seen;
+use master_store::btree_node::Node;
+use master_store::page_store::fetch_seen;
 use recovery::{Recovered, Unrecovered, recover};
 use recovery_redo::Outcome;
 use std::alloc::{AllocError, Global};

@@ -1,9 +1,10 @@
 // The image for which a disk stands, as the plain program has it.
 use crate::bodies::{kind_of, set_body};
 use crate::engine::Opened;
-use btree_node::Node;
 use log_index::LogIndex;
-use log_record::Body;
+use master_store::btree_node::Node;
+use master_store::log_record;
+use master_store::log_record::Body;
 use plain_images::{Image, Log, Page, Pair, Record, Ref};
 use std::alloc::{AllocError, Global};
 

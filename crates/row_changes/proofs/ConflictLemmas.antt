@@ -1,8 +1,8 @@
 -- Who stands in the way of a lock: as a lock finds and as the core names.
 use Rattle.std.proofs.Common.{◌≡◌, ◌⊎◌, inl, inr, ◌≤◌, ℕ, true, Option, Some, None, refl, sym, ap, ◌∙◌, arith, eq-eqb}
-use Rattle.core_state.specs.Events as happening
-use Rattle.core_state.specs.Needs.{is_free, is_held_by, is_reader}
-use Rattle.core_state.specs.States.{Row}
+use Rattle.btree_descent.specs.core_state.Events as happening
+use Rattle.btree_descent.specs.core_state.Needs.{is_free, is_held_by, is_reader}
+use Rattle.btree_descent.specs.core_state.States.{Row}
 use Rattle.core_calls.specs.Refusals.{Hinders}
 use Rattle.key_locks.specs.Rows.{IsBlocking, IsRow, IsWorker, Stands}
 

@@ -3,17 +3,17 @@ use Rattle.std.proofs.Common.{◌≡◌, ◌↔◌, ◌≤◌, ◌++◌, ◌&&�
 use Rattle.std.proofs.lemmas.Bool.{and_parts}
 use Rattle.map_model.specs.Lists.{Has}
 use Rattle.map_model.proofs.ListLemmas.{upd_same}
-use Rattle.core_state.specs.Events as happening
-use Rattle.core_state.specs.Needs.{are_hot, holds_row, is_value, may, may_read, value_in}
-use Rattle.core_state.specs.States.{State, Worker, flushed_by_all}
-use Rattle.core_state.specs.Steps.{at_pages, happens}
+use Rattle.btree_descent.specs.core_state.Events as happening
+use Rattle.btree_descent.specs.core_state.Needs.{are_hot, holds_row, is_value, may, may_read, value_in}
+use Rattle.btree_descent.specs.core_state.States.{State, Worker, flushed_by_all}
+use Rattle.btree_descent.specs.core_state.Steps.{at_pages, happens}
 use Rattle.core_calls.specs.LogEvents as commits
-use Rattle.log_record.specs.declared.record.Record.{Record}
+use Rattle.disk_image.specs.log_record.declared.record.Record.{Record}
 use Rattle.worker_log.specs.Logs.{Log}
-use Rattle.row_words.specs.declared.event.Event.TheVariants.{Read}
-use Rattle.row_words.specs.Openings.{opening}
-use Rattle.rows_trait.specs.Views.{Shape, after_all, state}
-use Rattle.rows_trait.specs.declared.view.View.{View}
+use Rattle.btree_descent.specs.row_words.declared.event.Event.TheVariants.{Read}
+use Rattle.btree_descent.specs.row_words.Openings.{opening}
+use Rattle.btree_descent.specs.rows_trait.Views.{Shape, after_all, state}
+use Rattle.btree_descent.specs.rows_trait.declared.view.View.{View}
 use Rattle.btree_descent.specs.Dels.{WasAbsent}
 use Rattle.flush_avoidance.specs.Clocks.{risen}
 use Rattle.session_state.specs.Holds.{AreNumbers, Holds, IsOf, IsSameSession}

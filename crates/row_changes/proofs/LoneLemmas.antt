@@ -4,22 +4,22 @@ use Rattle.std.proofs.lemmas.Bool.{and_parts, or_cases, eqb-true, leb-true, ltb-
 use Rattle.map_model.specs.Lists.{keep, upd}
 use Rattle.map_model.specs.Maps.{MapAnswer}
 use Rattle.map_model.proofs.ListLemmas.{any_has, at_upd, has_any, keep_has, upd_same}
-use Rattle.image_model.specs.Entries.{Entry, Kind}
+use Rattle.disk_image.specs.image_model.Entries.{Entry, Kind}
 use Rattle.page_model.specs.Records.{Record}
-use Rattle.core_state.specs.Events as happening
-use Rattle.core_state.specs.Needs.{are_hot, holds_row, is_held_by, is_reader, is_worker, may, may_hold, needs, pages_of}
-use Rattle.core_state.specs.Openings.{Opening}
-use Rattle.core_state.specs.States.{Row, State, Worker}
-use Rattle.core_state.specs.Steps as core
-use Rattle.core_state.specs.Steps.{at_pages, at_row, finished, follows, happens, locked, moves, put_back, unlocked, writes}
-use Rattle.row_words.specs.declared.event.Event.{Event}
-use Rattle.row_words.specs.declared.given.Given.{Given}
-use Rattle.row_words.specs.Moments as moments
-use Rattle.row_words.specs.Moments.{Moment, event_of, first_state}
-use Rattle.row_words.specs.Openings.{opening}
-use Rattle.row_words.specs.Sealed.{begun, run, stepped}
-use Rattle.rows_trait.specs.Views.{state}
-use Rattle.rows_trait.specs.declared.view.View.{View}
+use Rattle.btree_descent.specs.core_state.Events as happening
+use Rattle.btree_descent.specs.core_state.Needs.{are_hot, holds_row, is_held_by, is_reader, is_worker, may, may_hold, needs, pages_of}
+use Rattle.btree_descent.specs.core_state.Openings.{Opening}
+use Rattle.btree_descent.specs.core_state.States.{Row, State, Worker}
+use Rattle.btree_descent.specs.core_state.Steps as core
+use Rattle.btree_descent.specs.core_state.Steps.{at_pages, at_row, finished, follows, happens, locked, moves, put_back, unlocked, writes}
+use Rattle.btree_descent.specs.row_words.declared.event.Event.{Event}
+use Rattle.btree_descent.specs.row_words.declared.given.Given.{Given}
+use Rattle.btree_descent.specs.row_words.Moments as moments
+use Rattle.btree_descent.specs.row_words.Moments.{Moment, event_of, first_state}
+use Rattle.btree_descent.specs.row_words.Openings.{opening}
+use Rattle.btree_descent.specs.row_words.Sealed.{begun, run, stepped}
+use Rattle.btree_descent.specs.rows_trait.Views.{state}
+use Rattle.btree_descent.specs.rows_trait.declared.view.View.{View}
 
 -- ## What each event keeps
 

@@ -6,25 +6,25 @@ use Rattle.map_model.proofs.ListLemmas.{upd_same}
 use Rattle.page_model.specs.Nodes.{Format}
 use Rattle.page_model.specs.Pairs.{find}
 use Rattle.page_model.specs.Tree.{value_of, word_or}
-use Rattle.image_model.specs.Entries.{Entry, Kind}
+use Rattle.disk_image.specs.image_model.Entries.{Entry, Kind}
 use Rattle.rfa_model.specs.Reaches.{least}
-use Rattle.core_state.specs.Events as happening
-use Rattle.core_state.specs.Needs.{holds_row, is_held_by, may}
-use Rattle.core_state.specs.States.{State, Worker, flushed_by_all, nodes_of}
+use Rattle.btree_descent.specs.core_state.Events as happening
+use Rattle.btree_descent.specs.core_state.Needs.{holds_row, is_held_by, may}
+use Rattle.btree_descent.specs.core_state.States.{State, Worker, flushed_by_all, nodes_of}
 use Rattle.core_calls.specs.LogEvents.{behind}
 use Rattle.core_calls.specs.Room.{EveryRoom, free_list, frees_from, room_takes}
-use Rattle.core_state.specs.Steps.{at_pages, happens, write_entry}
+use Rattle.btree_descent.specs.core_state.Steps.{at_pages, happens, write_entry}
 use Rattle.lean_disk.specs.Story.{Story}
-use Rattle.log_record.specs.declared.record.Record.{Record}
-use Rattle.log_block.specs.Block.{records_text}
+use Rattle.disk_image.specs.log_record.declared.record.Record.{Record}
+use Rattle.disk_image.specs.log_block.Block.{records_text}
 use Rattle.worker_log.specs.Calls.{After}
 use Rattle.worker_log.specs.Logs.{Log}
-use Rattle.row_words.specs.declared.event.Event.TheVariants.{Change}
-use Rattle.row_words.specs.Openings.{opening}
-use Rattle.rows_trait.specs.Causes.{EveryLow}
-use Rattle.rows_trait.specs.Turns.{Ran}
-use Rattle.rows_trait.specs.Views.{AreLow, Shape, after_all, state}
-use Rattle.rows_trait.specs.declared.view.View.{View}
+use Rattle.btree_descent.specs.row_words.declared.event.Event.TheVariants.{Change}
+use Rattle.btree_descent.specs.row_words.Openings.{opening}
+use Rattle.btree_descent.specs.rows_trait.Causes.{EveryLow}
+use Rattle.btree_descent.specs.rows_trait.Turns.{Ran}
+use Rattle.btree_descent.specs.rows_trait.Views.{AreLow, Shape, after_all, state}
+use Rattle.btree_descent.specs.rows_trait.declared.view.View.{View}
 use Rattle.btree_descent.specs.Known.{said}
 use Rattle.btree_descent.specs.Puts.{Changed, IsRowSpent, MayPut, MetFull, MetSpent, change_of, clock_in}
 use Rattle.btree_descent.specs.Trails.{Came, IsAbove}

@@ -3,20 +3,20 @@ use Rattle.std.proofs.Common.{◌≡◌, ◌↔◌, ◌≤◌, ◌<◌, ◌%◌,
 use Rattle.map_model.specs.Lists.{Has, upd}
 use Rattle.page_model.specs.Nodes.{holds}
 use Rattle.rfa_model.specs.Stamps.{owed}
-use Rattle.core_state.specs.States.{State, flushed_by_all, is_hot}
-use Rattle.core_state.specs.Events as happening
-use Rattle.core_state.specs.Needs.{holds_row, is_value, may, value_in}
-use Rattle.core_state.specs.Steps.{at_pages, happens}
+use Rattle.btree_descent.specs.core_state.States.{State, flushed_by_all, is_hot}
+use Rattle.btree_descent.specs.core_state.Events as happening
+use Rattle.btree_descent.specs.core_state.Needs.{holds_row, is_value, may, value_in}
+use Rattle.btree_descent.specs.core_state.Steps.{at_pages, happens}
 use Rattle.core_calls.specs.LogEvents.{behind as waits}
 use Rattle.worker_log.specs.Logs.{Log}
-use Rattle.row_words.specs.declared.event.Event.{Event}
-use Rattle.row_words.specs.declared.event.Event.TheVariants.{Read}
-use Rattle.row_words.specs.declared.given.Given.{Given}
-use Rattle.row_words.specs.Moments.{Moment}
-use Rattle.row_words.specs.Openings.{opening}
-use Rattle.row_words.specs.Sealed.{stepped}
-use Rattle.rows_trait.specs.declared.view.View.{View}
-use Rattle.rows_trait.specs.Views.{Shape, after_all, state}
+use Rattle.btree_descent.specs.row_words.declared.event.Event.{Event}
+use Rattle.btree_descent.specs.row_words.declared.event.Event.TheVariants.{Read}
+use Rattle.btree_descent.specs.row_words.declared.given.Given.{Given}
+use Rattle.btree_descent.specs.row_words.Moments.{Moment}
+use Rattle.btree_descent.specs.row_words.Openings.{opening}
+use Rattle.btree_descent.specs.row_words.Sealed.{stepped}
+use Rattle.btree_descent.specs.rows_trait.declared.view.View.{View}
+use Rattle.btree_descent.specs.rows_trait.Views.{Shape, after_all, state}
 use Rattle.btree_descent.specs.declared.descent.Found.{Found}
 use Rattle.btree_descent.specs.Descents as descents
 use Rattle.btree_descent.specs.Known as pages

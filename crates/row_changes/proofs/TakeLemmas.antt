@@ -8,21 +8,21 @@ use Rattle.map_model.proofs.ListLemmas.{has_cases, has_left, has_right}
 use Rattle.rfa_model.specs.Stamps.{is_remote, owed}
 use Rattle.flush_avoidance.specs.Clocks.{after_raise, after_touch, risen}
 use Rattle.flush_avoidance.specs.declared.Clock.{Clock}
-use Rattle.core_state.specs.Events as happening
-use Rattle.core_state.specs.Needs.{holds_row, is_held_by, is_reader, may, may_hold}
-use Rattle.core_state.specs.States.{Row, State, Worker, flushed_by_all}
-use Rattle.core_state.specs.Steps.{at_row, happens, locked}
+use Rattle.btree_descent.specs.core_state.Events as happening
+use Rattle.btree_descent.specs.core_state.Needs.{holds_row, is_held_by, is_reader, may, may_hold}
+use Rattle.btree_descent.specs.core_state.States.{Row, State, Worker, flushed_by_all}
+use Rattle.btree_descent.specs.core_state.Steps.{at_row, happens, locked}
 use Rattle.core_calls.specs.LogEvents.{behind}
 use Rattle.core_calls.specs.Refusals.{Hinders}
 use Rattle.core_calls.proofs.HinderLemmas.{every_hinder}
 use Rattle.worker_log.specs.Logs.{Log}
-use Rattle.row_words.specs.declared.event.Event.{Event}
-use Rattle.row_words.specs.declared.event.Event.TheVariants.{Lock}
-use Rattle.row_words.specs.Moments.{event_of, mode_of}
-use Rattle.row_words.specs.Openings.{opening}
-use Rattle.rows_trait.specs.Causes.{EveryLow}
-use Rattle.rows_trait.specs.Views.{AreLow, Shape, after_all, state}
-use Rattle.rows_trait.specs.declared.view.View.{View}
+use Rattle.btree_descent.specs.row_words.declared.event.Event.{Event}
+use Rattle.btree_descent.specs.row_words.declared.event.Event.TheVariants.{Lock}
+use Rattle.btree_descent.specs.row_words.Moments.{event_of, mode_of}
+use Rattle.btree_descent.specs.row_words.Openings.{opening}
+use Rattle.btree_descent.specs.rows_trait.Causes.{EveryLow}
+use Rattle.btree_descent.specs.rows_trait.Views.{AreLow, Shape, after_all, state}
+use Rattle.btree_descent.specs.rows_trait.declared.view.View.{View}
 use Rattle.key_locks.specs.declared.mode.Mode.{Mode}
 use Rattle.key_locks.specs.declared.mode.Mode.TheVariants.{Alone, Shared}
 use Rattle.key_locks.specs.declared.locking.Stamp.{Stamp}

@@ -3,12 +3,12 @@ use Rattle.std.proofs.Common.{◌≡◌, ◌∙◌, ◌&&◌, leb, ltb, ℕ, Boo
 use Rattle.std.proofs.lemmas.Bool.{and_from, le-leb, lt-ltb}
 use Rattle.page_model.specs.Nodes.{Node, covers}
 use Rattle.page_model.proofs.Tree.{Lies, route_lies}
-use Rattle.core_state.specs.States.{nodes_of}
-use Rattle.row_words.specs.declared.given.Given.{Given}
-use Rattle.row_words.specs.Moments.{Moment}
-use Rattle.row_words.specs.Openings.{opening}
-use Rattle.rows_trait.specs.declared.view.View.{View}
-use Rattle.rows_trait.specs.Views.{Shape, after_all, state}
+use Rattle.btree_descent.specs.core_state.States.{nodes_of}
+use Rattle.btree_descent.specs.row_words.declared.given.Given.{Given}
+use Rattle.btree_descent.specs.row_words.Moments.{Moment}
+use Rattle.btree_descent.specs.row_words.Openings.{opening}
+use Rattle.btree_descent.specs.rows_trait.declared.view.View.{View}
+use Rattle.btree_descent.specs.rows_trait.Views.{Shape, after_all, state}
 use Rattle.worker_log.specs.Logs.{Log}
 use Rattle.btree_descent.specs.Descents.{MetCold}
 use Rattle.btree_descent.specs.Known.{IsCold, Sound}

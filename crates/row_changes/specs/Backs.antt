@@ -1,17 +1,17 @@
 -- What the putting back of a change does, by answer.
 use Rattle.std.specs.Prelude.{◌≡◌, ◌++◌, ℕ, suc, true, [], ◌∷◌, length, Some, None, Result, Ok, Err}
 use Rattle.map_model.specs.declared.call.Refusal.TheVariants as refusal
-use Rattle.core_state.specs.Events as happening
-use Rattle.core_state.specs.Needs.{may}
-use Rattle.core_state.specs.Steps.{happens}
+use Rattle.btree_descent.specs.core_state.Events as happening
+use Rattle.btree_descent.specs.core_state.Needs.{may}
+use Rattle.btree_descent.specs.core_state.Steps.{happens}
 use Rattle.disk_image.specs.Records.{entry_of}
 use Rattle.lean_disk.specs.Story.{Story}
 use Rattle.log_calls.specs.Calls.{StagesOn}
-use Rattle.log_record.specs.declared.record.Record.{Record}
-use Rattle.row_words.specs.declared.event.Event.TheVariants.{PutBack}
-use Rattle.row_words.specs.Openings.{opening}
-use Rattle.rows_trait.specs.declared.view.View.{View}
-use Rattle.rows_trait.specs.Views.{state}
+use Rattle.disk_image.specs.log_record.declared.record.Record.{Record}
+use Rattle.btree_descent.specs.row_words.declared.event.Event.TheVariants.{PutBack}
+use Rattle.btree_descent.specs.row_words.Openings.{opening}
+use Rattle.btree_descent.specs.rows_trait.declared.view.View.{View}
+use Rattle.btree_descent.specs.rows_trait.Views.{state}
 use Rattle.btree_descent.specs.Puts.{IsLeafAt}
 use Rattle.page_model.specs.Pairs.{find}
 use Rattle.worker_log.specs.Calls.{After}

@@ -2,7 +2,7 @@
 use Rattle.std.specs.Prelude.{◌≡◌, ℕ, List, Result, Ok, Err}
 use Rattle.map_model.specs.declared.call.Refusal.TheVariants as refusal
 use Rattle.lean_disk.specs.Story.{Story}
-use Rattle.rows_trait.specs.declared.view.View.{View}
+use Rattle.btree_descent.specs.rows_trait.declared.view.View.{View}
 use Rattle.worker_log.specs.Logs.{Log}
 use Rattle.row_changes.specs.declared.puts.Tried.{Tried}
 use Rattle.row_changes.specs.declared.puts.Tried.TheVariants as tried

@@ -4,11 +4,11 @@ use Rattle.page_model.specs.Limits.{leaf_room}
 use Rattle.map_model.specs.Lists.{Has}
 use Rattle.page_model.specs.Nodes.{holds}
 use Rattle.page_model.specs.Pairs.{find}
-use Rattle.core_state.specs.States.{Place}
-use Rattle.row_words.specs.Openings.{opening}
-use Rattle.rows_trait.specs.declared.view.View.{View}
-use Rattle.rows_trait.specs.Views.{state}
-use Rattle.lean_proto.specs.Paths.{above}
+use Rattle.btree_descent.specs.core_state.States.{Place}
+use Rattle.btree_descent.specs.row_words.Openings.{opening}
+use Rattle.btree_descent.specs.rows_trait.declared.view.View.{View}
+use Rattle.btree_descent.specs.rows_trait.Views.{state}
+use Rattle.btree_descent.specs.lean_proto.Paths.{above}
 use Rattle.btree_descent.specs.Trails.{IsAbove}
 
 -- the leaf of the key is full and has no entry of it

@@ -3,15 +3,15 @@ use Rattle.std.specs.Prelude.{◌≡◌, ◌<◌, ◌%◌, ◌-◌, ◌^◌, ℕ
 use Rattle.page_model.specs.Limits.{transaction_changes}
 use Rattle.map_model.specs.declared.call.Refusal.{Refusal}
 use Rattle.map_model.specs.declared.call.Refusal.TheVariants as refusal
-use Rattle.core_state.specs.Events as happening
-use Rattle.core_state.specs.Needs.{is_held_by, may, value_in}
+use Rattle.btree_descent.specs.core_state.Events as happening
+use Rattle.btree_descent.specs.core_state.Needs.{is_held_by, may, value_in}
 use Rattle.core_calls.specs.Room.{room_takes}
 use Rattle.lean_disk.specs.Story.{Story}
-use Rattle.log_record.specs.declared.record.Record.{Record}
-use Rattle.row_words.specs.declared.event.Event.TheVariants.{Change}
-use Rattle.row_words.specs.Openings.{opening}
-use Rattle.rows_trait.specs.declared.view.View.{View}
-use Rattle.rows_trait.specs.Views.{state}
+use Rattle.disk_image.specs.log_record.declared.record.Record.{Record}
+use Rattle.btree_descent.specs.row_words.declared.event.Event.TheVariants.{Change}
+use Rattle.btree_descent.specs.row_words.Openings.{opening}
+use Rattle.btree_descent.specs.rows_trait.declared.view.View.{View}
+use Rattle.btree_descent.specs.rows_trait.Views.{state}
 use Rattle.btree_descent.specs.Puts.{change_of}
 use Rattle.worker_log.specs.Calls.{After}
 use Rattle.worker_log.specs.Logs.{Log}

@@ -1,9 +1,9 @@
 -- Where a page of a key's way is not hot, so that what goes to its leaf stops there.
 use Rattle.std.specs.Prelude.{◌≡◌, ℕ}
 use Rattle.core_calls.specs.Warms.{IsWarmFrom}
-use Rattle.row_words.specs.Openings.{opening}
-use Rattle.rows_trait.specs.declared.view.View.{View}
-use Rattle.rows_trait.specs.Views.{state}
+use Rattle.btree_descent.specs.row_words.Openings.{opening}
+use Rattle.btree_descent.specs.rows_trait.declared.view.View.{View}
+use Rattle.btree_descent.specs.rows_trait.Views.{state}
 use Rattle.btree_descent.specs.Known.{IsCold}
 use Rattle.row_changes.specs.declared.ways.Unmade.{Unmade}
 use Rattle.row_changes.specs.declared.ways.Unmade.TheVariants as unmade

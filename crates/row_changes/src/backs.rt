@@ -10,11 +10,12 @@ ghost use Rattle.row_changes.specs.declared.ways.Unmade.{Unmade};
 ghost use Rattle.session_state.specs.Undo.{newest_of};
 
 use crate::ways::{Cold, Unmade};
+use btree_descent::draw_trait::draw::Unstaged;
+use btree_descent::lean_proto::path::Path;
 use btree_descent::put::{Put, leaf_put_back};
-use draw_trait::draw::Unstaged;
-use lean_proto::path::Path;
+use btree_descent::rows_trait;
+use btree_descent::rows_trait::rows::Rows;
 use map_model::Refusal;
-use rows_trait::rows::Rows;
 use session_state::{Session, Stages, Undone, Work, next_fits};
 
 // The newest change that is left.

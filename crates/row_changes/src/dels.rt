@@ -10,10 +10,11 @@ ghost use Rattle.row_changes.specs.declared.ways.Unmade.{Unmade};
 
 use crate::ways::{Cold, Unmade};
 use btree_descent::del::{Del, leaf_del};
-use draw_trait::draw::Unstaged;
-use lean_proto::path::Path;
+use btree_descent::draw_trait::draw::Unstaged;
+use btree_descent::lean_proto::path::Path;
+use btree_descent::rows_trait;
+use btree_descent::rows_trait::rows::Rows;
 use map_model::Refusal;
-use rows_trait::rows::Rows;
 use session_state::{Stages, Work, next_fits};
 
 /// The value of the key, whose row is held, is taken away, if it has one.

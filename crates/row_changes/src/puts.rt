@@ -13,11 +13,12 @@ ghost use Rattle.row_changes.specs.declared.ways.Unmade.{Unmade};
 use crate::reads::value_of;
 use crate::ways::{Cold, Unmade};
 use btree_descent::descent::TOMBSTONE;
+use btree_descent::draw_trait::draw::Unstaged;
+use btree_descent::lean_proto::path::Path;
 use btree_descent::put::{Put, leaf_put};
-use draw_trait::draw::Unstaged;
-use lean_proto::path::Path;
+use btree_descent::rows_trait;
+use btree_descent::rows_trait::rows::Rows;
 use map_model::Refusal;
-use rows_trait::rows::Rows;
 use session_state::{Stages, Work, next_fits};
 
 // The word that a key had, which is a tombstone's where it had none.

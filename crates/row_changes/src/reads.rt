@@ -1,7 +1,7 @@
 // The reading of a key behind its lock.
 ghost use Rattle.std.specs.Prelude.{◌≡◌, ◌<◌, ◌-◌, ◌^◌, ◌%◌, IsErr, true};
-ghost use Rattle.core_state.specs.Needs.{holds_row};
-ghost use Rattle.rows_trait.specs.Views.{state};
+ghost use Rattle.btree_descent.specs.core_state.Needs.{holds_row};
+ghost use Rattle.btree_descent.specs.rows_trait.Views.{state};
 ghost use Rattle.btree_descent.specs.Known.{said};
 ghost use Rattle.session_state.specs.Holds.{Holds};
 ghost use Rattle.session_state.specs.Staging.{IsButClock};
@@ -10,7 +10,7 @@ ghost use Rattle.row_changes.specs.Ways.{IsWarm};
 
 use crate::ways::Cold;
 use btree_descent::descent::{Answer, TOMBSTONE, find};
-use rows_trait::rows::Rows;
+use btree_descent::rows_trait::rows::Rows;
 use session_state::Session;
 use worker_log::WorkerLog;
 

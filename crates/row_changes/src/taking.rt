@@ -1,15 +1,16 @@
 // The taking of a lock row.
 ghost use Rattle.std.specs.Prelude.{◌≡◌, ◌<◌, ◌%◌, true, IfErr, OnOk};
-ghost use Rattle.core_state.specs.Needs.{is_reader};
+ghost use Rattle.btree_descent.specs.core_state.Needs.{is_reader};
 ghost use Rattle.key_locks.specs.declared.mode.Mode.TheVariants as mode;
 ghost use Rattle.map_model.specs.declared.call.Refusal.{Refusal};
 ghost use Rattle.session_state.specs.Holds.{Holds};
 ghost use Rattle.row_changes.specs.Takes.{IsSpent, NotTaken, Takes};
 
+use btree_descent::rows_trait;
+use btree_descent::rows_trait::rows::Rows;
 use key_locks::locking::{Refusal as Unlocked, RowSpent, lock_again, lock_row, row_of};
 use key_locks::mode::Mode;
 use map_model::Refusal;
-use rows_trait::rows::Rows;
 use session_state::Session;
 use worker_log::WorkerLog;
 

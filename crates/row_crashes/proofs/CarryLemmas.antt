@@ -1,18 +1,18 @@
 -- Calls carry the run of the row on.
 use Rattle.std.proofs.Common.{◌≡◌, false, true, List, [], ◌++◌, drop, refl, subst, arith}
-use Rattle.core_state.specs.Openings.{Opening}
-use Rattle.core_state.specs.Events.{Event, Mode}
-use Rattle.core_state.specs.Steps.{state_after}
-use Rattle.core_crash.specs.Example.{events}
+use Rattle.disk_runs.specs.core_state.Openings.{Opening}
+use Rattle.disk_runs.specs.core_state.Events.{Event, Mode}
+use Rattle.disk_runs.specs.core_state.Steps.{state_after}
+use Rattle.disk_runs.specs.core_crash.Example.{events}
 use Rattle.lean_disk.specs.Moments.{LeavesOnly}
 use Rattle.lean_disk.specs.Story.{Crash, Story}
 use Rattle.lean_disk.proofs.MomentLemmas as moments
-use Rattle.log_record.specs.declared.record.Record.{Record}
-use Rattle.disk_slots.specs.declared.master.Master.{Master}
-use Rattle.disk_image.specs.Records.{entry_of}
-use Rattle.worker_log.specs.Logs.{Log}
-use Rattle.worker_log.specs.Kept.{flushed}
-use Rattle.core_disk.specs.Versions.{EveryVersion, is_cut, then}
+use Rattle.disk_runs.specs.log_record.declared.record.Record.{Record}
+use Rattle.disk_runs.specs.disk_slots.declared.master.Master.{Master}
+use Rattle.disk_runs.specs.disk_image.Records.{entry_of}
+use Rattle.disk_runs.specs.worker_log.Logs.{Log}
+use Rattle.disk_runs.specs.worker_log.Kept.{flushed}
+use Rattle.disk_runs.specs.core_disk.Versions.{EveryVersion, is_cut, then}
 use Rattle.disk_runs.specs.Fair.{IsFairFrom}
 use Rattle.disk_runs.specs.Laws.{with_log}
 use Rattle.disk_runs.specs.Logs.{Records}

@@ -3,24 +3,24 @@ use Rattle.std.proofs.Common.{◌≡◌, ◌⊎◌, ◌++◌, ⊎_elim, inl, inr
 use mathlib.Core.Path.{subst₂}
 use Rattle.map_model.specs.Journals.{Journal, Name, after}
 use Rattle.map_model.specs.Lists.{Has}
-use Rattle.image_model.specs.Entries.{Entry}
-use Rattle.image_model.specs.Ends.{kept, reach, winners}
-use Rattle.image_model.specs.Images.{found, gathered, won_by}
-use Rattle.core_state.specs.Openings.{Opening, first_map}
-use Rattle.core_state.specs.Events.{Event}
-use Rattle.core_state.specs.Steps.{state_after}
-use Rattle.core_crash.specs.Crashes.{from_head, journal_in}
-use Rattle.core_crash.specs.Example.{events, second}
-use Rattle.disk_slots.specs.declared.master.Master.{Master}
-use Rattle.disk_image.specs.Formats.{format_of}
-use Rattle.disk_image.specs.Records.{entry_of}
-use Rattle.disk_image.specs.Shown.{Areas, DiskStandsFor, image_by}
-use Rattle.core_disk.specs.Held.{HoldsLog, HoldsRun}
-use Rattle.core_disk.specs.Lives.{EveryHeld, kept_on}
+use Rattle.disk_runs.specs.image_model.Entries.{Entry}
+use Rattle.disk_runs.specs.image_model.Ends.{kept, reach, winners}
+use Rattle.disk_runs.specs.image_model.Images.{found, gathered, won_by}
+use Rattle.disk_runs.specs.core_state.Openings.{Opening, first_map}
+use Rattle.disk_runs.specs.core_state.Events.{Event}
+use Rattle.disk_runs.specs.core_state.Steps.{state_after}
+use Rattle.disk_runs.specs.core_crash.Crashes.{from_head, journal_in}
+use Rattle.disk_runs.specs.core_crash.Example.{events, second}
+use Rattle.disk_runs.specs.disk_slots.declared.master.Master.{Master}
+use Rattle.disk_runs.specs.disk_image.Formats.{format_of}
+use Rattle.disk_runs.specs.disk_image.Records.{entry_of}
+use Rattle.disk_runs.specs.disk_image.Shown.{Areas, DiskStandsFor, image_by}
+use Rattle.disk_runs.specs.core_disk.Held.{HoldsLog, HoldsRun}
+use Rattle.disk_runs.specs.core_disk.Lives.{EveryHeld, kept_on}
 use Rattle.row_crashes.specs.Left.{AnyMomentLeft, EveryLeft, Left, Nothing, Second, has_commit, ripe_events, second_name, shown}
 use Rattle.lean_disk.specs.Story.{Story}
 use Rattle.lean_disk.proofs.MomentLemmas.{weaker}
-use Rattle.worker_log.specs.Logs.{Log}
+use Rattle.disk_runs.specs.worker_log.Logs.{Log}
 use Rattle.disk_runs.specs.Fair.{IsFairFrom}
 use Rattle.disk_runs.specs.Stands.{LeavesRun}
 use Rattle.log_calls.specs.Calls.{KeepsMoments}

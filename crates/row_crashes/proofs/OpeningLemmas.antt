@@ -3,8 +3,8 @@ use Rattle.std.proofs.Common.{true, refl, arith}
 use Rattle.page_model.specs.Nodes.{free}
 use Rattle.page_model.specs.Tree.{IsTree}
 use Rattle.page_model.proofs.Check as page_check
-use Rattle.core_state.specs.Openings.{Opening}
-use Rattle.disk_image.specs.Formats.{format_of}
+use Rattle.disk_runs.specs.core_state.Openings.{Opening}
+use Rattle.disk_runs.specs.disk_image.Formats.{format_of}
 use Rattle.row_crashes.specs.Row.{RowOpens}
 use Rattle.row_crashes.proofs.RowLemmas.{nodes}
 

@@ -8,18 +8,18 @@ use Rattle.map_model.proofs.ListLemmas.{upd_other}
 use Rattle.page_model.specs.Nodes.{Format, Node}
 use Rattle.page_model.specs.Page.{empty_leaf}
 use Rattle.page_model.specs.Tree.{IsTree}
-use Rattle.core_state.specs.Openings.{Opening}
-use Rattle.core_state.specs.Events.{Event}
-use Rattle.core_state.specs.Needs.{may}
-use Rattle.core_state.specs.States.{State, start}
-use Rattle.core_state.specs.Steps.{happens, run, state_after}
-use Rattle.core_crash.specs.Crashes.{journal_in, log_of}
-use Rattle.core_crash.specs.Example.{second}
-use Rattle.log_record.specs.declared.record.Record.{Record}
-use Rattle.log_record.specs.declared.record.Body.TheVariants as body
-use Rattle.image_model.specs.Entries.{Entry}
-use Rattle.disk_image.specs.Formats.{format_of}
-use Rattle.disk_image.specs.Records.{entry_of}
+use Rattle.disk_runs.specs.core_state.Openings.{Opening}
+use Rattle.disk_runs.specs.core_state.Events.{Event}
+use Rattle.disk_runs.specs.core_state.Needs.{may}
+use Rattle.disk_runs.specs.core_state.States.{State, start}
+use Rattle.disk_runs.specs.core_state.Steps.{happens, run, state_after}
+use Rattle.disk_runs.specs.core_crash.Crashes.{journal_in, log_of}
+use Rattle.disk_runs.specs.core_crash.Example.{second}
+use Rattle.disk_runs.specs.log_record.declared.record.Record.{Record}
+use Rattle.disk_runs.specs.log_record.declared.record.Body.TheVariants as body
+use Rattle.disk_runs.specs.image_model.Entries.{Entry}
+use Rattle.disk_runs.specs.disk_image.Formats.{format_of}
+use Rattle.disk_runs.specs.disk_image.Records.{entry_of}
 use Rattle.disk_runs.specs.Logs.{Flushes, Records}
 use Rattle.row_crashes.specs.Left.{ripe_events}
 use Rattle.row_crashes.specs.Row.{IsRowOpening}

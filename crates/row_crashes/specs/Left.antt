@@ -2,18 +2,18 @@
 use Rattle.std.specs.Prelude.{◌≡◌, ◌⊎◌, ℕ, suc, Bool, true, false, List, [], ◌∷◌, length, take}
 use Rattle.map_model.specs.Journals.{Name, after}
 use Rattle.map_model.specs.Lists.{any}
-use Rattle.image_model.specs.Entries.{Entry, is_commit}
-use Rattle.core_state.specs.Openings.{Opening, first_map}
-use Rattle.core_state.specs.Events.{Event}
-use Rattle.core_crash.specs.Example.{events, second}
-use Rattle.disk_slots.specs.declared.master.Master.{Master}
-use Rattle.disk_image.specs.Runs.{entries_in}
-use Rattle.disk_image.specs.Shown.{Areas, DiskStandsFor, logged_in}
+use Rattle.disk_runs.specs.image_model.Entries.{Entry, is_commit}
+use Rattle.disk_runs.specs.core_state.Openings.{Opening, first_map}
+use Rattle.disk_runs.specs.core_state.Events.{Event}
+use Rattle.disk_runs.specs.core_crash.Example.{events, second}
+use Rattle.disk_runs.specs.disk_slots.declared.master.Master.{Master}
+use Rattle.disk_runs.specs.disk_image.Runs.{entries_in}
+use Rattle.disk_runs.specs.disk_image.Shown.{Areas, DiskStandsFor, logged_in}
 use Rattle.lean_disk.specs.Moments.{LeavesOnly}
 use Rattle.lean_disk.specs.Story.{Crash, Story}
-use Rattle.worker_log.specs.Logs.{Log}
-use Rattle.core_disk.specs.Held.{HoldsRun}
-use Rattle.core_disk.specs.Versions.{then}
+use Rattle.disk_runs.specs.worker_log.Logs.{Log}
+use Rattle.disk_runs.specs.core_disk.Held.{HoldsRun}
+use Rattle.disk_runs.specs.core_disk.Versions.{then}
 use Rattle.disk_runs.specs.Fair.{IsFairFrom}
 use Rattle.row_crashes.specs.Row.{IsRowOpening, Runs}
 

@@ -1,14 +1,14 @@
 -- The run of two workers of core_crash's example, carried to a disk.
 use Rattle.std.specs.Prelude.{◌≡◌, ◌<◌, ◌-◌, ◌^◌, ℕ, List, []}
 use Rattle.page_model.specs.Page.{empty_leaf}
-use Rattle.core_state.specs.Openings.{Opening}
-use Rattle.core_state.specs.Events.{Event}
-use Rattle.core_crash.specs.Example.{events}
+use Rattle.disk_runs.specs.core_state.Openings.{Opening}
+use Rattle.disk_runs.specs.core_state.Events.{Event}
+use Rattle.disk_runs.specs.core_crash.Example.{events}
 use Rattle.lean_disk.specs.Moments.{LeavesOnly}
 use Rattle.lean_disk.specs.Story.{Crash, Story}
-use Rattle.disk_image.specs.Formats.{format_of}
-use Rattle.disk_slots.specs.declared.master.Master.{Master}
-use Rattle.worker_log.specs.Logs.{Log}
+use Rattle.disk_runs.specs.disk_image.Formats.{format_of}
+use Rattle.disk_runs.specs.disk_slots.declared.master.Master.{Master}
+use Rattle.disk_runs.specs.worker_log.Logs.{Log}
 use Rattle.disk_runs.specs.Fair.{IsFairFrom}
 use Rattle.disk_runs.specs.Moments.{LeavesSome, Survives}
 use Rattle.disk_runs.specs.Openings.{Opens}

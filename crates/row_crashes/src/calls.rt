@@ -1,14 +1,15 @@
 // The row's records are put into two logs of a disk, each by the call that an engine makes for its event.
 ghost use Rattle.std.specs.Prelude.{◌≡◌, [], take, OnOk};
-ghost use Rattle.core_crash.specs.Example.{events};
-ghost use Rattle.worker_log.specs.Logs.{Log};
+ghost use Rattle.disk_runs.specs.core_crash.Example.{events};
+ghost use Rattle.disk_runs.specs.worker_log.Logs.{Log};
 ghost use Rattle.row_crashes.specs.Left.{AnyMomentLeft, ripe_events};
 ghost use Rattle.row_crashes.specs.Row.{AnyMoment, AnyMomentLives, Carries};
 
 use crate::records::{ABORT, CHANGE_5, CHANGE_6, CHANGE_6_AGAIN, COMMIT, PUT_BACK_6};
+use disk_runs::core_disk;
+use disk_runs::worker_log::{DiskFault, Staging, WorkerLog};
 use lean_disk::Disk;
 use log_calls::{flush, stage, stage_end};
-use worker_log::{DiskFault, Staging, WorkerLog};
 
 /// Puts the records of the row into the logs 1 and 2, and flushes log 2.
 pub fn carry<D: Disk>(

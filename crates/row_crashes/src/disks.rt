@@ -1,14 +1,15 @@
 // Disks in memory with two logs: a fresh one, and what is recovered of one.
 ghost use Rattle.std.specs.Prelude.{◌≡◌, ◌<◌, ◌≤◌, ◌^◌, length, IfOk};
 ghost use Rattle.recovery_scan.specs.Scans.{AreOfLogs};
-ghost use Rattle.master_store.specs.Masters.{IsOfSlot};
+ghost use Rattle.disk_runs.specs.master_store.Masters.{IsOfSlot};
 
-use btree_node::Node;
-use disk_slots::{Heads, Master};
+use disk_runs::btree_node::Node;
+use disk_runs::disk_slots::{Heads, Master};
+use disk_runs::master_store::{choose, write_next};
+use disk_runs::page_store;
+use disk_runs::page_store::{fetch, save};
 use lean_disk::{AreaOf, Did, Disk, MemDisk};
 use log_index::LogIndex;
-use master_store::{choose, write_next};
-use page_store::{fetch, save};
 use recovery_redo::{Failed, Outcome, recover_pages};
 use recovery_scan::scan_logs;
 use std::alloc::{AllocError, Global};

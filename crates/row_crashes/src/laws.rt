@@ -2,6 +2,7 @@
 ghost use Rattle.row_crashes.specs.Left.{EveryLeft};
 ghost use Rattle.row_crashes.specs.Row.{EveryBegun, RowOpens};
 
+use disk_runs::core_disk;
 use lean_disk::Disk;
 
 /// An opening from which the row begins, of as many pages as a fresh disk may have.

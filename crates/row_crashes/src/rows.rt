@@ -1,14 +1,14 @@
 // Worker 1 changes key 5 and stays open. Worker 2 changes key 6, puts it back and aborts, changes it again and commits: its
 // ends need log 1, whose number 1 its leaf had. The records are those of the events of core_crash's example, by hand.
-ghost use Rattle.log_record.specs.Spelling.{BodyFits, Fits};
+ghost use Rattle.disk_runs.specs.log_record.Spelling.{BodyFits, Fits};
 
 use crate::carry;
 use crate::disks::{fresh_disk, read_back};
+use disk_runs::log_record::{Body, PageRef, Record};
+use disk_runs::worker_log::WorkerLog;
 use lean_disk::{AreaOf, Choice, MemDisk, Part};
-use log_record::{Body, PageRef, Record};
 use std::alloc::{AllocError, Global};
 use std::process::Abort;
-use worker_log::WorkerLog;
 
 const TOMBSTONE: u64 = 9223372036854775808;
 

@@ -8,22 +8,22 @@ use Rattle.map_model.specs.Lists.{Has, upd}
 use Rattle.rfa_model.specs.Reaches.{least}
 use Rattle.rfa_model.specs.Stamps.{debt_at_begin}
 use Rattle.rfa_model.proofs.ReachLemmas.{least_low}
-use Rattle.core_state.specs.Openings.{Opening}
-use Rattle.core_state.specs.States.{State, flushed_by_all}
-use Rattle.core_state.specs.Events as happening
-use Rattle.core_state.specs.Needs.{may, holds_row}
-use Rattle.core_state.specs.Steps.{begun, happens}
-use Rattle.worker_log.specs.Logs.{Log, used, limit}
+use Rattle.lean_proto.specs.core_state.Openings.{Opening}
+use Rattle.lean_proto.specs.core_state.States.{State, flushed_by_all}
+use Rattle.lean_proto.specs.core_state.Events as happening
+use Rattle.lean_proto.specs.core_state.Needs.{may, holds_row}
+use Rattle.lean_proto.specs.core_state.Steps.{begun, happens}
+use Rattle.disk_runs.specs.worker_log.Logs.{Log, used, limit}
 use Rattle.core_calls.specs.LogEvents.{behind as waits}
-use Rattle.row_words.specs.declared.event.Event as event
-use Rattle.row_words.specs.declared.event.Event.TheVariants.{Begin}
-use Rattle.row_words.specs.declared.given.Given.{Given}
-use Rattle.row_words.specs.Moments.{Moment}
-use Rattle.row_words.specs.Openings.{opening}
-use Rattle.row_words.specs.Sealed.{heard, stepped}
-use Rattle.rows_trait.specs.Views.{Shape, after_all, state}
-use Rattle.rows_trait.specs.Turns.{Heard}
-use Rattle.rows_trait.specs.declared.view.View.{View}
+use Rattle.lean_proto.specs.row_words.declared.event.Event as event
+use Rattle.lean_proto.specs.row_words.declared.event.Event.TheVariants.{Begin}
+use Rattle.lean_proto.specs.row_words.declared.given.Given.{Given}
+use Rattle.lean_proto.specs.row_words.Moments.{Moment}
+use Rattle.lean_proto.specs.row_words.Openings.{opening}
+use Rattle.lean_proto.specs.row_words.Sealed.{heard, stepped}
+use Rattle.lean_proto.specs.rows_trait.Views.{Shape, after_all, state}
+use Rattle.lean_proto.specs.rows_trait.Turns.{Heard}
+use Rattle.lean_proto.specs.rows_trait.declared.view.View.{View}
 use Rattle.lean_proto.specs.Controls as controls
 use Rattle.engine_trait.specs.Calls.{IsTold}
 use Rattle.engine_trait.specs.Refusals.{log_refusal, refusal_in}

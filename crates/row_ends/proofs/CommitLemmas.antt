@@ -3,26 +3,26 @@ use Rattle.std.proofs.Common.{◌≡◌, ◌≤◌, ◌<◌, ◌+◌, ◌^◌, �
 use Rattle.std.proofs.lemmas.Bool.{eq-eqb, le-leb}
 use Rattle.map_model.specs.Lists.{Has, any}
 use Rattle.map_model.proofs.ListLemmas.{upd_same}
-use Rattle.image_model.specs.Entries.{Entry, Kind, is_commit, is_record}
+use Rattle.lean_proto.specs.image_model.Entries.{Entry, Kind, is_commit, is_record}
 use Rattle.rfa_model.proofs.ReachLemmas.{least_low}
 use Rattle.rfa_model.specs.Reaches.{least}
-use Rattle.core_state.specs.Openings.{Opening}
-use Rattle.core_state.specs.Events as happening
-use Rattle.core_state.specs.States.{Row, State, Worker, flushed_by_all}
-use Rattle.core_state.specs.Needs.{holds_row, may}
-use Rattle.core_state.specs.Steps.{AllMet, end_entry, ends, finished, happens, run, step}
+use Rattle.lean_proto.specs.core_state.Openings.{Opening}
+use Rattle.lean_proto.specs.core_state.Events as happening
+use Rattle.lean_proto.specs.core_state.States.{Row, State, Worker, flushed_by_all}
+use Rattle.lean_proto.specs.core_state.Needs.{holds_row, may}
+use Rattle.lean_proto.specs.core_state.Steps.{AllMet, end_entry, ends, finished, happens, run, step}
 use Rattle.core_calls.specs.LogEvents as log_events
 use Rattle.engine_calls.specs.Commits.{unlocks}
 use Rattle.engine_calls.proofs.UnlockLemmas.{entries_same, flushed_same, if_met}
-use Rattle.log_record.specs.Spelling.{BodyFits, Fits}
-use Rattle.log_record.specs.declared.record.Body.{Body}
-use Rattle.worker_log.specs.Logs.{Log}
-use Rattle.row_words.specs.declared.event.Event.{Event}
-use Rattle.row_words.specs.declared.event.Event.TheVariants.{End, Flush}
-use Rattle.row_words.specs.declared.given.Given.{Given}
-use Rattle.row_words.specs.Openings.{opening}
-use Rattle.rows_trait.specs.declared.view.View.{View}
-use Rattle.rows_trait.specs.Views.{Shape, after_all, state}
+use Rattle.disk_runs.specs.log_record.Spelling.{BodyFits, Fits}
+use Rattle.disk_runs.specs.log_record.declared.record.Body.{Body}
+use Rattle.disk_runs.specs.worker_log.Logs.{Log}
+use Rattle.lean_proto.specs.row_words.declared.event.Event.{Event}
+use Rattle.lean_proto.specs.row_words.declared.event.Event.TheVariants.{End, Flush}
+use Rattle.lean_proto.specs.row_words.declared.given.Given.{Given}
+use Rattle.lean_proto.specs.row_words.Openings.{opening}
+use Rattle.lean_proto.specs.rows_trait.declared.view.View.{View}
+use Rattle.lean_proto.specs.rows_trait.Views.{Shape, after_all, state}
 use Rattle.key_locks.specs.Latching.{is_marked}
 use Rattle.lean_proto.specs.Controls.{CanEnd}
 use Rattle.row_ends.specs.Ends.{AreMine, Ended, Latched, Latching, MayEnd, MayFlush, end_of, gives, waiting_session}

@@ -1,22 +1,22 @@
 -- The end of a transaction, at the session's control word, and its rows behind it.
 use Rattle.std.proofs.Common.{◌≡◌, ◌+◌, ℕ, Bool, true, false, List, [], ◌∷◌, ◌++◌, sym, ap, ◌∙◌, subst, arith}
 use Rattle.std.proofs.lemmas.List.{append_assoc}
-use Rattle.core_state.specs.Events as happening
-use Rattle.core_state.specs.States.{State}
-use Rattle.core_state.specs.Needs.{holds_row, may}
-use Rattle.core_state.specs.Steps as core
-use Rattle.core_state.specs.Steps.{AllMet, finished, happens}
+use Rattle.lean_proto.specs.core_state.Events as happening
+use Rattle.lean_proto.specs.core_state.States.{State}
+use Rattle.lean_proto.specs.core_state.Needs.{holds_row, may}
+use Rattle.lean_proto.specs.core_state.Steps as core
+use Rattle.lean_proto.specs.core_state.Steps.{AllMet, finished, happens}
 use Rattle.engine_calls.specs.Commits.{unlocks}
 use Rattle.engine_calls.proofs.UnlockLemmas.{if_met}
-use Rattle.row_words.specs.declared.event.Event.TheVariants.{End, Flush}
-use Rattle.row_words.specs.Openings.{opening}
+use Rattle.lean_proto.specs.row_words.declared.event.Event.TheVariants.{End, Flush}
+use Rattle.lean_proto.specs.row_words.Openings.{opening}
 use Rattle.lean_disk.specs.Story.{Story}
 use Rattle.log_calls.specs.Calls.{FlushesOn}
-use Rattle.worker_log.specs.Calls.{flushed_log}
-use Rattle.worker_log.specs.Logs.{Log}
-use Rattle.rows_trait.specs.declared.view.View.{View}
-use Rattle.rows_trait.specs.Views.{Shape, state}
-use Rattle.rows_trait.specs.Turns.{MayTurn, Turned}
+use Rattle.disk_runs.specs.worker_log.Calls.{flushed_log}
+use Rattle.disk_runs.specs.worker_log.Logs.{Log}
+use Rattle.lean_proto.specs.rows_trait.declared.view.View.{View}
+use Rattle.lean_proto.specs.rows_trait.Views.{Shape, state}
+use Rattle.lean_proto.specs.rows_trait.Turns.{MayTurn, Turned}
 use Rattle.lean_proto.specs.Controls as controls
 use Rattle.row_ends.specs.Ends.{AreHeld, AreMine, Ended, Gave, HasFlushed, MayEnd, MayFlush, gives}
 use Rattle.session_state.specs.declared.session.Session.{Session}

@@ -1,11 +1,11 @@
 -- The end of a session whose lock rows are latched, by what was loaded of all logs.
 use Rattle.std.proofs.Common.{◌≡◌, ◌<◌, ◌+◌, ℕ, suc, Bool, true, false, cond, List, length, [], sym, ap, ◌∙◌, subst}
-use Rattle.core_state.specs.States.{flushed_by_all}
+use Rattle.lean_proto.specs.core_state.States.{flushed_by_all}
 use Rattle.lean_disk.specs.Story.{Story}
-use Rattle.worker_log.specs.Logs.{Log}
-use Rattle.row_words.specs.Openings.{opening}
-use Rattle.rows_trait.specs.declared.view.View.{View}
-use Rattle.rows_trait.specs.Views.{Shape, state}
+use Rattle.disk_runs.specs.worker_log.Logs.{Log}
+use Rattle.lean_proto.specs.row_words.Openings.{opening}
+use Rattle.lean_proto.specs.rows_trait.declared.view.View.{View}
+use Rattle.lean_proto.specs.rows_trait.Views.{Shape, state}
 use Rattle.row_ends.specs.Ends.{Ended, HasFlushed, Latched, MayEnd, MayFlush, waiting_session}
 use Rattle.row_ends.specs.Flushed.{Looked, flushed_to}
 use Rattle.session_state.specs.Holds.{Holds}

@@ -6,26 +6,26 @@ use Rattle.std.proofs.Math.Nat.{mod-eq_of_lt}
 use Rattle.std.proofs.Math.Seq.{drop-length}
 use Rattle.map_model.specs.Lists.{Has, keep}
 use Rattle.map_model.proofs.ListLemmas.{upd_same, upd_other}
-use Rattle.core_state.specs.Events as happening
-use Rattle.core_state.specs.States.{Row, State}
-use Rattle.core_state.specs.Openings.{Opening}
-use Rattle.core_state.specs.Needs.{holds_row, is_held_by, is_reader, may}
-use Rattle.core_state.specs.Steps as core
-use Rattle.core_state.specs.Steps.{AllMet, happens, unlocked}
-use Rattle.core_state.proofs.Runs.{run_more}
+use Rattle.lean_proto.specs.core_state.Events as happening
+use Rattle.lean_proto.specs.core_state.States.{Row, State}
+use Rattle.lean_proto.specs.core_state.Openings.{Opening}
+use Rattle.lean_proto.specs.core_state.Needs.{holds_row, is_held_by, is_reader, may}
+use Rattle.lean_proto.specs.core_state.Steps as core
+use Rattle.lean_proto.specs.core_state.Steps.{AllMet, happens, unlocked}
+use Rattle.lean_proto.proofs.core_state_lemmas.Runs.{run_more}
 use Rattle.engine_calls.specs.Commits.{unlocks}
 use Rattle.engine_calls.proofs.MarkLemmas.{met_join}
 use Rattle.engine_calls.proofs.UnlockLemmas.{if_met}
-use Rattle.row_words.specs.declared.event.Event.{Event}
-use Rattle.row_words.specs.declared.event.Event.TheVariants.{Miss, Unlock}
-use Rattle.row_words.specs.Moments.{events_of}
-use Rattle.row_words.specs.Openings.{opening}
-use Rattle.rows_trait.specs.declared.view.Hold.{Hold}
-use Rattle.rows_trait.specs.declared.view.View.{View}
-use Rattle.rows_trait.specs.Causes.{EveryLow}
-use Rattle.rows_trait.specs.Views.{Shape, AreLow, holds, state, without}
-use Rattle.rows_trait.specs.Turns.{Ran}
-use Rattle.rows_trait.proofs.Holds.{holds_without}
+use Rattle.lean_proto.specs.row_words.declared.event.Event.{Event}
+use Rattle.lean_proto.specs.row_words.declared.event.Event.TheVariants.{Miss, Unlock}
+use Rattle.lean_proto.specs.row_words.Moments.{events_of}
+use Rattle.lean_proto.specs.row_words.Openings.{opening}
+use Rattle.lean_proto.specs.rows_trait.declared.view.Hold.{Hold}
+use Rattle.lean_proto.specs.rows_trait.declared.view.View.{View}
+use Rattle.lean_proto.specs.rows_trait.Causes.{EveryLow}
+use Rattle.lean_proto.specs.rows_trait.Views.{Shape, AreLow, holds, state, without}
+use Rattle.lean_proto.specs.rows_trait.Turns.{Ran}
+use Rattle.lean_proto.proofs.rows_trait_lemmas.Holds.{holds_without}
 use Rattle.key_locks.specs.declared.latches.Unlatched.{Unlatched}
 use Rattle.key_locks.specs.declared.latches.Unlatched.TheVariants.{Moved, Latched, RowSpent}
 use Rattle.key_locks.specs.Latching.{AreLatched, IsAlone, IsGivenUp, NotLatched, is_marked}

@@ -2,14 +2,14 @@
 use Rattle.std.proofs.Common.{◌≡◌, ◌↔◌, ◌≤◌, ◌^◌, ℕ, Bool, true, false, List, [], ◌++◌, length, replicate, refl, sym, ap, ◌∙◌, subst, arith, length-append, true≢false}
 use Rattle.std.proofs.lemmas.List.{length-replicate}
 use Rattle.map_model.specs.Lists.{Has}
-use Rattle.core_state.specs.States.{State, flushed_by_all}
-use Rattle.core_state.specs.Needs.{holds_row}
-use Rattle.worker_log.specs.Logs.{Log}
+use Rattle.lean_proto.specs.core_state.States.{State, flushed_by_all}
+use Rattle.lean_proto.specs.core_state.Needs.{holds_row}
+use Rattle.disk_runs.specs.worker_log.Logs.{Log}
 use Rattle.core_calls.specs.LogEvents as log_events
-use Rattle.row_words.specs.Openings.{opening}
-use Rattle.rows_trait.specs.declared.view.Hold.{Hold}
-use Rattle.rows_trait.specs.declared.view.View.{View}
-use Rattle.rows_trait.specs.Views.{Shape, state}
+use Rattle.lean_proto.specs.row_words.Openings.{opening}
+use Rattle.lean_proto.specs.rows_trait.declared.view.Hold.{Hold}
+use Rattle.lean_proto.specs.rows_trait.declared.view.View.{View}
+use Rattle.lean_proto.specs.rows_trait.Views.{Shape, state}
 use Rattle.key_locks.specs.Latching.{is_marked}
 use Rattle.row_ends.specs.Ends.{AreAmong, AreMine, Missed}
 use Rattle.session_state.specs.Holds.{Holds, IsOf}

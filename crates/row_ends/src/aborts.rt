@@ -11,13 +11,13 @@ ghost use Rattle.session_state.specs.Others.{Steps};
 use crate::begins::least_flushed;
 use crate::ending::{Ended, close, end_rows};
 use crate::latching::latch_held;
+use disk_runs::log_record::{Body, Record};
+use disk_runs::worker_log::DiskFault;
 use key_locks::latches::Latches;
 use lean_disk::Disk;
-use log_record::{Body, Record};
+use lean_proto::rows_trait::rows::Rows;
 use map_model::Refusal;
-use rows_trait::rows::Rows;
 use session_state::Work;
-use worker_log::DiskFault;
 
 // The end of a session whose changes are put back and whose rows are latched.
 fn finish<R: Rows, D: Disk>(

@@ -3,14 +3,14 @@ ghost use Rattle.std.specs.Prelude.{◌≡◌, ◌≤◌, ◌<◌, ◌^◌, true
 ghost use Rattle.page_model.specs.Limits.{most_sessions};
 ghost use Rattle.row_ends.specs.Begins.{Begins, MayBegin, begun_session};
 ghost use Rattle.row_ends.specs.Flushed.{Looked, flushed_to};
-ghost use Rattle.rows_trait.specs.Views.{state};
+ghost use Rattle.lean_proto.specs.rows_trait.Views.{state};
 ghost use Rattle.session_state.specs.Holds.{Holds, IsSameSession};
 ghost use Rattle.session_state.specs.Others.{Steps};
 
-use rows_trait::names::{Names, Nothing};
-use rows_trait::rows::Rows;
+use disk_runs::worker_log::WorkerLog;
+use lean_proto::rows_trait::names::{Names, Nothing};
+use lean_proto::rows_trait::rows::Rows;
 use session_state::Session;
-use worker_log::WorkerLog;
 
 // The event of a begin by the session, where other logs are flushed up to `least` and the last one up to the number that is loaded.
 #[derive(Drop)]
@@ -21,7 +21,7 @@ struct Beginning {
 
 impl Names for Beginning {
     ghost use Rattle.std.specs.Prelude.{[], ◌∷◌, min};
-    ghost use Rattle.row_words.specs.declared.event.Event.TheVariants.{Begin};
+    ghost use Rattle.lean_proto.specs.row_words.declared.event.Event.TheVariants.{Begin};
 
     ghost names = { λ s n. Begin s.own (min s.least n) ∷ [] };
 }

@@ -12,13 +12,13 @@ ghost use Rattle.session_state.specs.Staging.{KeepsLog};
 use crate::begins::least_flushed;
 use crate::ending::{Ended, close, end_rows};
 use crate::latching::latch_held;
+use disk_runs::log_record::{Body, Record};
+use disk_runs::worker_log::DiskFault;
 use key_locks::latches::Latches;
 use lean_disk::Disk;
-use log_record::{Body, Record};
+use lean_proto::rows_trait::rows::Rows;
 use map_model::Refusal;
-use rows_trait::rows::Rows;
 use session_state::{Flushes, Session, Work, settle, wait_for_flush};
-use worker_log::DiskFault;
 
 // It has ended by a commit, which waits for a flush.
 fn close_by_commit(session: &mut Session, number: u64)

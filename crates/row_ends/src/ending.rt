@@ -4,8 +4,8 @@ ghost use Rattle.row_ends.specs.Ends.{Ended as HasEnded, MayEnd, ended_session};
 
 use crate::latching::unlock_rows;
 use key_locks::latches::Latches;
-use rows_trait::names::Names;
-use rows_trait::rows::Rows;
+use lean_proto::rows_trait::names::Names;
+use lean_proto::rows_trait::rows::Rows;
 use session_state::Session;
 
 /// The number of the transaction, that of its end, and up to which number all logs are to be flushed for it, 0 where it owes the others nothing.
@@ -26,7 +26,7 @@ struct Ends {
 
 impl Names for Ends {
     ghost use Rattle.std.specs.Prelude.{[], ◌∷◌};
-    ghost use Rattle.row_words.specs.declared.event.Event.TheVariants.{End};
+    ghost use Rattle.lean_proto.specs.row_words.declared.event.Event.TheVariants.{End};
 
     ghost names = { λ s _. End s.own s.commit s.floor ∷ [] };
 }

@@ -1,17 +1,18 @@
 // The latches of the lock rows that a session holds, around its end.
 ghost use Rattle.std.specs.Prelude.{◌≡◌, ◌≤◌, ◌^◌, ℕ, true, false, length, replicate};
 ghost use Rattle.map_model.specs.Lists.{Has};
-ghost use Rattle.rows_trait.specs.Views.{state};
+ghost use Rattle.lean_proto.specs.rows_trait.Views.{state};
 ghost use Rattle.key_locks.specs.Latching.{is_marked};
 ghost use Rattle.key_locks.specs.Rows.{Sized, Spans};
 ghost use Rattle.row_ends.specs.Ends.{AreAmong, AreHeld, AreMine, Gave, Latched, Latching, Missed};
 ghost use Rattle.row_ends.specs.Outcomes.{IsLatched};
 ghost use Rattle.session_state.specs.Holds.{Holds};
 
+use disk_runs::worker_log::WorkerLog;
 use key_locks::latches::Latches;
-use rows_trait::rows::Rows;
+use lean_proto::rows_trait;
+use lean_proto::rows_trait::rows::Rows;
 use session_state::{HeldRows, Session, next_fits};
-use worker_log::WorkerLog;
 
 // Latches the lock rows that the session holds, as they stand, until one is found whose latch has come to its end. Whether all are latched.
 fn latch_rows<R: Rows>(

@@ -4,28 +4,28 @@ use Rattle.map_model.specs.Lists.{Has, keep}
 use Rattle.map_model.proofs.ListLemmas.{upd_same}
 use Rattle.page_model.specs.Records as records
 use Rattle.page_model.specs.Tree.{IsTree}
-use Rattle.image_model.specs.Entries.{Entry, Kind, is_commit}
-use Rattle.core_state.specs.Needs.{holds_row, may}
-use Rattle.core_state.specs.Openings.{Opening}
-use Rattle.core_state.specs.States.{Place, State, Worker, in_frame, nodes_of}
-use Rattle.core_state.specs.Steps.{at_pages, happens, moves, page_entry, records_in}
+use Rattle.disk_image.specs.image_model.Entries.{Entry, Kind, is_commit}
+use Rattle.btree_descent.specs.core_state.Needs.{holds_row, may}
+use Rattle.btree_descent.specs.core_state.Openings.{Opening}
+use Rattle.btree_descent.specs.core_state.States.{Place, State, Worker, in_frame, nodes_of}
+use Rattle.btree_descent.specs.core_state.Steps.{at_pages, happens, moves, page_entry, records_in}
 use Rattle.core_calls.specs.LogEvents.{behind}
 use Rattle.core_calls.specs.Warms.{IsWarmFrom}
 use Rattle.core_calls.specs.Room.{free_list, room_takes}
 use Rattle.lean_disk.specs.Story.{Story}
-use Rattle.log_record.specs.declared.record.Record.{Record}
+use Rattle.disk_image.specs.log_record.declared.record.Record.{Record}
 use Rattle.disk_image.specs.Records.{entry_of}
 use Rattle.worker_log.specs.Logs.{Log}
-use Rattle.row_words.specs.declared.event.Event.{Event}
-use Rattle.row_words.specs.declared.event.Event.TheVariants as event
-use Rattle.row_words.specs.declared.given.Given.{Given}
-use Rattle.row_words.specs.Moments.{Moment, event_of}
-use Rattle.row_words.specs.Openings.{opening}
-use Rattle.row_words.specs.Sealed.{begun}
-use Rattle.row_words.proofs.SealedLemmas.{run_append}
-use Rattle.rows_trait.specs.Causes.{EveryLow}
-use Rattle.rows_trait.specs.Views.{AreLow, Shape, after_all, state}
-use Rattle.rows_trait.specs.declared.view.View.{View}
+use Rattle.btree_descent.specs.row_words.declared.event.Event.{Event}
+use Rattle.btree_descent.specs.row_words.declared.event.Event.TheVariants as event
+use Rattle.btree_descent.specs.row_words.declared.given.Given.{Given}
+use Rattle.btree_descent.specs.row_words.Moments.{Moment, event_of}
+use Rattle.btree_descent.specs.row_words.Openings.{opening}
+use Rattle.btree_descent.specs.row_words.Sealed.{begun}
+use Rattle.btree_descent.proofs.row_words_lemmas.SealedLemmas.{run_append}
+use Rattle.btree_descent.specs.rows_trait.Causes.{EveryLow}
+use Rattle.btree_descent.specs.rows_trait.Views.{AreLow, Shape, after_all, state}
+use Rattle.btree_descent.specs.rows_trait.declared.view.View.{View}
 use Rattle.btree_descent.specs.Known.{Sound}
 use Rattle.btree_descent.specs.Puts.{Onward, clock_in}
 use Rattle.btree_smo.specs.Outcomes.{Caused, Changed, IsHotIn, Missed, WasSo}

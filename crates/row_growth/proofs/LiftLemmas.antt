@@ -2,24 +2,24 @@
 use Rattle.std.proofs.Common.{◌≡◌, ◌≢◌, ◌⊎◌, inl, inr, ◌<◌, ℕ, true, false, List, [], ◌∷◌, length, Result, Ok, refl, sym, ap, ◌∙◌, subst, arith, true≢false}
 use Rattle.map_model.specs.declared.call.Refusal.{Refusal}
 use Rattle.page_model.specs.Needs.{lift_record}
-use Rattle.image_model.specs.Entries.{Kind}
-use Rattle.core_state.specs.Events as happening
-use Rattle.core_state.specs.Needs.{may}
-use Rattle.core_state.specs.Openings.{Opening}
-use Rattle.core_state.specs.States.{Place, State, gsns_of, nodes_of}
-use Rattle.core_state.specs.Steps.{happens}
+use Rattle.disk_image.specs.image_model.Entries.{Kind}
+use Rattle.btree_descent.specs.core_state.Events as happening
+use Rattle.btree_descent.specs.core_state.Needs.{may}
+use Rattle.btree_descent.specs.core_state.Openings.{Opening}
+use Rattle.btree_descent.specs.core_state.States.{Place, State, gsns_of, nodes_of}
+use Rattle.btree_descent.specs.core_state.Steps.{happens}
 use Rattle.core_calls.specs.Room.{EveryRoom, free_list}
-use Rattle.draw_trait.specs.declared.draw.Unstaged.{Unstaged}
-use Rattle.draw_trait.specs.declared.draw.Unstaged.TheVariants.{DiskFault, LogFull}
+use Rattle.btree_descent.specs.draw_trait.declared.draw.Unstaged.{Unstaged}
+use Rattle.btree_descent.specs.draw_trait.declared.draw.Unstaged.TheVariants.{DiskFault, LogFull}
 use Rattle.lean_disk.specs.Story.{Story}
-use Rattle.log_record.specs.declared.record.Record.{Record}
+use Rattle.disk_image.specs.log_record.declared.record.Record.{Record}
 use Rattle.worker_log.specs.Logs.{Log}
-use Rattle.row_words.specs.declared.event.Event.TheVariants.{Lift}
-use Rattle.row_words.specs.Moments.{Moment}
-use Rattle.row_words.specs.Openings.{opening}
-use Rattle.rows_trait.specs.Causes.{EveryLow}
-use Rattle.rows_trait.specs.Views.{AreLow, Shape, state}
-use Rattle.rows_trait.specs.declared.view.View.{View}
+use Rattle.btree_descent.specs.row_words.declared.event.Event.TheVariants.{Lift}
+use Rattle.btree_descent.specs.row_words.Moments.{Moment}
+use Rattle.btree_descent.specs.row_words.Openings.{opening}
+use Rattle.btree_descent.specs.rows_trait.Causes.{EveryLow}
+use Rattle.btree_descent.specs.rows_trait.Views.{AreLow, Shape, state}
+use Rattle.btree_descent.specs.rows_trait.declared.view.View.{View}
 use Rattle.btree_smo.specs.Lifts as lifts
 use Rattle.btree_smo.specs.Lifts.{Lifted, Raised, lift_entry}
 use Rattle.btree_smo.specs.Outcomes.{Caused, Drew, IsHotIn, IsUndisturbed, Missed, WasSo, last_after}

@@ -10,21 +10,21 @@ use Rattle.page_model.specs.Nodes.{Node, covers, holds, is_leaf}
 use Rattle.page_model.specs.Pairs.{Span, find, spans}
 use Rattle.page_model.specs.Redo.{has_key, is_some}
 use Rattle.page_model.specs.Tree.{Names}
-use Rattle.core_state.specs.Needs.{is_held_by, may}
-use Rattle.core_state.specs.Openings.{Opening}
-use Rattle.core_state.specs.States.{Place, State, in_frame, nodes_of}
-use Rattle.core_state.specs.Steps.{happens}
+use Rattle.btree_descent.specs.core_state.Needs.{is_held_by, may}
+use Rattle.btree_descent.specs.core_state.Openings.{Opening}
+use Rattle.btree_descent.specs.core_state.States.{Place, State, in_frame, nodes_of}
+use Rattle.btree_descent.specs.core_state.Steps.{happens}
 use Rattle.core_calls.specs.Warms.{IsWarmFrom}
 use Rattle.core_calls.specs.Room.{EveryRoom, IsWay, full_run, is_all_full, room_takes}
 use Rattle.lean_disk.specs.Story.{Story}
 use Rattle.disk_image.specs.Records.{entry_of}
 use Rattle.worker_log.specs.Logs.{Log}
-use Rattle.row_words.specs.Moments.{Moment, event_of}
-use Rattle.row_words.specs.Openings.{opening}
-use Rattle.row_words.proofs.Stays.{and_true}
-use Rattle.rows_trait.specs.Views.{Shape, after_all, state}
-use Rattle.rows_trait.specs.declared.view.View.{View}
-use Rattle.lean_proto.specs.Paths.{above}
+use Rattle.btree_descent.specs.row_words.Moments.{Moment, event_of}
+use Rattle.btree_descent.specs.row_words.Openings.{opening}
+use Rattle.btree_descent.proofs.row_words_lemmas.Stays.{and_true}
+use Rattle.btree_descent.specs.rows_trait.Views.{Shape, after_all, state}
+use Rattle.btree_descent.specs.rows_trait.declared.view.View.{View}
+use Rattle.btree_descent.specs.lean_proto.Paths.{above}
 use Rattle.btree_descent.specs.Trails.{IsAbove}
 use Rattle.btree_smo.specs.Outcomes.{WasSo}
 use Rattle.btree_smo.specs.Room.{IsFullIn, IsRoomIn, IsRun}

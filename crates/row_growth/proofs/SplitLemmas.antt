@@ -5,25 +5,25 @@ use Rattle.page_model.specs.Check.{names_page}
 use Rattle.page_model.specs.Needs.{split_record}
 use Rattle.page_model.specs.Pairs.{Span}
 use Rattle.page_model.specs.Tree.{Names}
-use Rattle.image_model.specs.Entries.{Kind}
-use Rattle.core_commit.proofs.Events.{names_to}
-use Rattle.core_state.specs.Events as happening
-use Rattle.core_state.specs.Needs.{may}
-use Rattle.core_state.specs.Openings.{Opening}
-use Rattle.core_state.specs.States.{Place, State, gsns_of, nodes_of}
-use Rattle.core_state.specs.Steps.{happens}
+use Rattle.disk_image.specs.image_model.Entries.{Kind}
+use Rattle.btree_descent.proofs.core_commit_lemmas.Events.{names_to}
+use Rattle.btree_descent.specs.core_state.Events as happening
+use Rattle.btree_descent.specs.core_state.Needs.{may}
+use Rattle.btree_descent.specs.core_state.Openings.{Opening}
+use Rattle.btree_descent.specs.core_state.States.{Place, State, gsns_of, nodes_of}
+use Rattle.btree_descent.specs.core_state.Steps.{happens}
 use Rattle.core_calls.specs.Room.{EveryRoom, free_list}
-use Rattle.draw_trait.specs.declared.draw.Unstaged.{Unstaged}
-use Rattle.draw_trait.specs.declared.draw.Unstaged.TheVariants.{DiskFault, LogFull}
+use Rattle.btree_descent.specs.draw_trait.declared.draw.Unstaged.{Unstaged}
+use Rattle.btree_descent.specs.draw_trait.declared.draw.Unstaged.TheVariants.{DiskFault, LogFull}
 use Rattle.lean_disk.specs.Story.{Story}
-use Rattle.log_record.specs.declared.record.Record.{Record}
+use Rattle.disk_image.specs.log_record.declared.record.Record.{Record}
 use Rattle.worker_log.specs.Logs.{Log}
-use Rattle.row_words.specs.declared.event.Event.TheVariants.{Split}
-use Rattle.row_words.specs.Moments.{Moment}
-use Rattle.row_words.specs.Openings.{opening}
-use Rattle.rows_trait.specs.Causes.{EveryLow}
-use Rattle.rows_trait.specs.Views.{AreLow, Shape, after_all, state}
-use Rattle.rows_trait.specs.declared.view.View.{View}
+use Rattle.btree_descent.specs.row_words.declared.event.Event.TheVariants.{Split}
+use Rattle.btree_descent.specs.row_words.Moments.{Moment}
+use Rattle.btree_descent.specs.row_words.Openings.{opening}
+use Rattle.btree_descent.specs.rows_trait.Causes.{EveryLow}
+use Rattle.btree_descent.specs.rows_trait.Views.{AreLow, Shape, after_all, state}
+use Rattle.btree_descent.specs.rows_trait.declared.view.View.{View}
 use Rattle.btree_smo.specs.Outcomes.{Caused, Drew, IsHotIn, IsUndisturbed, Missed, WasSo, last_after}
 use Rattle.btree_smo.specs.Splits as splits
 use Rattle.btree_smo.specs.Splits.{Divided, Parted, split_entry}

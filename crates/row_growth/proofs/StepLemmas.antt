@@ -3,17 +3,17 @@ use Rattle.std.proofs.Common.{◌≡◌, ◌<◌, ◌%◌, ◌++◌, ℕ, true, 
 use Rattle.map_model.specs.declared.call.Refusal.{Refusal}
 use Rattle.map_model.specs.declared.call.Refusal.TheVariants as refusal
 use Rattle.core_calls.specs.Room.{room_takes}
-use Rattle.core_state.specs.Needs.{is_held_by, may}
-use Rattle.row_words.specs.Moments.{event_of}
-use Rattle.core_state.specs.States.{State}
-use Rattle.core_state.specs.Steps.{happens}
+use Rattle.btree_descent.specs.core_state.Needs.{is_held_by, may}
+use Rattle.btree_descent.specs.row_words.Moments.{event_of}
+use Rattle.btree_descent.specs.core_state.States.{State}
+use Rattle.btree_descent.specs.core_state.Steps.{happens}
 use Rattle.disk_image.specs.Records.{entry_of}
 use Rattle.lean_disk.specs.Story.{Story}
-use Rattle.row_words.specs.declared.event.Event.{Event}
-use Rattle.row_words.specs.declared.given.Given.{Given}
-use Rattle.row_words.specs.Openings.{opening}
-use Rattle.rows_trait.specs.Views.{after_all, state}
-use Rattle.rows_trait.specs.declared.view.View.{View}
+use Rattle.btree_descent.specs.row_words.declared.event.Event.{Event}
+use Rattle.btree_descent.specs.row_words.declared.given.Given.{Given}
+use Rattle.btree_descent.specs.row_words.Openings.{opening}
+use Rattle.btree_descent.specs.rows_trait.Views.{after_all, state}
+use Rattle.btree_descent.specs.rows_trait.declared.view.View.{View}
 use Rattle.worker_log.specs.Logs.{Log}
 use Rattle.engine_trait.specs.Refusals.{clock_refusal, room_refusal}
 use Rattle.engine_trait.specs.Rooms.{IsNextRoom}

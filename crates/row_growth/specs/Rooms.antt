@@ -3,22 +3,22 @@ use Rattle.std.specs.Prelude.{◌≡◌, ◌≢◌, ◌≤◌, ◌<◌, ◌-◌,
 use Rattle.page_model.specs.Limits.{leaf_room}
 use Rattle.map_model.specs.declared.call.Refusal.{Refusal}
 use Rattle.map_model.specs.declared.call.Refusal.TheVariants as refusal
-use Rattle.core_state.specs.Needs.{may}
-use Rattle.core_state.specs.Steps.{happens}
-use Rattle.core_state.specs.Events as happening
+use Rattle.btree_descent.specs.core_state.Needs.{may}
+use Rattle.btree_descent.specs.core_state.Steps.{happens}
+use Rattle.btree_descent.specs.core_state.Events as happening
 use Rattle.page_model.specs.Check.{names_page}
 use Rattle.core_calls.specs.Room.{room_takes}
 use Rattle.lean_disk.specs.Story.{Story}
-use Rattle.log_record.specs.declared.record.Record.{Record}
-use Rattle.log_block.specs.Block.{records_text}
-use Rattle.row_words.specs.declared.event.Event.{Event}
-use Rattle.row_words.specs.declared.event.Event.TheVariants.{Lift, Split}
-use Rattle.row_words.specs.Moments.{event_of}
-use Rattle.row_words.specs.Openings.{opening}
-use Rattle.rows_trait.specs.declared.view.View.{View}
-use Rattle.rows_trait.specs.Views.{state}
+use Rattle.disk_image.specs.log_record.declared.record.Record.{Record}
+use Rattle.disk_image.specs.log_block.Block.{records_text}
+use Rattle.btree_descent.specs.row_words.declared.event.Event.{Event}
+use Rattle.btree_descent.specs.row_words.declared.event.Event.TheVariants.{Lift, Split}
+use Rattle.btree_descent.specs.row_words.Moments.{event_of}
+use Rattle.btree_descent.specs.row_words.Openings.{opening}
+use Rattle.btree_descent.specs.rows_trait.declared.view.View.{View}
+use Rattle.btree_descent.specs.rows_trait.Views.{state}
 use Rattle.disk_image.specs.Records.{entry_of}
-use Rattle.draw_trait.specs.declared.draw.Unstaged.TheVariants.{DiskFault}
+use Rattle.btree_descent.specs.draw_trait.declared.draw.Unstaged.TheVariants.{DiskFault}
 use Rattle.btree_smo.specs.Outcomes.{AreMisses}
 use Rattle.btree_smo.specs.declared.outcome.Outcome.{Outcome}
 use Rattle.btree_smo.specs.declared.outcome.Outcome.TheVariants as outcome
@@ -36,7 +36,7 @@ use Rattle.row_growth.specs.declared.room.Growth.{Growth}
 use Rattle.row_growth.specs.declared.room.Growth.TheVariants as growth
 use Rattle.row_growth.specs.declared.room.Placed.{Placed}
 use Rattle.row_changes.specs.Ways.{IsWarm}
-use Rattle.core_state.specs.States.{Place}
+use Rattle.btree_descent.specs.core_state.States.{Place}
 use Rattle.session_state.specs.Staging.{KeepsLog}
 
 -- ## Where a free page stands

@@ -7,15 +7,16 @@ ghost use Rattle.row_changes.specs.Paths.{LeadsToFull};
 ghost use Rattle.row_changes.specs.Puts.{MayChange, works_after};
 ghost use Rattle.row_growth.specs.Rooms.{CanGrow, CanLift, CanSplit, Grew, IsExpected, IsPlaced, Made, Takes, answer_of, frame_among, next_of, page_of, session_after};
 
+use btree_descent::draw_trait::draw::Unstaged;
+use btree_descent::lean_proto::path::{DEEPEST, Path};
+use btree_descent::rows_trait;
+use btree_descent::rows_trait::rows::Rows;
 use btree_smo::lift::lift;
 use btree_smo::outcome::Outcome;
 use btree_smo::room::full_run;
 use btree_smo::split::split;
-use draw_trait::draw::Unstaged;
 use lean_disk::Disk;
-use lean_proto::path::{DEEPEST, Path};
 use map_model::Refusal;
-use rows_trait::rows::Rows;
 use session_state::{FreePages, Session, Stages, Work, next_fits};
 
 /// A free page that was brought into a frame: it stands hot there.

@@ -11,9 +11,9 @@ ghost use Rattle.row_growth.specs.Outcomes.{Steps};
 ghost use Rattle.row_growth.specs.Rooms.{IsPlaced};
 
 use crate::room::{Growth, Placed, make_room};
-use lean_proto::path::Path;
+use btree_descent::lean_proto::path::Path;
+use btree_descent::rows_trait::rows::Rows;
 use row_changes::{Tried, Unmade, clock_refusal, put_in_leaf};
-use rows_trait::rows::Rows;
 use session_state::{Stages, Work};
 
 /// What one step of a put did.

@@ -8,14 +8,14 @@ use Rattle.page_model.specs.Page.{word_at}
 use Rattle.page_model.specs.Page as stored
 use Rattle.page_model.specs.Tree.{IsChild}
 use Rattle.page_model.specs.Check.{names_page}
-use Rattle.core_state.specs.States.{Place, is_hot}
-use Rattle.core_state.specs.Needs.{has_hot_child}
-use Rattle.row_words.specs.declared.given.Given.{Given}
-use Rattle.row_words.specs.Moments.{Moment}
-use Rattle.row_words.specs.Openings.{opening}
-use Rattle.row_words.specs.Words.{swip, swips, is_inner}
-use Rattle.row_words.proofs.Frames.{hot_place, framed_live, framed_level, framed_inner, swips_length, hot_swip, cold_swip}
-use Rattle.row_words.proofs.Stays.{cases, and_true, some_below}
+use Rattle.btree_descent.specs.core_state.States.{Place, is_hot}
+use Rattle.btree_descent.specs.core_state.Needs.{has_hot_child}
+use Rattle.btree_descent.specs.row_words.declared.given.Given.{Given}
+use Rattle.btree_descent.specs.row_words.Moments.{Moment}
+use Rattle.btree_descent.specs.row_words.Openings.{opening}
+use Rattle.btree_descent.specs.row_words.Words.{swip, swips, is_inner}
+use Rattle.btree_descent.proofs.row_words_lemmas.Frames.{hot_place, framed_live, framed_level, framed_inner, swips_length, hot_swip, cold_swip}
+use Rattle.btree_descent.proofs.row_words_lemmas.Stays.{cases, and_true, some_below}
 use Rattle.btree_descent.specs.Known.{Sound}
 use Rattle.row_image.specs.Hot.{StandsIn}
 use Rattle.row_image.specs.Sights.{HasHotChild, NamesAt, PairLaws, EveryPair}

@@ -8,14 +8,14 @@ use Rattle.page_model.specs.Nodes.{Node, WellFormed, NodeOk}
 use Rattle.page_model.specs.Page as stored
 use Rattle.page_model.specs.Check.{names_page}
 use Rattle.map_model.specs.Lists.{any}
-use Rattle.btree_node.specs.Words.{flat, words_of, Fits}
-use Rattle.btree_node.proofs.FlatLemmas.{two_suc, length-flat}
-use Rattle.btree_node.proofs.PlaceLemmas.{rising-ordered}
-use Rattle.core_state.specs.States.{Place}
-use Rattle.row_words.specs.declared.given.Given.{Given}
-use Rattle.row_words.specs.Moments.{Moment}
-use Rattle.row_words.specs.Openings.{opening}
-use Rattle.row_words.specs.Words.{swip, swips}
+use Rattle.btree_descent.specs.btree_node.Words.{flat, words_of, Fits}
+use Rattle.btree_descent.proofs.btree_node_lemmas.FlatLemmas.{two_suc, length-flat}
+use Rattle.btree_descent.proofs.btree_node_lemmas.PlaceLemmas.{rising-ordered}
+use Rattle.btree_descent.specs.core_state.States.{Place}
+use Rattle.btree_descent.specs.row_words.declared.given.Given.{Given}
+use Rattle.btree_descent.specs.row_words.Moments.{Moment}
+use Rattle.btree_descent.specs.row_words.Openings.{opening}
+use Rattle.btree_descent.specs.row_words.Words.{swip, swips}
 use Rattle.btree_descent.specs.Known.{Sound}
 use Rattle.row_image.specs.Images.{written}
 

@@ -1,17 +1,17 @@
 -- The two ways in which a part of a call refuses.
 use Rattle.std.proofs.Common.{◌≡◌, ◌≢◌, ◌%◌, ℕ, true, [], ◌∷◌, Some, refl, sym, ◌∙◌, arith}
-use Rattle.row_words.specs.declared.event.Event.TheVariants.{Miss}
-use Rattle.rows_trait.specs.declared.view.View.{View}
-use Rattle.rows_trait.specs.Views.{Shape, latest, may}
-use Rattle.rows_trait.specs.Causes.{HasFound, IsLatched, HasMoved}
-use Rattle.rows_trait.specs.Turns.{Looked}
-use Rattle.rows_trait.proofs.Runs.{ran_append}
-use Rattle.rows_trait.proofs.Causes.{found_before, latched_before}
-use Rattle.version_latch.specs.declared.glimpse.Latched.{Latched}
-use Rattle.version_latch.specs.declared.glimpse.Moved.{Moved}
-use Rattle.version_latch.specs.Named.{missed, checked}
-use Rattle.version_latch.proofs.Naming.{missed_odd, checked_other}
-use Rattle.version_latch.proofs.Keeping.{looked_ran, may_ran}
+use Rattle.btree_descent.specs.row_words.declared.event.Event.TheVariants.{Miss}
+use Rattle.btree_descent.specs.rows_trait.declared.view.View.{View}
+use Rattle.btree_descent.specs.rows_trait.Views.{Shape, latest, may}
+use Rattle.btree_descent.specs.rows_trait.Causes.{HasFound, IsLatched, HasMoved}
+use Rattle.btree_descent.specs.rows_trait.Turns.{Looked}
+use Rattle.btree_descent.proofs.rows_trait_lemmas.Runs.{ran_append}
+use Rattle.btree_descent.proofs.rows_trait_lemmas.Causes.{found_before, latched_before}
+use Rattle.btree_descent.specs.version_latch.declared.glimpse.Latched.{Latched}
+use Rattle.btree_descent.specs.version_latch.declared.glimpse.Moved.{Moved}
+use Rattle.btree_descent.specs.version_latch.Named.{missed, checked}
+use Rattle.btree_descent.proofs.version_latch_lemmas.Naming.{missed_odd, checked_other}
+use Rattle.btree_descent.proofs.version_latch_lemmas.Keeping.{looked_ran, may_ran}
 use Rattle.row_image.specs.declared.refusal.Unseen.TheVariants as unseen
 use Rattle.row_image.specs.Inside.{Watched, Refused}
 

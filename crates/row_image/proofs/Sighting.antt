@@ -3,26 +3,26 @@ use Rattle.std.proofs.Common.{◌≡◌, ◌≢◌, ◌==◌, ◌<◌, ℕ, Bool
 use Rattle.std.specs.Prelude.{slice_index}
 use Rattle.std.proofs.lemmas.Bool.{cond-true}
 use Rattle.page_model.specs.Page as stored
-use Rattle.btree_node.specs.Words.{words_of, Spells}
-use Rattle.row_words.specs.declared.event.Event.{Event}
-use Rattle.row_words.specs.declared.event.Event.TheVariants.{Miss}
-use Rattle.row_words.specs.Openings.{opening}
-use Rattle.rows_trait.specs.declared.view.View.{View}
-use Rattle.rows_trait.specs.Layout.{width}
-use Rattle.rows_trait.specs.Views.{Shape, Knows, hold, holds, held_at, latest, may, state}
-use Rattle.rows_trait.specs.Views as rows
-use Rattle.rows_trait.specs.Causes.{HasFound}
-use Rattle.rows_trait.specs.Turns.{Goes, Taken}
-use Rattle.rows_trait.proofs.Causes.{found_after, looked_found}
-use Rattle.rows_trait.proofs.Runs.{ran_goes}
-use Rattle.version_latch.specs.Named.{checked}
-use Rattle.version_latch.specs.Unheld.{NotHeld}
-use Rattle.version_latch.specs.declared.glimpse.Glimpse.{Glimpse}
-use Rattle.version_latch.specs.declared.glimpse.Unheld.{Unheld}
-use Rattle.version_latch.specs.declared.glimpse.Unheld.TheVariants.{Moved, RowSpent}
-use Rattle.version_latch.proofs.Naming.{checked_same, checked_other}
-use Rattle.version_latch.proofs.Keeping.{looked_ran}
-use Rattle.swips.specs.declared.hint.TheConstants.{MARK}
+use Rattle.btree_descent.specs.btree_node.Words.{words_of, Spells}
+use Rattle.btree_descent.specs.row_words.declared.event.Event.{Event}
+use Rattle.btree_descent.specs.row_words.declared.event.Event.TheVariants.{Miss}
+use Rattle.btree_descent.specs.row_words.Openings.{opening}
+use Rattle.btree_descent.specs.rows_trait.declared.view.View.{View}
+use Rattle.btree_descent.specs.rows_trait.Layout.{width}
+use Rattle.btree_descent.specs.rows_trait.Views.{Shape, Knows, hold, holds, held_at, latest, may, state}
+use Rattle.btree_descent.specs.rows_trait.Views as rows
+use Rattle.btree_descent.specs.rows_trait.Causes.{HasFound}
+use Rattle.btree_descent.specs.rows_trait.Turns.{Goes, Taken}
+use Rattle.btree_descent.proofs.rows_trait_lemmas.Causes.{found_after, looked_found}
+use Rattle.btree_descent.proofs.rows_trait_lemmas.Runs.{ran_goes}
+use Rattle.btree_descent.specs.version_latch.Named.{checked}
+use Rattle.btree_descent.specs.version_latch.Unheld.{NotHeld}
+use Rattle.btree_descent.specs.version_latch.declared.glimpse.Glimpse.{Glimpse}
+use Rattle.btree_descent.specs.version_latch.declared.glimpse.Unheld.{Unheld}
+use Rattle.btree_descent.specs.version_latch.declared.glimpse.Unheld.TheVariants.{Moved, RowSpent}
+use Rattle.btree_descent.proofs.version_latch_lemmas.Naming.{checked_same, checked_other}
+use Rattle.btree_descent.proofs.version_latch_lemmas.Keeping.{looked_ran}
+use Rattle.btree_descent.specs.swips.declared.hint.TheConstants.{MARK}
 use Rattle.btree_descent.specs.Known.{Sound, IsSound}
 use Rattle.btree_descent.proofs.Calls.{sound_after}
 use Rattle.row_image.specs.declared.refusal.Unseen.{Unseen}
@@ -116,14 +116,14 @@ module _ (z : Shape) (v w : View) (actor : ℕ) (s : Sight) where
     mine = ap (λ hs. holds hs row) t.held ∙ cond-true (row == row) true (holds v.held row) (eq-eqb row row refl)
 
     was_is : (held_at w.held row).was ≡ t.was
-    was_is = ap (λ hs. (held_at hs row).was) t.held ∙ ap (λ (h : Rattle.rows_trait.specs.declared.view.Hold.Hold). h.was) (cond-true (row == row) (hold row s.glimpse.version t.was t.was false) (held_at v.held row) (eq-eqb row row refl))
+    was_is = ap (λ hs. (held_at hs row).was) t.held ∙ ap (λ (h : Rattle.btree_descent.specs.rows_trait.declared.view.Hold.Hold). h.was) (cond-true (row == row) (hold row s.glimpse.version t.was t.was false) (held_at v.held row) (eq-eqb row row refl))
 
     pub has_taken : width z.sizes row ≡ 128 → row < (opening v.given).frames → IsSound v.given → IsKnown s v.steps → HasTaken z s v w
     has_taken wide lt sound known = record {
       ran = ran_goes z v [] w tt goes;
       taken = record { goes = goes; was = t.was; steps = t.steps; held = t.held; size = t.size; known = t.known; still = t.still; rising = t.rising; fresh = t.fresh };
       words = words;
-      stands = (every_sight s).stands w.given (state w) row t.was (subst (λ (g : Rattle.row_words.specs.declared.given.Given.Given). row < (opening g).frames) (sym goes.given) lt) (sound_after v w goes.given sound) words spells;
+      stands = (every_sight s).stands w.given (state w) row t.was (subst (λ (g : Rattle.btree_descent.specs.row_words.declared.given.Given.Given). row < (opening g).frames) (sym goes.given) lt) (sound_after v w goes.given sound) words spells;
     }
       where
         words : HasWords s t.was

@@ -4,19 +4,19 @@ use Rattle.std.specs.Prelude.{slice_index}
 use Rattle.std.proofs.lemmas.Bool.Decides.{nat_tests}
 use Rattle.std.proofs.lemmas.List.{ext_get_or}
 use Rattle.page_model.specs.Page as stored
-use Rattle.btree_node.specs.Words.{words_of, Fits, Spells}
-use Rattle.btree_node.proofs.SpellingLemmas.{one-page}
-use Rattle.core_state.specs.States.{Place, in_frame, is_cooling, is_hot}
-use Rattle.row_words.specs.declared.given.Given.{Given}
-use Rattle.row_words.specs.Moments.{Moment}
-use Rattle.row_words.specs.Openings.{opening}
-use Rattle.row_words.specs.Sealed.{Shown}
-use Rattle.row_words.specs.Words.{framed_page}
-use Rattle.row_words.proofs.Frames.{hot_place, one_word}
-use Rattle.rows_trait.specs.declared.view.Act.{Act}
-use Rattle.rows_trait.specs.declared.view.Act.TheVariants.{Look, Load, Store, Set, Hear, Turn}
-use Rattle.rows_trait.specs.Views.{Knows}
-use Rattle.swips.specs.declared.hint.TheConstants.{MARK}
+use Rattle.btree_descent.specs.btree_node.Words.{words_of, Fits, Spells}
+use Rattle.btree_descent.proofs.btree_node_lemmas.SpellingLemmas.{one-page}
+use Rattle.btree_descent.specs.core_state.States.{Place, in_frame, is_cooling, is_hot}
+use Rattle.btree_descent.specs.row_words.declared.given.Given.{Given}
+use Rattle.btree_descent.specs.row_words.Moments.{Moment}
+use Rattle.btree_descent.specs.row_words.Openings.{opening}
+use Rattle.btree_descent.specs.row_words.Sealed.{Shown}
+use Rattle.btree_descent.specs.row_words.Words.{framed_page}
+use Rattle.btree_descent.proofs.row_words_lemmas.Frames.{hot_place, one_word}
+use Rattle.btree_descent.specs.rows_trait.declared.view.Act.{Act}
+use Rattle.btree_descent.specs.rows_trait.declared.view.Act.TheVariants.{Look, Load, Store, Set, Hear, Turn}
+use Rattle.btree_descent.specs.rows_trait.Views.{Knows}
+use Rattle.btree_descent.specs.swips.declared.hint.TheConstants.{MARK}
 use Rattle.btree_descent.specs.Known.{Sound}
 use Rattle.btree_descent.proofs.Nodes.{shown_frame, stands, fits}
 use Rattle.row_image.specs.Hot.{IsHotIn, StandsIn, IsBare}

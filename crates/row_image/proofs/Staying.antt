@@ -1,12 +1,12 @@
 -- A page stays in its row while the pager does nothing.
 use Rattle.std.proofs.Common.{◌≡◌, inl, inr, true, List, ◌++◌, append-nil, sym, ap, subst, ◌∙◌}
-use Rattle.core_state.specs.States.{in_frame}
-use Rattle.row_words.specs.declared.event.Event.{Event}
-use Rattle.row_words.specs.Moments.{Moment}
-use Rattle.row_words.specs.Sealed.{begun}
-use Rattle.row_words.proofs.SealedLemmas.{run_append}
-use Rattle.rows_trait.specs.Views.{after_all, state}
-use Rattle.lean_proto.proofs.Loads.{places_on}
+use Rattle.btree_descent.specs.core_state.States.{in_frame}
+use Rattle.btree_descent.specs.row_words.declared.event.Event.{Event}
+use Rattle.btree_descent.specs.row_words.Moments.{Moment}
+use Rattle.btree_descent.specs.row_words.Sealed.{begun}
+use Rattle.btree_descent.proofs.row_words_lemmas.SealedLemmas.{run_append}
+use Rattle.btree_descent.specs.rows_trait.Views.{after_all, state}
+use Rattle.btree_descent.proofs.lean_proto_lemmas.Loads.{places_on}
 use Rattle.row_image.specs.Images.{EveryStay}
 
 pub every_stay : EveryStay

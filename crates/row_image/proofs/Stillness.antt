@@ -6,24 +6,24 @@ use Rattle.std.proofs.lemmas.Bool.{lt-ltb}
 use Rattle.std.proofs.lemmas.Bool.Decides.{nat_tests}
 use Rattle.page_model.specs.Pairs.{Pair}
 use Rattle.page_model.specs.Nodes.{Node, NodeOk}
-use Rattle.image_model.specs.Entries.{Contents}
-use Rattle.btree_node.specs.Words.{words_of}
-use Rattle.core_state.specs.States.{Place, State, is_hot, is_cooling, in_frame}
-use Rattle.core_paging.specs.Paging.{Residence}
-use Rattle.row_words.specs.declared.event.Event.{Event}
-use Rattle.row_words.specs.declared.given.Given.{Given}
-use Rattle.row_words.specs.Moments.{Moment}
-use Rattle.row_words.specs.Openings.{opening}
-use Rattle.row_words.specs.Sealed.{begun, stepped, run, Shown}
-use Rattle.row_words.specs.Words.{swip, swips, framed, framed_page, ShowsPage}
-use Rattle.row_words.proofs.SealedLemmas.{run_append, hot_kept, shown_stays}
-use Rattle.rows_trait.specs.declared.view.View.{View}
-use Rattle.rows_trait.specs.Views.{AreStill, IsStill, after_all, state}
-use Rattle.rows_trait.proofs.EventLemmas.{still_rest}
+use Rattle.btree_descent.specs.image_model.Entries.{Contents}
+use Rattle.btree_descent.specs.btree_node.Words.{words_of}
+use Rattle.btree_descent.specs.core_state.States.{Place, State, is_hot, is_cooling, in_frame}
+use Rattle.btree_descent.specs.core_paging.Paging.{Residence}
+use Rattle.btree_descent.specs.row_words.declared.event.Event.{Event}
+use Rattle.btree_descent.specs.row_words.declared.given.Given.{Given}
+use Rattle.btree_descent.specs.row_words.Moments.{Moment}
+use Rattle.btree_descent.specs.row_words.Openings.{opening}
+use Rattle.btree_descent.specs.row_words.Sealed.{begun, stepped, run, Shown}
+use Rattle.btree_descent.specs.row_words.Words.{swip, swips, framed, framed_page, ShowsPage}
+use Rattle.btree_descent.proofs.row_words_lemmas.SealedLemmas.{run_append, hot_kept, shown_stays}
+use Rattle.btree_descent.specs.rows_trait.declared.view.View.{View}
+use Rattle.btree_descent.specs.rows_trait.Views.{AreStill, IsStill, after_all, state}
+use Rattle.btree_descent.proofs.rows_trait_lemmas.EventLemmas.{still_rest}
 use Rattle.btree_descent.specs.Known.{Sound, IsSound}
-use Rattle.swips.specs.Hints.{mark}
-use Rattle.row_words.proofs.Stays.{cases}
-use Rattle.row_words.proofs.Frames.{hot_place, hot_swip, framed_inner, swips_length}
+use Rattle.btree_descent.specs.swips.Hints.{mark}
+use Rattle.btree_descent.proofs.row_words_lemmas.Stays.{cases}
+use Rattle.btree_descent.proofs.row_words_lemmas.Frames.{hot_place, hot_swip, framed_inner, swips_length}
 use Rattle.btree_descent.proofs.Nodes.{shown_frame}
 use Rattle.row_image.specs.Images.{StaysIn}
 use Rattle.row_image.specs.Inside.{Stood}

@@ -3,26 +3,26 @@ use Rattle.std.proofs.Common.{◌≡◌, ◌≢◌, ◌==◌, ◌||◌, ◌<◌,
 use Rattle.std.specs.Prelude.{slice_index, Result, Err, IfErr}
 use Rattle.std.proofs.lemmas.List.{get_or-set_same, get_or-set_other}
 use Rattle.std.proofs.lemmas.Bool.Decides.{nat_tests}
-use Rattle.core_state.specs.States.{in_frame}
-use Rattle.row_words.specs.declared.event.Event.{Event}
-use Rattle.row_words.specs.declared.event.Event.TheVariants.{Miss}
-use Rattle.row_words.specs.declared.given.Given.{Given}
-use Rattle.row_words.specs.Moments.{Moment}
-use Rattle.row_words.specs.Sealed.{begun, run}
-use Rattle.row_words.proofs.SealedLemmas.{run_append}
-use Rattle.rows_trait.specs.declared.view.Act.{Act}
-use Rattle.rows_trait.specs.declared.view.View.{View}
-use Rattle.rows_trait.specs.Views.{Shape, Has, Knows, latest, AreApart, after_all, state, holds, IsEven, AreSilent, may}
-use Rattle.rows_trait.specs.Turns.{Goes, Looked, Loaded}
-use Rattle.rows_trait.proofs.Runs.{ran_goes, ran_none, ran_append}
-use Rattle.rows_trait.proofs.EventLemmas.{apart_append}
-use Rattle.rows_trait.proofs.Causes.{loads_none, loads_then, loaded_loads, looked_loads}
-use Rattle.version_latch.specs.Named.{missed, checked}
-use Rattle.version_latch.proofs.Naming.{checked_silent, missed_even, checked_same}
-use Rattle.version_latch.proofs.Keeping.{may_ran, may_shape, latest_look}
+use Rattle.btree_descent.specs.core_state.States.{in_frame}
+use Rattle.btree_descent.specs.row_words.declared.event.Event.{Event}
+use Rattle.btree_descent.specs.row_words.declared.event.Event.TheVariants.{Miss}
+use Rattle.btree_descent.specs.row_words.declared.given.Given.{Given}
+use Rattle.btree_descent.specs.row_words.Moments.{Moment}
+use Rattle.btree_descent.specs.row_words.Sealed.{begun, run}
+use Rattle.btree_descent.proofs.row_words_lemmas.SealedLemmas.{run_append}
+use Rattle.btree_descent.specs.rows_trait.declared.view.Act.{Act}
+use Rattle.btree_descent.specs.rows_trait.declared.view.View.{View}
+use Rattle.btree_descent.specs.rows_trait.Views.{Shape, Has, Knows, latest, AreApart, after_all, state, holds, IsEven, AreSilent, may}
+use Rattle.btree_descent.specs.rows_trait.Turns.{Goes, Looked, Loaded}
+use Rattle.btree_descent.proofs.rows_trait_lemmas.Runs.{ran_goes, ran_none, ran_append}
+use Rattle.btree_descent.proofs.rows_trait_lemmas.EventLemmas.{apart_append}
+use Rattle.btree_descent.proofs.rows_trait_lemmas.Causes.{loads_none, loads_then, loaded_loads, looked_loads}
+use Rattle.btree_descent.specs.version_latch.Named.{missed, checked}
+use Rattle.btree_descent.proofs.version_latch_lemmas.Naming.{checked_silent, missed_even, checked_same}
+use Rattle.btree_descent.proofs.version_latch_lemmas.Keeping.{may_ran, may_shape, latest_look}
 use Rattle.row_image.specs.declared.refusal.Unseen.{Unseen}
 use Rattle.row_image.specs.Images.{StaysIn, IsMissed}
-use Rattle.lean_proto.proofs.Meanwhile.{apart_as}
+use Rattle.btree_descent.proofs.lean_proto_lemmas.Meanwhile.{apart_as}
 use Rattle.row_image.specs.Inside.{Watched, AreKnown, Stood, IsNamed, AreNamed, HasChildren, Refused}
 
 -- what is apart from a view is apart from one of the same actor that holds the same rows

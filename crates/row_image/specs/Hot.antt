@@ -1,11 +1,11 @@
 -- The page that stands hot in a row.
 use Rattle.std.specs.Prelude.{◌≡◌, ◌<◌, ℕ}
 use Rattle.page_model.specs.Page as stored
-use Rattle.core_state.specs.States.{Place}
-use Rattle.row_words.specs.declared.given.Given.{Given}
-use Rattle.row_words.specs.Moments.{Moment}
-use Rattle.row_words.specs.Openings.{opening}
-use Rattle.row_words.specs.Words.{framed_page}
+use Rattle.btree_descent.specs.core_state.States.{Place}
+use Rattle.btree_descent.specs.row_words.declared.given.Given.{Given}
+use Rattle.btree_descent.specs.row_words.Moments.{Moment}
+use Rattle.btree_descent.specs.row_words.Openings.{opening}
+use Rattle.btree_descent.specs.row_words.Words.{framed_page}
 
 -- page p stands hot in the row
 pub record IsHotIn (v : Given) (m : Moment) (row p : ℕ) : Type 0 where

@@ -1,14 +1,14 @@
 -- The page that stands in a row as it is written, and what a call that takes it leaves.
 use Rattle.std.specs.Prelude.{◌≡◌, ◌⊎◌, ℕ, Bool, true, List, [], ◌∷◌, ◌++◌}
 use Rattle.page_model.specs.Page as stored
-use Rattle.core_state.specs.States.{State, in_frame}
-use Rattle.row_words.specs.declared.event.Event.{Event}
-use Rattle.row_words.specs.declared.event.Event.TheVariants.{Miss}
-use Rattle.row_words.specs.Moments.{Moment, pager}
-use Rattle.rows_trait.specs.declared.view.View.{View}
-use Rattle.rows_trait.specs.Views.{IsEven, AreApart, after_all, state}
-use Rattle.rows_trait.specs.Causes.{HasFound, IsLatched, HasMoved}
-use Rattle.rows_trait.specs.Turns.{Ran}
+use Rattle.btree_descent.specs.core_state.States.{State, in_frame}
+use Rattle.btree_descent.specs.row_words.declared.event.Event.{Event}
+use Rattle.btree_descent.specs.row_words.declared.event.Event.TheVariants.{Miss}
+use Rattle.btree_descent.specs.row_words.Moments.{Moment, pager}
+use Rattle.btree_descent.specs.rows_trait.declared.view.View.{View}
+use Rattle.btree_descent.specs.rows_trait.Views.{IsEven, AreApart, after_all, state}
+use Rattle.btree_descent.specs.rows_trait.Causes.{HasFound, IsLatched, HasMoved}
+use Rattle.btree_descent.specs.rows_trait.Turns.{Ran}
 use Rattle.row_image.specs.declared.refusal.Unseen.{Unseen}
 use Rattle.row_image.specs.declared.refusal.Unseen.TheVariants.{Moved, Latched}
 

@@ -1,14 +1,14 @@
 -- What is known on the way: of views between which rows were only looked at, of words, and of the children's numbers.
 use Rattle.std.specs.Prelude.{◌≡◌, ◌<◌, ◌≤◌, ◌+◌, ◌-◌, ◌*◌, ◌/◌, ◌%◌, ◌^◌, ℕ, Bool, true, false, List, [], ◌∷◌, slice_index, Some}
-use Rattle.btree_node.specs.Words.{Spells}
-use Rattle.core_state.specs.States.{in_frame}
-use Rattle.row_words.specs.declared.event.Event.{Event}
-use Rattle.row_words.specs.declared.event.Event.TheVariants.{Miss}
-use Rattle.row_words.specs.Sealed.{Shown}
-use Rattle.rows_trait.specs.declared.view.View.{View}
-use Rattle.rows_trait.specs.Views.{IsEven, Has, Since, Knows, IsStill, latest, holds, state}
-use Rattle.rows_trait.specs.Causes.{OnlyLoads, HasFound}
-use Rattle.rows_trait.specs.Turns.{Ran}
+use Rattle.btree_descent.specs.btree_node.Words.{Spells}
+use Rattle.btree_descent.specs.core_state.States.{in_frame}
+use Rattle.btree_descent.specs.row_words.declared.event.Event.{Event}
+use Rattle.btree_descent.specs.row_words.declared.event.Event.TheVariants.{Miss}
+use Rattle.btree_descent.specs.row_words.Sealed.{Shown}
+use Rattle.btree_descent.specs.rows_trait.declared.view.View.{View}
+use Rattle.btree_descent.specs.rows_trait.Views.{IsEven, Has, Since, Knows, IsStill, latest, holds, state}
+use Rattle.btree_descent.specs.rows_trait.Causes.{OnlyLoads, HasFound}
+use Rattle.btree_descent.specs.rows_trait.Turns.{Ran}
 use Rattle.row_image.specs.declared.refusal.Unseen.{Unseen}
 use Rattle.row_image.specs.Images.{Caused, written, StaysIn}
 pub use Rattle.row_image.specs.Looks.{Watched, AreKnown}

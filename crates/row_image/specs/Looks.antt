@@ -1,11 +1,11 @@
 -- What a call keeps that only looks at rows, and the words of a page that were loaded of a row.
 use Rattle.std.specs.Prelude.{◌≡◌, ◌<◌, ℕ, Bool, true, List, [], ◌++◌, slice_index, Some}
-use Rattle.row_words.specs.declared.event.Event.{Event}
-use Rattle.rows_trait.specs.declared.view.Act.{Act}
-use Rattle.rows_trait.specs.declared.view.View.{View}
-use Rattle.rows_trait.specs.Views.{AreApart, Has, Knows, latest, state}
-use Rattle.rows_trait.specs.Causes.{OnlyLoads}
-use Rattle.rows_trait.specs.Turns.{Ran}
+use Rattle.btree_descent.specs.row_words.declared.event.Event.{Event}
+use Rattle.btree_descent.specs.rows_trait.declared.view.Act.{Act}
+use Rattle.btree_descent.specs.rows_trait.declared.view.View.{View}
+use Rattle.btree_descent.specs.rows_trait.Views.{AreApart, Has, Knows, latest, state}
+use Rattle.btree_descent.specs.rows_trait.Causes.{OnlyLoads}
+use Rattle.btree_descent.specs.rows_trait.Turns.{Ran}
 
 -- From one view to another rows were only looked at, and what others did meanwhile is apart from what the seat holds.
 pub record Watched (alone : Bool) (v w : View) : Type 0 where

@@ -4,23 +4,23 @@ use Rattle.page_model.specs.Limits.{frame_bit}
 use Rattle.page_model.specs.Page.{word_at}
 use Rattle.page_model.specs.Page as stored
 use Rattle.page_model.specs.Check.{names_page}
-use Rattle.btree_node.specs.Words.{words_of, Fits}
-use Rattle.core_state.specs.States.{Place, is_hot}
-use Rattle.row_words.specs.declared.event.Event.TheVariants.{Miss}
-use Rattle.row_words.specs.declared.given.Given.{Given}
-use Rattle.row_words.specs.Moments.{Moment}
-use Rattle.row_words.specs.Openings.{opening}
-use Rattle.row_words.specs.Words.{is_inner}
-use Rattle.rows_trait.specs.declared.view.Act.{Act}
-use Rattle.rows_trait.specs.declared.view.View.{View}
-use Rattle.rows_trait.specs.Views.{Shape, IsEven, Knows, Spells, latest, state}
-use Rattle.rows_trait.specs.Causes.{HasFound, HasMoved}
-use Rattle.rows_trait.specs.Turns.{Ran, Taken}
-use Rattle.version_latch.specs.declared.glimpse.TheConstants.{LAST}
-use Rattle.version_latch.specs.declared.glimpse.Unheld.{Unheld}
-use Rattle.version_latch.specs.declared.glimpse.Unheld.TheVariants.{Moved, RowSpent}
-use Rattle.version_latch.specs.declared.glimpse.Moved as two
-use Rattle.swips.specs.declared.hint.TheConstants.{MARK}
+use Rattle.btree_descent.specs.btree_node.Words.{words_of, Fits}
+use Rattle.btree_descent.specs.core_state.States.{Place, is_hot}
+use Rattle.btree_descent.specs.row_words.declared.event.Event.TheVariants.{Miss}
+use Rattle.btree_descent.specs.row_words.declared.given.Given.{Given}
+use Rattle.btree_descent.specs.row_words.Moments.{Moment}
+use Rattle.btree_descent.specs.row_words.Openings.{opening}
+use Rattle.btree_descent.specs.row_words.Words.{is_inner}
+use Rattle.btree_descent.specs.rows_trait.declared.view.Act.{Act}
+use Rattle.btree_descent.specs.rows_trait.declared.view.View.{View}
+use Rattle.btree_descent.specs.rows_trait.Views.{Shape, IsEven, Knows, Spells, latest, state}
+use Rattle.btree_descent.specs.rows_trait.Causes.{HasFound, HasMoved}
+use Rattle.btree_descent.specs.rows_trait.Turns.{Ran, Taken}
+use Rattle.btree_descent.specs.version_latch.declared.glimpse.TheConstants.{LAST}
+use Rattle.btree_descent.specs.version_latch.declared.glimpse.Unheld.{Unheld}
+use Rattle.btree_descent.specs.version_latch.declared.glimpse.Unheld.TheVariants.{Moved, RowSpent}
+use Rattle.btree_descent.specs.version_latch.declared.glimpse.Moved as two
+use Rattle.btree_descent.specs.swips.declared.hint.TheConstants.{MARK}
 use Rattle.btree_descent.specs.Known.{Sound}
 use Rattle.row_image.specs.declared.sight.Sight.{Sight}
 use Rattle.row_image.specs.Hot.{StandsIn, IsBare}

@@ -1,17 +1,17 @@
 //! The words of an inner node's pairs: where they name frames they become the numbers of the pages that stand there.
 ghost use Rattle.std.specs.Prelude.{◌≡◌, ◌<◌, ◌≤◌, ◌-◌, ◌^◌, true, IfOk, IfErr};
-ghost use Rattle.rows_trait.specs.Layout.{rows_of, width};
-ghost use Rattle.row_words.specs.Sealed.{Shown};
-ghost use Rattle.rows_trait.specs.Views.{may, state};
+ghost use Rattle.btree_descent.specs.rows_trait.Layout.{rows_of, width};
+ghost use Rattle.btree_descent.specs.row_words.Sealed.{Shown};
+ghost use Rattle.btree_descent.specs.rows_trait.Views.{may, state};
 ghost use Rattle.btree_descent.specs.Descents.{Sized};
 ghost use Rattle.row_image.specs.Looks.{Watched};
 ghost use Rattle.row_image.specs.Inside.{IsNamed, AreNamed, HasChildren, Refused, IsRowOf, IsRowIn, IsChildRow};
 
 use crate::look::{again, begin};
 use crate::refusal::Unseen;
+use btree_descent::rows_trait::rows::Rows;
+use btree_descent::swips::row_of;
 use page_model::limits::FRAME_BIT;
-use rows_trait::rows::Rows;
-use swips::row_of;
 
 // The number of the page that stands in a row.
 fn number<R: Rows>(rows: &mut R, seat: &mut R::Seat, actor: u32, row: u32) -> Result<u64, Unseen>

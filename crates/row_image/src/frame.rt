@@ -1,7 +1,7 @@
 //! A frame row is looked at, and latched as it was seen.
 ghost use Rattle.std.specs.Prelude.{◌≡◌, ◌<◌, true, [], Some, IfOk, IfErr};
-ghost use Rattle.row_words.specs.Openings.{opening};
-ghost use Rattle.rows_trait.specs.Views.{latest, may};
+ghost use Rattle.btree_descent.specs.row_words.Openings.{opening};
+ghost use Rattle.btree_descent.specs.rows_trait.Views.{latest, may};
 ghost use Rattle.btree_descent.specs.Known.{IsSound};
 ghost use Rattle.btree_descent.specs.Descents.{Sized};
 ghost use Rattle.row_image.specs.Images.{IsMissed};
@@ -12,11 +12,11 @@ use crate::look::{again, begin};
 use crate::page::load;
 use crate::refusal::Unseen;
 use crate::sight::Sight;
-use btree_node::Node;
-use rows_trait::rows::Rows;
-use swips::MARK;
-use version_latch::events::Checks;
-use version_latch::{Hold, Unheld};
+use btree_descent::btree_node::Node;
+use btree_descent::rows_trait::rows::Rows;
+use btree_descent::swips::MARK;
+use btree_descent::version_latch::events::Checks;
+use btree_descent::version_latch::{Hold, Unheld};
 
 /// The page that stands hot in frame row `row`. The first `frames` rows are frames; `actor` is whose miss a refusal is. No row is latched.
 ///

@@ -1,13 +1,13 @@
 // A row is looked at: its version is found, and found again.
 ghost use Rattle.std.specs.Prelude.{◌≡◌, ◌<◌, true, IfOk, IfErr};
-ghost use Rattle.rows_trait.specs.Layout.{rows_of};
-ghost use Rattle.rows_trait.specs.Views.{IsEven, may};
+ghost use Rattle.btree_descent.specs.rows_trait.Layout.{rows_of};
+ghost use Rattle.btree_descent.specs.rows_trait.Views.{IsEven, may};
 ghost use Rattle.row_image.specs.Inside.{Begun, Again, IsMovedSince, Refused};
 
 use crate::refusal::Unseen;
-use rows_trait::rows::Rows;
-use version_latch::Glimpse;
-use version_latch::events::{Checks, Misses};
+use btree_descent::rows_trait::rows::Rows;
+use btree_descent::version_latch::Glimpse;
+use btree_descent::version_latch::events::{Checks, Misses};
 
 // Begins to look at a row.
 pub(crate) fn begin<R: Rows>(

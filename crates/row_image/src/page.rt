@@ -1,7 +1,7 @@
 //! The page that stands in a row, as it is written.
 ghost use Rattle.std.specs.Prelude.{◌≡◌, ◌<◌, ℕ, true, [], IfOk, IfErr};
-ghost use Rattle.rows_trait.specs.Layout.{rows_of, width};
-ghost use Rattle.rows_trait.specs.Views.{Has, may};
+ghost use Rattle.btree_descent.specs.rows_trait.Layout.{rows_of, width};
+ghost use Rattle.btree_descent.specs.rows_trait.Views.{Has, may};
 ghost use Rattle.btree_descent.specs.Known.{IsSound};
 ghost use Rattle.btree_descent.specs.Descents.{Sized};
 ghost use Rattle.row_image.specs.Images.{StaysIn, IsImage, IsMissed};
@@ -11,9 +11,9 @@ ghost use Rattle.row_image.specs.Inside.{IsLoaded};
 use crate::children::name_children;
 use crate::look::{again, begin};
 use crate::refusal::Unseen;
-use btree_node::Node;
-use rows_trait::rows::Rows;
-use version_latch::Glimpse;
+use btree_descent::btree_node::Node;
+use btree_descent::rows_trait::rows::Rows;
+use btree_descent::version_latch::Glimpse;
 
 // Loads the words of the page.
 pub(crate) fn load<R: Rows>(

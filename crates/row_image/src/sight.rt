@@ -2,18 +2,18 @@
 ghost use Rattle.std.specs.Prelude.{◌≡◌, ◌≢◌, ◌<◌, ◌≤◌, ◌+◌, ◌^◌, ℕ, true, false, IfSome, IfNone};
 ghost use Rattle.page_model.specs.Limits.{frame_bit};
 ghost use Rattle.page_model.specs.Page.{word_at};
-ghost use Rattle.core_state.specs.Needs.{has_hot_child};
-ghost use Rattle.row_words.specs.declared.given.Given.{Given};
-ghost use Rattle.row_words.specs.Moments.{Moment};
-ghost use Rattle.row_words.specs.Openings.{opening};
-ghost use Rattle.row_words.specs.Words.{is_inner};
+ghost use Rattle.btree_descent.specs.core_state.Needs.{has_hot_child};
+ghost use Rattle.btree_descent.specs.row_words.declared.given.Given.{Given};
+ghost use Rattle.btree_descent.specs.row_words.Moments.{Moment};
+ghost use Rattle.btree_descent.specs.row_words.Openings.{opening};
+ghost use Rattle.btree_descent.specs.row_words.Words.{is_inner};
 ghost use Rattle.btree_descent.specs.Known.{Sound};
 ghost use Rattle.row_image.specs.Hot.{StandsIn};
 ghost use Rattle.row_image.specs.Sights.{HasHotChild, IsFirst, HasNone};
 
-use btree_node::Node;
-use swips::Swip;
-use version_latch::Glimpse;
+use btree_descent::btree_node::Node;
+use btree_descent::swips::Swip;
+use btree_descent::version_latch::Glimpse;
 
 /// A page that stands hot in a frame row, as it stands there (it names its children by swips), and the version of the row from which it
 /// was taken. `hint` is the word of the row that may name the frame of the node above.

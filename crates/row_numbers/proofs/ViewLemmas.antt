@@ -1,16 +1,16 @@
 -- Tame events of rows are tame events of the core.
 use Rattle.std.proofs.Common.{◌≡◌, ◌≤◌, ◌<◌, ◌^◌, ℕ, suc, max, true, List, [], ◌∷◌, refl, arith}
-use Rattle.core_state.specs.States.{State}
+use Rattle.rows_trait.specs.core_state.States.{State}
 use Rattle.core_numbers.specs.Numbers as numbers
 use Rattle.core_numbers.specs.Numbers.{AreNumbered, AreUpTo}
 use Rattle.core_numbers.proofs.NumberLemmas.{every_next, every_number, every_start}
-use Rattle.row_words.specs.declared.event.Event.{Event}
-use Rattle.row_words.specs.declared.event.Event.TheVariants as told
-use Rattle.row_words.specs.declared.given.Given.{Given}
-use Rattle.row_words.specs.Moments as moments
-use Rattle.row_words.specs.Moments.{Moment, event_of, events_of, first_state}
-use Rattle.row_words.specs.Openings.{opening}
-use Rattle.row_words.specs.Sealed.{IsTame, begun, run, stepped}
+use Rattle.rows_trait.specs.row_words.declared.event.Event.{Event}
+use Rattle.rows_trait.specs.row_words.declared.event.Event.TheVariants as told
+use Rattle.rows_trait.specs.row_words.declared.given.Given.{Given}
+use Rattle.rows_trait.specs.row_words.Moments as moments
+use Rattle.rows_trait.specs.row_words.Moments.{Moment, event_of, events_of, first_state}
+use Rattle.rows_trait.specs.row_words.Openings.{opening}
+use Rattle.rows_trait.specs.row_words.Sealed.{IsTame, begun, run, stepped}
 use Rattle.rows_trait.specs.declared.view.View.{View}
 use Rattle.rows_trait.specs.Views.{AreTame, state}
 use Rattle.row_numbers.specs.Views.{EveryBegun, EveryClock, EveryFit, EveryView}

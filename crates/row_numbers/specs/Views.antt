@@ -3,10 +3,10 @@ use Rattle.std.specs.Prelude.{◌≡◌, ◌≤◌, ◌<◌, ◌+◌, ◌*◌, �
 use Rattle.page_model.specs.Limits.{most_sessions}
 use Rattle.core_numbers.specs.Numbers as numbers
 use Rattle.core_numbers.specs.Numbers.{AreNumbered, AreUpTo}
-use Rattle.row_words.specs.declared.given.Given.{Given}
-use Rattle.row_words.specs.Moments.{events_of, first_state}
-use Rattle.row_words.specs.Openings.{opening}
-use Rattle.row_words.specs.Sealed.{begun}
+use Rattle.rows_trait.specs.row_words.declared.given.Given.{Given}
+use Rattle.rows_trait.specs.row_words.Moments.{events_of, first_state}
+use Rattle.rows_trait.specs.row_words.Openings.{opening}
+use Rattle.rows_trait.specs.row_words.Sealed.{begun}
 use Rattle.rows_trait.specs.declared.view.View.{View}
 use Rattle.rows_trait.specs.Views.{AreTame, state}
 

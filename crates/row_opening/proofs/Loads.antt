@@ -8,22 +8,22 @@ use Rattle.map_model.specs.Lists.{upd}
 use Rattle.page_model.specs.Nodes.{Node}
 use Rattle.page_model.specs.Tree.{IsTree}
 use Rattle.page_model.specs.Check.{names_page}
-use Rattle.core_state.specs.Lists.{all_below}
-use Rattle.core_state.specs.Openings.{Opening}
-use Rattle.core_state.specs.States.{Place, State, is_hot, is_cold, in_frame}
-use Rattle.core_state.specs.Events as happening
-use Rattle.core_state.specs.Needs.{may, has_hot_parent, is_empty_frame}
-use Rattle.core_state.specs.Steps as steps
-use Rattle.core_state.specs.Steps.{AllMet}
-use Rattle.core_commit.proofs.Events.{names_to}
-use Rattle.row_words.specs.declared.event.Event.{Event}
-use Rattle.row_words.specs.declared.event.Event.TheVariants as told
-use Rattle.row_words.specs.declared.given.Given.{Given}
-use Rattle.row_words.specs.declared.given.Page as plain
-use Rattle.row_words.specs.Moments.{Moment, page_in, first_state, events_of}
-use Rattle.row_words.specs.Moments as moments
-use Rattle.row_words.specs.Openings.{opening}
-use Rattle.row_words.specs.Sealed.{begun}
+use Rattle.core_paging.specs.core_state.Lists.{all_below}
+use Rattle.core_paging.specs.core_state.Openings.{Opening}
+use Rattle.core_paging.specs.core_state.States.{Place, State, is_hot, is_cold, in_frame}
+use Rattle.core_paging.specs.core_state.Events as happening
+use Rattle.core_paging.specs.core_state.Needs.{may, has_hot_parent, is_empty_frame}
+use Rattle.core_paging.specs.core_state.Steps as steps
+use Rattle.core_paging.specs.core_state.Steps.{AllMet}
+use Rattle.core_paging.proofs.core_commit_lemmas.Events.{names_to}
+use Rattle.rows_trait.specs.row_words.declared.event.Event.{Event}
+use Rattle.rows_trait.specs.row_words.declared.event.Event.TheVariants as told
+use Rattle.rows_trait.specs.row_words.declared.given.Given.{Given}
+use Rattle.rows_trait.specs.row_words.declared.given.Page as plain
+use Rattle.rows_trait.specs.row_words.Moments.{Moment, page_in, first_state, events_of}
+use Rattle.rows_trait.specs.row_words.Moments as moments
+use Rattle.rows_trait.specs.row_words.Openings.{opening}
+use Rattle.rows_trait.specs.row_words.Sealed.{begun}
 use Rattle.row_opening.specs.Opened.{comes, loads_at, loads, frees}
 
 -- ## Tests

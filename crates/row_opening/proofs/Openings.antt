@@ -1,17 +1,17 @@
 -- What is given of pages: the pages as they are, and an opening of the core that opens so.
 use Rattle.std.proofs.Common.{◌≡◌, ◌<◌, ◌≤◌, ◌-◌, ◌^◌, ◌==◌, ltb, ℕ, zero, suc, Bool, true, List, Some, None, slice_get, get_or, [], ◌∷◌, length, refl, sym, ap, subst, ◌∙◌, inl, inr, arith}
 use Rattle.std.proofs.lemmas.Bool.{cases_lt, cases_Bool, lt-ltb, le-ltb, ltb-true}
-use Rattle.image_model.specs.Entries.{Contents}
+use Rattle.core_paging.specs.image_model.Entries.{Contents}
 use Rattle.page_model.specs.Pairs.{Pair}
 use Rattle.page_model.specs.Nodes.{Node, free}
 use Rattle.page_model.specs.Page.{Page, new_page}
 use Rattle.page_model.specs.Tree.{IsTree}
-use Rattle.core_state.specs.Openings.{Opening}
-use Rattle.row_words.specs.declared.event.Event.{Event}
-use Rattle.row_words.specs.declared.given.Given.{Given}
-use Rattle.row_words.specs.Moments.{Moment, format_of, pairs_of, page_in, first_state}
-use Rattle.row_words.specs.Openings.{opening}
-use Rattle.row_words.specs.Sealed.{begun}
+use Rattle.core_paging.specs.core_state.Openings.{Opening}
+use Rattle.rows_trait.specs.row_words.declared.event.Event.{Event}
+use Rattle.rows_trait.specs.row_words.declared.given.Given.{Given}
+use Rattle.rows_trait.specs.row_words.Moments.{Moment, format_of, pairs_of, page_in, first_state}
+use Rattle.rows_trait.specs.row_words.Openings.{opening}
+use Rattle.rows_trait.specs.row_words.Sealed.{begun}
 use Rattle.row_opening.specs.Openings.{Opens}
 use Rattle.row_opening.specs.Opened.{page_at, ArePages, entries_of, pages_of, given_of, contents_of, IsOpened}
 use Rattle.row_opening.specs.Rooted.{rooted_of, IsRooted}

@@ -2,31 +2,31 @@
 use Rattle.std.proofs.Common.{◌≡◌, ◌<◌, ◌≤◌, ℕ, true, ◌&&◌, ltb, leb, List, [], ◌∷◌, ◌++◌, refl, sym, ap, subst, ◌∙◌, arith}
 use Rattle.std.specs.Prelude.{Bool, if◌then◌else◌}
 use Rattle.map_model.specs.Maps.{MapAnswer, key_end, value_end}
-use Rattle.image_model.specs.Entries.{Entry}
+use Rattle.core_paging.specs.image_model.Entries.{Entry}
 use Rattle.page_model.specs.Nodes.{Format, Node}
 use Rattle.page_model.specs.Tree.{IsTree}
-use Rattle.core_state.specs.Openings.{Opening}
-use Rattle.core_state.specs.States.{State, start, nodes_of}
-use Rattle.core_state.specs.Events as happening
-use Rattle.core_state.specs.Needs.{is_held_by, is_worker, may, may_put_back}
-use Rattle.core_state.specs.Steps.{happens, follows, put_back}
-use Rattle.core_state.specs.Steps as steps
-use Rattle.core_state.proofs.Runs.{run_more}
+use Rattle.core_paging.specs.core_state.Openings.{Opening}
+use Rattle.core_paging.specs.core_state.States.{State, start, nodes_of}
+use Rattle.core_paging.specs.core_state.Events as happening
+use Rattle.core_paging.specs.core_state.Needs.{is_held_by, is_worker, may, may_put_back}
+use Rattle.core_paging.specs.core_state.Steps.{happens, follows, put_back}
+use Rattle.core_paging.specs.core_state.Steps as steps
+use Rattle.core_paging.proofs.core_state_lemmas.Runs.{run_more}
 use Rattle.core_paging.specs.Paging.{Residence, Waiting}
-use Rattle.core_commit.specs.Holders.{HeldByWorkers}
-use Rattle.core_commit.proofs.HolderLemmas as commit
+use Rattle.core_paging.specs.core_commit.Holders.{HeldByWorkers}
+use Rattle.core_paging.proofs.core_commit_lemmas.HolderLemmas as commit
 use Rattle.core_paging.proofs.Laws as paging
 use Rattle.core_paging.proofs.LogLemmas as logs
 use Rattle.core_paging.specs.Logs.{LogsWithin}
 use Rattle.core_index.proofs.Legal as index
 use Rattle.core_index.proofs.UndoLemmas as undo
 use Rattle.core_index.specs.Undo.{EachUndo}
-use Rattle.row_words.specs.declared.event.Event.{Event}
-use Rattle.row_words.specs.declared.given.Given.{Given}
-use Rattle.row_words.specs.Moments.{Moment, event_of, events_of, first_state, first_moment}
-use Rattle.row_words.specs.Moments as moments
-use Rattle.row_words.specs.Openings as rows
-use Rattle.row_words.specs.Sealed.{begun, stepped, run}
+use Rattle.rows_trait.specs.row_words.declared.event.Event.{Event}
+use Rattle.rows_trait.specs.row_words.declared.given.Given.{Given}
+use Rattle.rows_trait.specs.row_words.Moments.{Moment, event_of, events_of, first_state, first_moment}
+use Rattle.rows_trait.specs.row_words.Moments as moments
+use Rattle.rows_trait.specs.row_words.Openings as rows
+use Rattle.rows_trait.specs.row_words.Sealed.{begun, stepped, run}
 use Rattle.rows_trait.specs.Views.{after_all}
 use Rattle.row_opening.specs.Openings.{Opens, Opened, EveryNeed, EveryOpened, EveryReached}
 
@@ -90,8 +90,8 @@ module _ (z : Sizes) (a b : Rest z) (s : State) where
   same_may : (e : happening.Event) → may (make z a) s e ≡ may (make z b) s e
   same_may (happening.Event.Put_back w p) = go (s.worker w).changes
     where
-      go : (cs : List Entry) → Rattle.std.specs.Prelude.◌&&◌ (Rattle.core_state.specs.Needs.are_hot s (p ∷ [])) (Rattle.std.specs.Prelude.◌&&◌ (s.worker w).is_open (may_put_back (make z a) (s.page p).node p cs)) ≡ Rattle.std.specs.Prelude.◌&&◌ (Rattle.core_state.specs.Needs.are_hot s (p ∷ [])) (Rattle.std.specs.Prelude.◌&&◌ (s.worker w).is_open (may_put_back (make z b) (s.page p).node p cs))
-      go cs = ap (λ y. Rattle.std.specs.Prelude.◌&&◌ (Rattle.core_state.specs.Needs.are_hot s (p ∷ [])) (Rattle.std.specs.Prelude.◌&&◌ (s.worker w).is_open y)) (back_may (s.page p).node p cs)
+      go : (cs : List Entry) → Rattle.std.specs.Prelude.◌&&◌ (Rattle.core_paging.specs.core_state.Needs.are_hot s (p ∷ [])) (Rattle.std.specs.Prelude.◌&&◌ (s.worker w).is_open (may_put_back (make z a) (s.page p).node p cs)) ≡ Rattle.std.specs.Prelude.◌&&◌ (Rattle.core_paging.specs.core_state.Needs.are_hot s (p ∷ [])) (Rattle.std.specs.Prelude.◌&&◌ (s.worker w).is_open (may_put_back (make z b) (s.page p).node p cs))
+      go cs = ap (λ y. Rattle.std.specs.Prelude.◌&&◌ (Rattle.core_paging.specs.core_state.Needs.are_hot s (p ∷ [])) (Rattle.std.specs.Prelude.◌&&◌ (s.worker w).is_open y)) (back_may (s.page p).node p cs)
   same_may (happening.Event.Next w p k (MapAnswer.Pair q x)) = refl
   same_may (happening.Event.Next w p k (MapAnswer.Gap h)) = refl
   same_may (happening.Event.Next w p k (MapAnswer.Value x)) = refl

@@ -6,14 +6,14 @@ use Rattle.std.proofs.lemmas.List.{take_at, get_or_append_left, get_or-append_ri
 use Rattle.page_model.specs.Nodes.{Node}
 use Rattle.page_model.specs.Pairs.{Pair, Has}
 use Rattle.page_model.specs.Page.{Page, with_pairs}
-use Rattle.btree_node.specs.Words.{words_of}
-use Rattle.core_state.specs.States.{Place, State, is_cooling, in_frame}
-use Rattle.row_words.specs.declared.given.Given.{Given}
-use Rattle.row_words.specs.Moments.{Moment, page_in}
-use Rattle.row_words.specs.Openings.{opening}
-use Rattle.row_words.specs.Words.{swip, swips, is_inner, framed, framed_page, ShowsPage, ShowsFrame, mask, Shows, control_words}
-use Rattle.row_words.specs.Sealed.{begun, Shown, heard}
-use Rattle.row_words.proofs.Stays.{below_false}
+use Rattle.rows_trait.specs.btree_node.Words.{words_of}
+use Rattle.core_paging.specs.core_state.States.{Place, State, is_cooling, in_frame}
+use Rattle.rows_trait.specs.row_words.declared.given.Given.{Given}
+use Rattle.rows_trait.specs.row_words.Moments.{Moment, page_in}
+use Rattle.rows_trait.specs.row_words.Openings.{opening}
+use Rattle.rows_trait.specs.row_words.Words.{swip, swips, is_inner, framed, framed_page, ShowsPage, ShowsFrame, mask, Shows, control_words}
+use Rattle.rows_trait.specs.row_words.Sealed.{begun, Shown, heard}
+use Rattle.rows_trait.proofs.row_words_lemmas.Stays.{below_false}
 use Rattle.rows_trait.specs.Layout.{Sizes, width, base, row_at, count_of, control_at, size_of, cell}
 use Rattle.rows_trait.specs.Plain.{sizes, IsOpening}
 use Rattle.row_opening.specs.Opened.{page_at, ArePages, pages_of, given_of, contents_of}

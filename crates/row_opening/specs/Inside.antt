@@ -3,7 +3,7 @@ use Rattle.std.specs.Prelude.{◌≡◌, ◌<◌, ◌≤◌, ◌+◌, ◌*◌, �
 use Rattle.page_model.specs.Limits.{frame_bit}
 use Rattle.page_model.specs.Pairs.{Pair}
 use Rattle.page_model.specs.Page.{Page, with_pairs}
-use Rattle.btree_node.specs.Words.{words_of, pair_words}
+use Rattle.rows_trait.specs.btree_node.Words.{words_of, pair_words}
 use Rattle.swips.specs.Hints.{mark}
 
 -- each word names the frame of the page's own number

@@ -4,18 +4,18 @@ use Rattle.page_model.specs.Pairs.{Pair}
 use Rattle.page_model.specs.Nodes.{free}
 use Rattle.page_model.specs.Page.{Page, new_page}
 use Rattle.page_model.specs.Tree.{IsTree}
-use Rattle.image_model.specs.Entries.{Contents}
-use Rattle.core_state.specs.Openings.{Opening}
-use Rattle.core_state.specs.States.{Place}
-use Rattle.core_state.specs.Steps.{AllMet}
-use Rattle.row_words.specs.declared.event.Event.{Event}
-use Rattle.row_words.specs.declared.event.Event.TheVariants as told
-use Rattle.row_words.specs.declared.given.Given.{Given}
-use Rattle.row_words.specs.declared.given.Page as plain
-use Rattle.row_words.specs.declared.given.Entry.{Entry}
-use Rattle.row_words.specs.Moments.{format_of, events_of, first_state}
-use Rattle.row_words.specs.Openings.{opening}
-use Rattle.row_words.specs.Sealed.{begun}
+use Rattle.core_paging.specs.image_model.Entries.{Contents}
+use Rattle.core_paging.specs.core_state.Openings.{Opening}
+use Rattle.core_paging.specs.core_state.States.{Place}
+use Rattle.core_paging.specs.core_state.Steps.{AllMet}
+use Rattle.rows_trait.specs.row_words.declared.event.Event.{Event}
+use Rattle.rows_trait.specs.row_words.declared.event.Event.TheVariants as told
+use Rattle.rows_trait.specs.row_words.declared.given.Given.{Given}
+use Rattle.rows_trait.specs.row_words.declared.given.Page as plain
+use Rattle.rows_trait.specs.row_words.declared.given.Entry.{Entry}
+use Rattle.rows_trait.specs.row_words.Moments.{format_of, events_of, first_state}
+use Rattle.rows_trait.specs.row_words.Openings.{opening}
+use Rattle.rows_trait.specs.row_words.Sealed.{begun}
 use Rattle.row_opening.specs.Openings.{Opens}
 
 -- ## Pages

@@ -2,18 +2,18 @@
 use Rattle.std.specs.Prelude.{◌≡◌, ◌<◌, ℕ, true, List, ◌++◌}
 use Rattle.page_model.specs.Limits.{transaction_changes}
 use Rattle.page_model.specs.Tree.{IsTree}
-use Rattle.core_state.specs.Openings.{Opening}
-use Rattle.core_state.specs.Events as happening
-use Rattle.core_state.specs.Needs.{may}
-use Rattle.core_state.specs.States.{State, nodes_of, start}
-use Rattle.core_state.specs.Steps.{state_after}
-use Rattle.core_commit.specs.Holders.{HeldByWorkers}
+use Rattle.core_paging.specs.core_state.Openings.{Opening}
+use Rattle.core_paging.specs.core_state.Events as happening
+use Rattle.core_paging.specs.core_state.Needs.{may}
+use Rattle.core_paging.specs.core_state.States.{State, nodes_of, start}
+use Rattle.core_paging.specs.core_state.Steps.{state_after}
+use Rattle.core_paging.specs.core_commit.Holders.{HeldByWorkers}
 use Rattle.core_index.specs.Undo.{EachUndo}
 use Rattle.core_paging.specs.Paging.{Residence, Waiting}
-use Rattle.row_words.specs.declared.event.Event.{Event}
-use Rattle.row_words.specs.declared.given.Given.{Given}
-use Rattle.row_words.specs.Moments.{first_state, events_of}
-use Rattle.row_words.specs.Openings as rows
+use Rattle.rows_trait.specs.row_words.declared.event.Event.{Event}
+use Rattle.rows_trait.specs.row_words.declared.given.Given.{Given}
+use Rattle.rows_trait.specs.row_words.Moments.{first_state, events_of}
+use Rattle.rows_trait.specs.row_words.Openings as rows
 use Rattle.rows_trait.specs.Views.{after_all}
 
 -- the opening has these sizes, and is faithful where the rows are; its start is what is given, and each page's last log is below 256

@@ -1,11 +1,11 @@
 -- What plain rows begin with of which the root alone is in a frame, so that there may be more pages than frames.
 use Rattle.std.specs.Prelude.{◌≡◌, ◌<◌, ℕ, Bool, List, []}
 use Rattle.page_model.specs.Page.{Page}
-use Rattle.core_state.specs.Openings.{Opening}
-use Rattle.core_state.specs.States.{Place}
-use Rattle.row_words.specs.declared.given.Given.{Given}
-use Rattle.row_words.specs.Moments.{first_state}
-use Rattle.row_words.specs.Sealed.{begun}
+use Rattle.core_paging.specs.core_state.Openings.{Opening}
+use Rattle.core_paging.specs.core_state.States.{Place}
+use Rattle.rows_trait.specs.row_words.declared.given.Given.{Given}
+use Rattle.rows_trait.specs.row_words.Moments.{first_state}
+use Rattle.rows_trait.specs.row_words.Sealed.{begun}
 use Rattle.row_opening.specs.Openings.{Opens}
 use Rattle.row_opening.specs.Opened.{page_at, pages_of, contents_of}
 

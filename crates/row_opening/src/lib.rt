@@ -15,9 +15,9 @@ ghost use Rattle.row_opening.specs.Opened.{ArePages, given_of, IsOpened};
 ghost use Rattle.row_opening.specs.Rooted.{rooted_of, IsRooted};
 ghost use Rattle.row_opening.specs.Openings.{EveryNeed, EveryOpened, EveryReached};
 
-use btree_node::Node;
 pub use faith::Faith;
 use frame::{set_frames, set_root};
+use rows_trait::btree_node::Node;
 use rows_trait::plain::PlainRows;
 use rows_trait::trace::{Trace, Which};
 use std::alloc::{AllocError, Global};

@@ -10,23 +10,23 @@ use Rattle.page_model.specs.Nodes.{Node, NodeOk, covers, holds, is_leaf}
 use Rattle.rfa_model.specs.Stamps.{owed}
 use Rattle.core_calls.specs.LogEvents.{behind as waits}
 use Rattle.core_calls.specs.Warms.{EveryWarm, IsWarmFrom}
-use Rattle.core_commit.proofs.Nexts.{following_at, following_is}
-use Rattle.core_index.specs.Walks.{met_keys}
-use Rattle.core_state.specs.Needs.{following, holds_answer, holds_row, is_following, is_leaf_of, may}
-use Rattle.core_state.specs.Openings.{Opening}
-use Rattle.core_state.specs.States.{State, flushed_by_all, is_hot}
-use Rattle.core_state.specs.Steps.{at_pages, happens}
+use Rattle.btree_descent.proofs.core_commit_lemmas.Nexts.{following_at, following_is}
+use Rattle.btree_descent.specs.core_index.Walks.{met_keys}
+use Rattle.btree_descent.specs.core_state.Needs.{following, holds_answer, holds_row, is_following, is_leaf_of, may}
+use Rattle.btree_descent.specs.core_state.Openings.{Opening}
+use Rattle.btree_descent.specs.core_state.States.{State, flushed_by_all, is_hot}
+use Rattle.btree_descent.specs.core_state.Steps.{at_pages, happens}
 use Rattle.worker_log.specs.Logs.{Log}
 use Rattle.flush_avoidance.specs.Clocks.{after_touch}
-use Rattle.row_words.specs.declared.event.Event.{Event}
-use Rattle.row_words.specs.declared.event.Event.TheVariants.{Next}
-use Rattle.row_words.specs.declared.event.Met as told
-use Rattle.row_words.specs.declared.event.Met.TheVariants as event
-use Rattle.row_words.specs.declared.given.Given.{Given}
-use Rattle.row_words.specs.Moments.{Moment, event_of, met_of}
-use Rattle.row_words.specs.Openings.{opening}
-use Rattle.rows_trait.specs.declared.view.View.{View}
-use Rattle.rows_trait.specs.Views.{Shape, after_all, state}
+use Rattle.btree_descent.specs.row_words.declared.event.Event.{Event}
+use Rattle.btree_descent.specs.row_words.declared.event.Event.TheVariants.{Next}
+use Rattle.btree_descent.specs.row_words.declared.event.Met as told
+use Rattle.btree_descent.specs.row_words.declared.event.Met.TheVariants as event
+use Rattle.btree_descent.specs.row_words.declared.given.Given.{Given}
+use Rattle.btree_descent.specs.row_words.Moments.{Moment, event_of, met_of}
+use Rattle.btree_descent.specs.row_words.Openings.{opening}
+use Rattle.btree_descent.specs.rows_trait.declared.view.View.{View}
+use Rattle.btree_descent.specs.rows_trait.Views.{Shape, after_all, state}
 use Rattle.btree_descent.specs.declared.next.Stamp.{Stamp}
 use Rattle.btree_descent.specs.Descents.{MetCold}
 use Rattle.btree_descent.specs.Known.{Sound}

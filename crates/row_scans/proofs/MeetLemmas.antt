@@ -9,24 +9,24 @@ use Rattle.map_model.specs.declared.call.Refusal.TheVariants as refusal
 use Rattle.page_model.specs.Nodes.{holds}
 use Rattle.core_calls.specs.Refusals.{Hinders}
 use Rattle.core_calls.specs.Scans.{IsHinderedNext, IsOnWay, rows_met}
-use Rattle.core_index.specs.Walks.{met_keys}
-use Rattle.core_state.specs.Events as happening
-use Rattle.core_state.specs.Needs.{is_leaf_of, is_reader, may, value_in}
-use Rattle.core_state.specs.Openings.{Opening}
-use Rattle.core_state.specs.States.{State, is_hot}
-use Rattle.core_state.specs.Steps as core
-use Rattle.core_state.specs.Steps.{AllMet, happens}
+use Rattle.btree_descent.specs.core_index.Walks.{met_keys}
+use Rattle.btree_descent.specs.core_state.Events as happening
+use Rattle.btree_descent.specs.core_state.Needs.{is_leaf_of, is_reader, may, value_in}
+use Rattle.btree_descent.specs.core_state.Openings.{Opening}
+use Rattle.btree_descent.specs.core_state.States.{State, is_hot}
+use Rattle.btree_descent.specs.core_state.Steps as core
+use Rattle.btree_descent.specs.core_state.Steps.{AllMet, happens}
 use Rattle.flush_avoidance.specs.Clocks.{risen}
 use Rattle.key_locks.specs.Rows.{event_mode}
 use Rattle.key_locks.specs.declared.mode.Mode.TheVariants.{Shared}
-use Rattle.row_words.specs.declared.event.Event.{Event}
-use Rattle.row_words.specs.declared.event.Event.TheVariants.{Lock, Next}
-use Rattle.row_words.specs.declared.given.Given.{Given}
-use Rattle.row_words.specs.Moments.{Moment, event_of, events_of}
-use Rattle.row_words.specs.Openings.{opening}
-use Rattle.row_words.specs.Sealed.{run, stepped}
-use Rattle.rows_trait.specs.declared.view.View.{View}
-use Rattle.rows_trait.specs.Views.{Shape, state}
+use Rattle.btree_descent.specs.row_words.declared.event.Event.{Event}
+use Rattle.btree_descent.specs.row_words.declared.event.Event.TheVariants.{Lock, Next}
+use Rattle.btree_descent.specs.row_words.declared.given.Given.{Given}
+use Rattle.btree_descent.specs.row_words.Moments.{Moment, event_of, events_of}
+use Rattle.btree_descent.specs.row_words.Openings.{opening}
+use Rattle.btree_descent.specs.row_words.Sealed.{run, stepped}
+use Rattle.btree_descent.specs.rows_trait.declared.view.View.{View}
+use Rattle.btree_descent.specs.rows_trait.Views.{Shape, state}
 use Rattle.btree_descent.specs.Known.{Sound}
 use Rattle.worker_log.specs.Logs.{Log}
 use Rattle.session_state.specs.Held.{Held, with_row}

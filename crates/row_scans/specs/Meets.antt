@@ -2,21 +2,21 @@
 use Rattle.std.specs.Prelude.{◌≡◌, ◌≤◌, ◌<◌, ◌^◌, ◌++◌, ℕ, List, [], ◌∷◌, length, Some, Result, Ok, Err}
 use Rattle.map_model.specs.declared.call.Refusal.TheVariants as refusal
 use Rattle.core_calls.specs.Scans.{IsHinderedNext, IsOnWay, rows_met}
-use Rattle.core_state.specs.Needs.{value_in}
-use Rattle.core_state.specs.Openings.{Opening}
-use Rattle.core_state.specs.States.{State}
-use Rattle.core_state.specs.Steps.{AllMet}
+use Rattle.btree_descent.specs.core_state.Needs.{value_in}
+use Rattle.btree_descent.specs.core_state.Openings.{Opening}
+use Rattle.btree_descent.specs.core_state.States.{State}
+use Rattle.btree_descent.specs.core_state.Steps.{AllMet}
 use Rattle.flush_avoidance.specs.Clocks.{risen}
 use Rattle.key_locks.specs.Rows.{event_mode}
 use Rattle.key_locks.specs.declared.mode.Mode.TheVariants.{Shared}
-use Rattle.row_words.specs.declared.event.Event.{Event}
-use Rattle.row_words.specs.declared.event.Event.TheVariants.{Lock, Next}
-use Rattle.row_words.specs.declared.event.Met as told
-use Rattle.row_words.specs.declared.event.Met.TheVariants as event
-use Rattle.row_words.specs.Moments.{events_of}
-use Rattle.row_words.specs.Openings.{opening}
-use Rattle.rows_trait.specs.declared.view.View.{View}
-use Rattle.rows_trait.specs.Views.{state}
+use Rattle.btree_descent.specs.row_words.declared.event.Event.{Event}
+use Rattle.btree_descent.specs.row_words.declared.event.Event.TheVariants.{Lock, Next}
+use Rattle.btree_descent.specs.row_words.declared.event.Met as told
+use Rattle.btree_descent.specs.row_words.declared.event.Met.TheVariants as event
+use Rattle.btree_descent.specs.row_words.Moments.{events_of}
+use Rattle.btree_descent.specs.row_words.Openings.{opening}
+use Rattle.btree_descent.specs.rows_trait.declared.view.View.{View}
+use Rattle.btree_descent.specs.rows_trait.Views.{state}
 use Rattle.row_changes.specs.Ways.{HasMetCold}
 use Rattle.session_state.specs.declared.session.Session.{Session}
 use Rattle.row_scans.specs.declared.meets.Met.{Met}

@@ -7,7 +7,7 @@ ghost use Rattle.row_scans.specs.Inside.{AreFirst, AreHeld, Looks};
 use crate::keys::TakenKeys;
 use crate::meets::Met;
 use btree_descent::next::{Following, next};
-use rows_trait::rows::Rows;
+use btree_descent::rows_trait::rows::Rows;
 use session_state::Session;
 use worker_log::WorkerLog;
 

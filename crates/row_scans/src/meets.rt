@@ -6,10 +6,10 @@ ghost use Rattle.row_scans.specs.Meets.{IsButRows, IsCut, IsNoConflict, Meets};
 
 use crate::keys::{MOST, TakenKeys};
 use crate::looks::{Looked, look};
+use btree_descent::rows_trait::rows::Rows;
 use key_locks::mode::Mode;
 use map_model::Refusal;
 use row_changes::{Cold, take_row};
-use rows_trait::rows::Rows;
 use session_state::Session;
 use worker_log::WorkerLog;
 

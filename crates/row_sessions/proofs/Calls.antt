@@ -2,16 +2,16 @@
 use Rattle.std.proofs.Common.{refl, ◌≡◌, ◌<◌, ◌≤◌, ◌+◌, ◌^◌, ltb, ℕ, suc, true, false, List, [], ◌∷◌, sym, ap, subst, ◌∙◌, arith, true≢false}
 use Rattle.std.proofs.lemmas.Bool.{and_from, lt-ltb, le-leb}
 use Rattle.std.specs.Prelude.{slice_set}
-use Rattle.core_state.specs.Steps as core
-use Rattle.row_words.specs.declared.event.Event.TheVariants as told
-use Rattle.row_words.specs.Openings.{opening}
-use Rattle.row_words.proofs.SealedLemmas.{silent_sets}
-use Rattle.rows_trait.specs.declared.view.View.{View}
-use Rattle.rows_trait.specs.Views.{Shape, state}
-use Rattle.rows_trait.specs.Views as views
-use Rattle.rows_trait.specs.Turns.{Heard, MayTurn, Turned}
-use Rattle.lean_proto.specs.Controls.{IsBegin, IsEnd}
-use Rattle.lean_proto.proofs.Turning.{every_begin, every_turn, end_sets}
+use Rattle.btree_descent.specs.core_state.Steps as core
+use Rattle.btree_descent.specs.row_words.declared.event.Event.TheVariants as told
+use Rattle.btree_descent.specs.row_words.Openings.{opening}
+use Rattle.btree_descent.proofs.row_words_lemmas.SealedLemmas.{silent_sets}
+use Rattle.btree_descent.specs.rows_trait.declared.view.View.{View}
+use Rattle.btree_descent.specs.rows_trait.Views.{Shape, state}
+use Rattle.btree_descent.specs.rows_trait.Views as views
+use Rattle.btree_descent.specs.rows_trait.Turns.{Heard, MayTurn, Turned}
+use Rattle.btree_descent.specs.lean_proto.Controls.{IsBegin, IsEnd}
+use Rattle.btree_descent.proofs.lean_proto_lemmas.Turning.{every_begin, every_turn, end_sets}
 use Rattle.btree_descent.specs.declared.descent.Answer.{Answer}
 use Rattle.btree_descent.specs.declared.descent.Answer.TheVariants as answer
 use Rattle.btree_descent.specs.Known.{said}

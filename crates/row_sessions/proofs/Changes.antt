@@ -1,15 +1,15 @@
 -- How sessions stand after a put, and after its refusal.
 use Rattle.std.proofs.Common.{◌≡◌, ◌<◌, ◌≤◌, ℕ, suc, true, false, List, [], ◌∷◌, Option, refl, sym, ap, subst, ◌∙◌, arith, length}
 use Rattle.std.specs.Prelude.{slice_set}
-use Rattle.core_state.specs.Needs.{may}
-use Rattle.row_words.specs.declared.event.Event.TheVariants as told
-use Rattle.row_words.specs.Moments.{event_of}
-use Rattle.row_words.specs.Openings.{opening}
-use Rattle.row_words.specs.Sealed.{stepped, sets}
-use Rattle.rows_trait.specs.declared.view.View.{View}
-use Rattle.rows_trait.specs.Views.{after_all, state}
-use Rattle.log_record.specs.declared.record.Record.{Record}
-use Rattle.draw_trait.specs.Clocks.{Clock}
+use Rattle.btree_descent.specs.core_state.Needs.{may}
+use Rattle.btree_descent.specs.row_words.declared.event.Event.TheVariants as told
+use Rattle.btree_descent.specs.row_words.Moments.{event_of}
+use Rattle.btree_descent.specs.row_words.Openings.{opening}
+use Rattle.btree_descent.specs.row_words.Sealed.{stepped, sets}
+use Rattle.btree_descent.specs.rows_trait.declared.view.View.{View}
+use Rattle.btree_descent.specs.rows_trait.Views.{after_all, state}
+use Rattle.btree_descent.specs.log_record.declared.record.Record.{Record}
+use Rattle.btree_descent.specs.draw_trait.Clocks.{Clock}
 use Rattle.btree_descent.specs.declared.put.Put.{Put}
 use Rattle.btree_descent.specs.declared.put.Put.TheVariants as put
 use Rattle.btree_descent.specs.Puts.{Wrote, Changed, clock_in}

@@ -2,11 +2,11 @@
 use Rattle.std.proofs.Common.{◌≡◌, ℕ, true, false, [], ◌∷◌, Option, refl}
 use Rattle.std.proofs.lemmas.Bool.{eq-eqb, and_left, and_right}
 use Rattle.map_model.specs.Lists.{upd}
-use Rattle.core_state.specs.Openings.{Opening}
-use Rattle.core_state.specs.States.{State}
-use Rattle.core_state.specs.Events.{Event}
-use Rattle.core_state.specs.Needs.{may, are_hot, may_read, is_value, value_in}
-use Rattle.core_state.specs.Steps.{step, happens}
+use Rattle.btree_descent.specs.core_state.Openings.{Opening}
+use Rattle.btree_descent.specs.core_state.States.{State}
+use Rattle.btree_descent.specs.core_state.Events.{Event}
+use Rattle.btree_descent.specs.core_state.Needs.{may, are_hot, may_read, is_value, value_in}
+use Rattle.btree_descent.specs.core_state.Steps.{step, happens}
 
 -- an event whose need is met happens, and another changes nothing
 pub steps_met : (g : Opening) (s : State) (e : Event) → may g s e ≡ true → step g s e ≡ happens g s e

@@ -3,12 +3,12 @@ use Rattle.std.proofs.Common.{ltb, leb, ◌≡◌, ◌<◌, ◌≤◌, ◌+◌, 
 use Rattle.std.proofs.lemmas.List.{get_or-replicate, length-replicate}
 use Rattle.std.proofs.lemmas.Bool.{and_parts, ltb-true, leb-true}
 use Rattle.page_model.specs.Page.{Page}
-use Rattle.core_state.specs.Openings.{Opening}
-use Rattle.core_state.specs.Needs.{is_worker}
-use Rattle.row_words.specs.declared.given.Given.{Given}
-use Rattle.row_words.specs.Openings.{opening}
-use Rattle.row_words.specs.Sealed.{begun}
-use Rattle.rows_trait.specs.Views.{after_all}
+use Rattle.btree_descent.specs.core_state.Openings.{Opening}
+use Rattle.btree_descent.specs.core_state.Needs.{is_worker}
+use Rattle.btree_descent.specs.row_words.declared.given.Given.{Given}
+use Rattle.btree_descent.specs.row_words.Openings.{opening}
+use Rattle.btree_descent.specs.row_words.Sealed.{begun}
+use Rattle.btree_descent.specs.rows_trait.Views.{after_all}
 use Rattle.row_opening.specs.Openings.{Opens}
 use Rattle.row_opening.proofs.Same.{every_opened}
 use Rattle.btree_descent.specs.Known as descent

@@ -2,23 +2,23 @@
 use Rattle.std.proofs.Common.{◌≡◌, ◌<◌, ◌≤◌, inl, inr, ℕ, suc, true, false, List, [], ◌∷◌, ◌++◌, refl, sym, ap, subst, ◌∙◌, arith, length, append-nil}
 use Rattle.std.specs.Prelude.{slice_set, slice_index}
 use Rattle.map_model.specs.Lists.{Has}
-use Rattle.image_model.specs.Entries.{Entry}
-use Rattle.core_commit.proofs.Lists.{least_le, le_least}
-use Rattle.core_state.specs.States.{State, Worker, flushed_by_all}
-use Rattle.core_state.specs.Needs.{may}
-use Rattle.core_state.specs.Steps.{happens}
-use Rattle.row_words.specs.declared.event.Event.{Event}
-use Rattle.row_words.specs.declared.event.Event.TheVariants as told
-use Rattle.row_words.specs.declared.given.Given.{Given}
-use Rattle.row_words.specs.Moments.{Moment, event_of, actor_of, is_sync}
-use Rattle.row_words.specs.Openings.{opening}
-use Rattle.row_words.specs.Sealed.{begun, stepped, run, sets}
-use Rattle.row_words.proofs.SealedLemmas.{run_append}
-use Rattle.rows_trait.specs.declared.view.View.{View}
-use Rattle.rows_trait.specs.Views.{Shape, after_all, state}
-use Rattle.rows_trait.specs.Turns.{Ran}
-use Rattle.log_record.specs.declared.record.Record.{Record}
-use Rattle.draw_trait.specs.Clocks.{Clock}
+use Rattle.btree_descent.specs.image_model.Entries.{Entry}
+use Rattle.btree_descent.proofs.core_commit_lemmas.Lists.{least_le, le_least}
+use Rattle.btree_descent.specs.core_state.States.{State, Worker, flushed_by_all}
+use Rattle.btree_descent.specs.core_state.Needs.{may}
+use Rattle.btree_descent.specs.core_state.Steps.{happens}
+use Rattle.btree_descent.specs.row_words.declared.event.Event.{Event}
+use Rattle.btree_descent.specs.row_words.declared.event.Event.TheVariants as told
+use Rattle.btree_descent.specs.row_words.declared.given.Given.{Given}
+use Rattle.btree_descent.specs.row_words.Moments.{Moment, event_of, actor_of, is_sync}
+use Rattle.btree_descent.specs.row_words.Openings.{opening}
+use Rattle.btree_descent.specs.row_words.Sealed.{begun, stepped, run, sets}
+use Rattle.btree_descent.proofs.row_words_lemmas.SealedLemmas.{run_append}
+use Rattle.btree_descent.specs.rows_trait.declared.view.View.{View}
+use Rattle.btree_descent.specs.rows_trait.Views.{Shape, after_all, state}
+use Rattle.btree_descent.specs.rows_trait.Turns.{Ran}
+use Rattle.btree_descent.specs.log_record.declared.record.Record.{Record}
+use Rattle.btree_descent.specs.draw_trait.Clocks.{Clock}
 use Rattle.btree_descent.specs.Puts.{Onward, clock_in}
 use Rattle.btree_smo.specs.declared.outcome.Outcome.{Outcome}
 use Rattle.btree_smo.specs.declared.outcome.Outcome.TheVariants as outcome

@@ -3,22 +3,22 @@ use Rattle.std.proofs.Common.{inl, inr, ◌≡◌, ◌<◌, ◌≤◌, ℕ, zero
 use Rattle.std.proofs.lemmas.List.{length-set, get_or-set_same, get_or-set_other}
 use Rattle.std.proofs.lemmas.Bool.{cases_eq}
 use Rattle.std.specs.Prelude.{slice_set}
-use Rattle.core_state.specs.Needs.{may}
-use Rattle.core_state.specs.Steps.{happens}
-use Rattle.row_words.specs.declared.event.Event.{Event}
-use Rattle.row_words.specs.declared.event.Event.TheVariants as told
-use Rattle.row_words.specs.declared.given.Given.{Given}
-use Rattle.row_words.specs.Moments.{Moment, event_of, actor_of, is_sync}
-use Rattle.row_words.specs.Openings.{opening}
-use Rattle.row_words.specs.Sealed.{begun, stepped, run, heard, sets}
-use Rattle.row_words.proofs.SealedLemmas.{run_append, heard_stays}
-use Rattle.row_words.proofs.Controls.{every_own}
-use Rattle.rows_trait.specs.Plain.{sizes}
-use Rattle.rows_trait.specs.Rule.{IsPicture, plan}
-use Rattle.rows_trait.specs.declared.view.View.{View}
-use Rattle.rows_trait.specs.declared.plain.PlainRows.{PlainRows}
-use Rattle.rows_trait.specs.Views.{Shape, after_all, state, no_place}
-use Rattle.rows_trait.specs.Turns.{Goes, Ran}
+use Rattle.btree_descent.specs.core_state.Needs.{may}
+use Rattle.btree_descent.specs.core_state.Steps.{happens}
+use Rattle.btree_descent.specs.row_words.declared.event.Event.{Event}
+use Rattle.btree_descent.specs.row_words.declared.event.Event.TheVariants as told
+use Rattle.btree_descent.specs.row_words.declared.given.Given.{Given}
+use Rattle.btree_descent.specs.row_words.Moments.{Moment, event_of, actor_of, is_sync}
+use Rattle.btree_descent.specs.row_words.Openings.{opening}
+use Rattle.btree_descent.specs.row_words.Sealed.{begun, stepped, run, heard, sets}
+use Rattle.btree_descent.proofs.row_words_lemmas.SealedLemmas.{run_append, heard_stays}
+use Rattle.btree_descent.proofs.row_words_lemmas.Controls.{every_own}
+use Rattle.btree_descent.specs.rows_trait.Plain.{sizes}
+use Rattle.btree_descent.specs.rows_trait.Rule.{IsPicture, plan}
+use Rattle.btree_descent.specs.rows_trait.declared.view.View.{View}
+use Rattle.btree_descent.specs.rows_trait.declared.plain.PlainRows.{PlainRows}
+use Rattle.btree_descent.specs.rows_trait.Views.{Shape, after_all, state, no_place}
+use Rattle.btree_descent.specs.rows_trait.Turns.{Goes, Ran}
 use Rattle.btree_descent.specs.Known.{IsSound}
 use Rattle.key_locks.specs.Rows as lock_rows
 use Rattle.row_sessions.specs.declared.session.Session.{Session}

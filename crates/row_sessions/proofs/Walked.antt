@@ -4,18 +4,18 @@ use Rattle.std.proofs.lemmas.Bool.{eqb-true}
 use Rattle.std.specs.List.{list_any}
 use Rattle.std.specs.Prelude.{slice_set}
 use Rattle.map_model.specs.Maps.{MapAnswer}
-use Rattle.core_state.specs.Openings.{Opening}
-use Rattle.core_state.specs.States.{State}
-use Rattle.core_state.specs.Needs.{may}
-use Rattle.core_state.specs.Steps as core
-use Rattle.row_words.specs.declared.event.Event.TheVariants as told
-use Rattle.row_words.specs.declared.event.Met.{Met}
-use Rattle.row_words.specs.declared.event.Met.TheVariants as met
-use Rattle.row_words.specs.Moments.{event_of, met_of}
-use Rattle.row_words.specs.Openings.{opening}
-use Rattle.row_words.specs.Sealed.{stepped, sets}
-use Rattle.rows_trait.specs.declared.view.View.{View}
-use Rattle.rows_trait.specs.Views.{after_all, state}
+use Rattle.btree_descent.specs.core_state.Openings.{Opening}
+use Rattle.btree_descent.specs.core_state.States.{State}
+use Rattle.btree_descent.specs.core_state.Needs.{may}
+use Rattle.btree_descent.specs.core_state.Steps as core
+use Rattle.btree_descent.specs.row_words.declared.event.Event.TheVariants as told
+use Rattle.btree_descent.specs.row_words.declared.event.Met.{Met}
+use Rattle.btree_descent.specs.row_words.declared.event.Met.TheVariants as met
+use Rattle.btree_descent.specs.row_words.Moments.{event_of, met_of}
+use Rattle.btree_descent.specs.row_words.Openings.{opening}
+use Rattle.btree_descent.specs.row_words.Sealed.{stepped, sets}
+use Rattle.btree_descent.specs.rows_trait.declared.view.View.{View}
+use Rattle.btree_descent.specs.rows_trait.Views.{after_all, state}
 use Rattle.btree_descent.specs.declared.next.Following.{Following}
 use Rattle.btree_descent.specs.declared.next.Following.TheVariants as following
 use Rattle.btree_descent.specs.declared.next.Stamp.{Stamp}
@@ -36,7 +36,7 @@ listed_at k (x ∷ xs) h = go (x == k) refl (listed_at k xs)
     go false e rest = let r = rest (ap (λ b. b || list_any (λ y. y == k) xs) (sym e) ∙ h) in (suc r.0, (let l = r.1 in omega arith), r.2)
 
 -- a walk touches its page
-walk_worker : (g : Opening) (s : State) (w p k : ℕ) (a : Met) → (core.happens g s (Rattle.core_state.specs.Events.Event.Next w p k (met_of a))).worker w ≡ core.at_pages s w (s.worker w) (p ∷ [])
+walk_worker : (g : Opening) (s : State) (w p k : ℕ) (a : Met) → (core.happens g s (Rattle.btree_descent.specs.core_state.Events.Event.Next w p k (met_of a))).worker w ≡ core.at_pages s w (s.worker w) (p ∷ [])
 walk_worker g s w p k (met.Pair j x) = upd_here s.worker w _
 walk_worker g s w p k (met.Gap h) = upd_here s.worker w _
 

@@ -1,5 +1,5 @@
 -- A session as a draw has it.
-use Rattle.draw_trait.specs.Clocks.{Clock}
+use Rattle.btree_descent.specs.draw_trait.Clocks.{Clock}
 use Rattle.row_sessions.specs.declared.session.Session.{Session}
 
 -- its clock, its floor and what it owes

@@ -1,19 +1,19 @@
 -- What holds of sessions between any two calls.
 use Rattle.std.specs.Prelude.{◌≡◌, ◌+◌, ◌<◌, ◌≤◌, ℕ, true, false, List, [], length, slice_index_or, replicate, max, ◌%◌, ◌^◌}
 use Rattle.rfa_model.specs.Stamps.{owed}
-use Rattle.core_state.specs.States.{Worker}
-use Rattle.core_state.specs.Needs.{is_held_by, holds_row}
-use Rattle.row_words.specs.Moments.{Moment}
-use Rattle.row_words.specs.Openings.{opening}
-use Rattle.rows_trait.specs.Plain.{sizes}
-use Rattle.rows_trait.specs.Rule.{IsPicture, plan}
-use Rattle.rows_trait.specs.Views.{state}
+use Rattle.btree_descent.specs.core_state.States.{Worker}
+use Rattle.btree_descent.specs.core_state.Needs.{is_held_by, holds_row}
+use Rattle.btree_descent.specs.row_words.Moments.{Moment}
+use Rattle.btree_descent.specs.row_words.Openings.{opening}
+use Rattle.btree_descent.specs.rows_trait.Plain.{sizes}
+use Rattle.btree_descent.specs.rows_trait.Rule.{IsPicture, plan}
+use Rattle.btree_descent.specs.rows_trait.Views.{state}
 use Rattle.btree_descent.specs.Known.{IsSound}
 use Rattle.key_locks.specs.Rows as locks
 use Rattle.page_model.specs.Page.{Page}
 use Rattle.page_model.specs.Tree.{IsTree}
 use Rattle.row_opening.specs.Opened.{page_at}
-use Rattle.row_words.specs.Moments.{format_of}
+use Rattle.btree_descent.specs.row_words.Moments.{format_of}
 use Rattle.row_sessions.specs.declared.session.Session.{Session}
 use Rattle.row_sessions.specs.declared.sessions.Sessions.{Sessions}
 

@@ -1,5 +1,5 @@
 //! What a session's begin and end append.
-use rows_trait::names::Names;
+use btree_descent::rows_trait::names::Names;
 
 /// The worker begins a transaction, where all logs are flushed up to `floor`.
 #[derive(Drop)]
@@ -10,7 +10,7 @@ pub(crate) struct Begins {
 
 impl Names for Begins {
     ghost use Rattle.std.specs.Prelude.{[], ◌∷◌};
-    ghost use Rattle.row_words.specs.declared.event.Event.TheVariants.{Begin};
+    ghost use Rattle.btree_descent.specs.row_words.declared.event.Event.TheVariants.{Begin};
 
     ghost names = { λ s _. Begin s.worker s.floor ∷ [] };
 }
@@ -24,7 +24,7 @@ pub(crate) struct Ends {
 
 impl Names for Ends {
     ghost use Rattle.std.specs.Prelude.{true, [], ◌∷◌};
-    ghost use Rattle.row_words.specs.declared.event.Event.TheVariants.{End};
+    ghost use Rattle.btree_descent.specs.row_words.declared.event.Event.TheVariants.{End};
 
     ghost names = { λ s _. End s.worker true s.floor ∷ [] };
 }

@@ -1,11 +1,11 @@
 //! Whether pages are what rows may begin with.
 ghost use Rattle.std.specs.Prelude.{◌≡◌, ◌≤◌, ◌<◌, ℕ, true, IfOk, length};
 ghost use Rattle.row_opening.specs.Opened.{ArePages, page_at};
-ghost use Rattle.row_words.specs.Moments.{format_of};
+ghost use Rattle.btree_descent.specs.row_words.Moments.{format_of};
 ghost use Rattle.page_model.specs.Tree.{IsTree};
 ghost use Rattle.row_sessions.specs.Standing.{IsTreeOf, AreNumbered};
 
-use btree_node::Node;
+use btree_descent::btree_node::Node;
 use node_tree::first_break;
 use page_model::every_check;
 use std::alloc::{AllocError, Global};

@@ -5,9 +5,9 @@ ghost use Rattle.row_sessions.specs.Standing.{Stands, HoldsAlone, IsPutter};
 use crate::locking::Unlocked;
 use crate::session::{CLOCK_END, Session, session_of, set_session};
 use crate::sessions::Sessions;
+use btree_descent::lean_proto::path::Path;
 use btree_descent::put::{Put, leaf_put};
 use key_locks::mode::Mode;
-use lean_proto::path::Path;
 
 /// How many changes a transaction makes at most.
 pub const CHANGES: u32 = 64;

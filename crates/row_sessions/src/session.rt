@@ -1,7 +1,7 @@
 //! What one worker knows of itself.
 ghost use Rattle.std.specs.Prelude.{◌≡◌, ◌+◌, ◌<◌, ◌≤◌, ◌^◌, ℕ, suc, max, length, slice_set};
-ghost use Rattle.core_state.specs.States.{Worker, Row};
-ghost use Rattle.core_state.specs.Steps.{begun, finished, at_row};
+ghost use Rattle.btree_descent.specs.core_state.States.{Worker, Row};
+ghost use Rattle.btree_descent.specs.core_state.Steps.{begun, finished, at_row};
 ghost use Rattle.row_sessions.specs.Standing.{IsOf, first_session, touched_session, changed_session, drawn_session, session_at};
 ghost use Rattle.key_locks.specs.Locking.{IsStamp};
 

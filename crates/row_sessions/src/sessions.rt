@@ -5,11 +5,11 @@ ghost use Rattle.row_sessions.specs.Standing.{Stands, first_session};
 use crate::drawing::Drawing;
 use crate::opening::are_pages;
 use crate::session::Session;
-use btree_node::Node;
+use btree_descent::btree_node::Node;
+use btree_descent::rows_trait::plain::PlainRows;
+use btree_descent::rows_trait::trace::Trace;
 use key_locks::latches::Latches;
 use row_opening::open_rows;
-use rows_trait::plain::PlainRows;
-use rows_trait::trace::Trace;
 use std::alloc::{AllocError, Global};
 
 /// Rows, their seat, and the sessions by worker; the first one is of the main actor, which finds and never begins.

@@ -4,6 +4,7 @@ ghost use Rattle.row_sessions.specs.Standing.{Stands, IsDrawer};
 
 use crate::session::{CLOCK_END, Session, session_of, set_session};
 use crate::sessions::Sessions;
+use btree_descent::lean_proto::path::Path;
 use btree_smo::drop_root::drop_root;
 use btree_smo::join::join;
 use btree_smo::lift::lift;
@@ -11,7 +12,6 @@ use btree_smo::outcome::Outcome;
 use btree_smo::purge::{Purged, purge};
 use btree_smo::room::full_run;
 use btree_smo::split::split;
-use lean_proto::path::Path;
 
 /// Why the tree stayed as it was.
 #[derive(Clone, Copy)]

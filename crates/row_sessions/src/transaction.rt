@@ -6,7 +6,7 @@ use crate::events::{Begins, Ends};
 use crate::session::{CLOCK_END, session_of, set_session};
 use crate::sessions::Sessions;
 use btree_descent::descent::{Answer, find};
-use rows_trait::rows::Rows;
+use btree_descent::rows_trait::rows::Rows;
 
 impl Sessions {
     /// Begins a transaction of a worker. False where it has one open, where its clock has come to `CLOCK_END`, or where its

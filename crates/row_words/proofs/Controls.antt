@@ -3,7 +3,7 @@ use Rattle.std.proofs.Common.{◌≡◌, ◌≢◌, ◌==◌, ◌&&◌, ℕ, zer
 use Rattle.std.proofs.lemmas.Bool.Decides.{nat_tests}
 use Rattle.std.specs.Prelude.{slice_index}
 use Rattle.map_model.specs.Lists.{upd}
-use Rattle.image_model.specs.Entries.{Entry}
+use Rattle.core_state.specs.image_model.Entries.{Entry}
 use Rattle.core_state.specs.Openings.{Opening}
 use Rattle.core_state.specs.States.{State, Worker}
 use Rattle.core_state.specs.Needs.{may}

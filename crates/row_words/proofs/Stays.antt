@@ -5,7 +5,7 @@ use Rattle.std.proofs.lemmas.Bool.{cond-false, cond-true, ne_eqb, eqb-false, eqb
 use Rattle.std.proofs.lemmas.Bool.Decides.{nat_tests}
 use Rattle.map_model.specs.Lists.{upd, any}
 use Rattle.map_model.specs.Maps.{MapAnswer}
-use Rattle.image_model.specs.Entries.{Entry}
+use Rattle.core_state.specs.image_model.Entries.{Entry}
 use Rattle.page_model.specs.Check.{names_page}
 use Rattle.btree_node.specs.Words.{words_of}
 use Rattle.core_state.specs.Lists.{all_below}

@@ -5,3 +5,7 @@ pub mod Openings
 pub mod Words
 pub mod Laws
 pub mod Sealed
+-- Passed on to the crates above.
+pub use Rattle.btree_node.specs as btree_node
+pub use Rattle.core_state.specs as core_state
+pub use Rattle.core_state.specs.image_model as image_model

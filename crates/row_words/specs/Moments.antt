@@ -5,7 +5,7 @@ use Rattle.std.specs.Prelude.{◌-◌, ◌^◌, ℕ, zero, suc, true, false, Boo
 use Rattle.std.proofs.Common.{lit<}
 use Rattle.map_model.specs.Lists.{upd}
 use Rattle.map_model.specs.Maps.{MapAnswer}
-use Rattle.image_model.specs.Entries.{Contents}
+use Rattle.core_state.specs.image_model.Entries.{Contents}
 use Rattle.page_model.specs.Pairs.{Pair}
 use Rattle.page_model.specs.Nodes.{Format, free}
 use Rattle.core_state.specs.Openings.{Opening}

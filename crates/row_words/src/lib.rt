@@ -10,6 +10,9 @@ pub mod given;
 
 ghost use Rattle.row_words.specs.Laws.{EveryStays, EveryControl, EveryOwn};
 
+// Passed on to the crates above.
+pub use btree_node;
+
 /// An event changes the words of the rows alone that it publishes: what a word of another row might read before it, it may
 /// read after it.
 pub fn every_stays()

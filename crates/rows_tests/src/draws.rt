@@ -1,10 +1,10 @@
 // A clock that is copied in, beside a log that is lent and has room for one record: the trait can be met over fields of an engine.
 ghost use Rattle.std.specs.Prelude.{◌≡◌, ◌≤◌, ◌<◌, suc, ℕ, List, [], ◌∷◌, Some, None, IsErr, IfErr, OnOk};
-ghost use Rattle.log_record.specs.declared.record.Record.{Record};
-ghost use Rattle.draw_trait.specs.Clocks.{Clock};
+ghost use Rattle.btree_descent.specs.log_record.declared.record.Record.{Record};
+ghost use Rattle.btree_descent.specs.draw_trait.Clocks.{Clock};
 
-use draw_trait::draw::{Draw, Unstaged};
-use log_record::{Body, Record};
+use btree_descent::draw_trait::draw::{Draw, Unstaged};
+use btree_descent::log_record::{Body, Record};
 
 // The last number of a log, and its one record.
 #[derive(Drop)]

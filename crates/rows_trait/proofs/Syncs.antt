@@ -5,7 +5,7 @@ use Rattle.row_words.specs.Moments.{event_of}
 use Rattle.row_words.specs.Openings.{opening}
 use Rattle.row_words.specs.Sealed.{begun, heard}
 use Rattle.row_words.proofs.SealedLemmas.{run_append, sync_changes, sync_sets, sync_heard}
-use Rattle.core_state.specs.Needs as core
+use Rattle.row_words.specs.core_state.Needs as core
 use Rattle.rows_trait.specs.declared.view.View.{View}
 use Rattle.rows_trait.specs.Views.{Shape, state}
 use Rattle.rows_trait.specs.Turns.{MaySync}

@@ -13,6 +13,9 @@ pub mod rows;
 pub mod trace;
 pub mod view;
 
+// Passed on to the crates above.
+pub use row_words::btree_node;
+
 /// A number that was found in a latch is at most one above twice the number of events that were seen.
 pub fn every_low()
     ensures { EveryLow }

@@ -4,18 +4,18 @@ use Rattle.std.proofs.lemmas.List.{append-nil, length-append}
 use Rattle.map_model.specs.Journals.{Journal, Name}
 use Rattle.map_model.specs.Outputs.{Reply}
 use Rattle.map_model.specs.Pairings.{is_last}
-use Rattle.image_model.specs.Images.{Image}
-use Rattle.core_state.specs.Openings.{Opening}
-use Rattle.core_state.specs.Events.{Event}
-use Rattle.core_state.specs.Steps.{run, state_after}
+use Rattle.disk_runs.specs.image_model.Images.{Image}
+use Rattle.disk_runs.specs.core_state.Openings.{Opening}
+use Rattle.disk_runs.specs.core_state.Events.{Event}
+use Rattle.disk_runs.specs.core_state.Steps.{run, state_after}
 use Rattle.lean_disk.specs.Story.{Crash, Story}
 use Rattle.lean_disk.proofs.MomentLemmas.{weaker}
 use Rattle.lean_disk.proofs.MomentLemmas as moments
-use Rattle.disk_slots.specs.declared.master.Master.{Master}
-use Rattle.disk_image.specs.Laws.{EveryAgreement}
-use Rattle.disk_image.specs.Shown.{Areas, image_by}
-use Rattle.core_disk.specs.Held.{HoldsRun}
-use Rattle.core_disk.specs.Shows.{EveryShown}
+use Rattle.disk_runs.specs.disk_slots.declared.master.Master.{Master}
+use Rattle.disk_runs.specs.disk_image.Laws.{EveryAgreement}
+use Rattle.disk_runs.specs.disk_image.Shown.{Areas, image_by}
+use Rattle.disk_runs.specs.core_disk.Held.{HoldsRun}
+use Rattle.disk_runs.specs.core_disk.Shows.{EveryShown}
 use Rattle.disk_runs.specs.Masters.{IsOfRunBy}
 use Rattle.disk_runs.specs.Moments.{HoldsSome}
 use Rattle.disk_runs.proofs.LineLemmas.{opened}

@@ -1,8 +1,8 @@
 -- While lines are put.
 use Rattle.std.proofs.Common.{refl}
 use Rattle.lean_disk.specs.Story.{Story}
-use Rattle.disk_image.specs.Laws.{EverySealed}
-use Rattle.worker_log.specs.Laws.{EveryKept, EveryPrefix}
+use Rattle.disk_runs.specs.disk_image.Laws.{EverySealed}
+use Rattle.disk_runs.specs.worker_log.Laws.{EveryKept, EveryPrefix}
 use Rattle.disk_runs.proofs.StandLemmas.{every_rest}
 use Rattle.run_crashes.specs.Laws.{EveryPut}
 

@@ -5,23 +5,23 @@ use Rattle.map_model.specs.Lists.{Has, any}
 use Rattle.map_model.specs.Journals.{Journal, Txn, IsClosed, after}
 use Rattle.map_model.proofs.ListLemmas.{has_right, keep_has}
 use Rattle.map_model.specs.Outputs.{Reply}
-use Rattle.image_model.specs.Entries.{Entry, is_record}
-use Rattle.image_model.specs.Ends.{is_kept, kept, reach, wins}
-use Rattle.image_model.specs.Images.{Image, StandsFor, found, gathered, won_by}
-use Rattle.core_state.specs.Openings.{Opening, first_map}
-use Rattle.core_state.specs.Events.{Event}
-use Rattle.core_state.specs.Steps.{state_after}
-use Rattle.core_crash.specs.Crashes.{image_of}
-use Rattle.core_crash.proofs.Cuts.{keep_same}
-use Rattle.core_crash.proofs.Images.{gathered_has}
-use Rattle.disk_slots.specs.declared.master.Master.{Master}
-use Rattle.disk_image.specs.Laws.{Agreement, EveryAgreement}
-use Rattle.disk_image.specs.Shown.{Areas, image_by}
-use Rattle.core_disk.specs.FloorLaws.{at_floor}
-use Rattle.core_disk.specs.Held.{HoldsRun}
-use Rattle.core_disk.specs.Shows.{EveryShown, Shows}
-use Rattle.core_disk.proofs.FloorLemmas.{agreement_at, sound_at}
-use Rattle.core_disk.proofs.HeldLemmas.{gathered_same}
+use Rattle.disk_runs.specs.image_model.Entries.{Entry, is_record}
+use Rattle.disk_runs.specs.image_model.Ends.{is_kept, kept, reach, wins}
+use Rattle.disk_runs.specs.image_model.Images.{Image, StandsFor, found, gathered, won_by}
+use Rattle.disk_runs.specs.core_state.Openings.{Opening, first_map}
+use Rattle.disk_runs.specs.core_state.Events.{Event}
+use Rattle.disk_runs.specs.core_state.Steps.{state_after}
+use Rattle.disk_runs.specs.core_crash.Crashes.{image_of}
+use Rattle.disk_runs.proofs.core_crash_lemmas.Cuts.{keep_same}
+use Rattle.disk_runs.proofs.core_crash_lemmas.Images.{gathered_has}
+use Rattle.disk_runs.specs.disk_slots.declared.master.Master.{Master}
+use Rattle.disk_runs.specs.disk_image.Laws.{Agreement, EveryAgreement}
+use Rattle.disk_runs.specs.disk_image.Shown.{Areas, image_by}
+use Rattle.disk_runs.specs.core_disk.FloorLaws.{at_floor}
+use Rattle.disk_runs.specs.core_disk.Held.{HoldsRun}
+use Rattle.disk_runs.specs.core_disk.Shows.{EveryShown, Shows}
+use Rattle.disk_runs.proofs.core_disk_lemmas.FloorLemmas.{agreement_at, sound_at}
+use Rattle.disk_runs.proofs.core_disk_lemmas.HeldLemmas.{gathered_same}
 use Rattle.core_calls.specs.Crashes.{EveryRunCrash, RunSurvives, WithOneInHand}
 use Rattle.core_calls.specs.Deeds.{Outcome}
 use Rattle.core_calls.specs.Fronts.{Done, front, outcomes}

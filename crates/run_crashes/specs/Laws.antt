@@ -2,15 +2,15 @@
 -- and n the one that counts when the call begins.
 use Rattle.std.specs.Prelude.{◌≡◌, ℕ, Bool, true, false, List, [], ◌∷◌, ◌++◌, Some, None, IsTrue}
 use Rattle.map_model.specs.Outputs.{Reply}
-use Rattle.core_state.specs.Openings.{Opening}
-use Rattle.core_state.specs.Events.{Event}
-use Rattle.core_state.specs.Steps.{state_after}
+use Rattle.disk_runs.specs.core_state.Openings.{Opening}
+use Rattle.disk_runs.specs.core_state.Events.{Event}
+use Rattle.disk_runs.specs.core_state.Steps.{state_after}
 use Rattle.lean_disk.specs.Area.{Leaves}
 use Rattle.lean_disk.specs.Moments.{LeavesOnly}
 use Rattle.lean_disk.specs.Story.{Crash, Story, Tells}
-use Rattle.disk_slots.specs.declared.master.Master.{Master}
-use Rattle.disk_image.specs.Shown.{Areas}
-use Rattle.core_disk.specs.Held.{HoldsRun}
+use Rattle.disk_runs.specs.disk_slots.declared.master.Master.{Master}
+use Rattle.disk_runs.specs.disk_image.Shown.{Areas}
+use Rattle.disk_runs.specs.core_disk.Held.{HoldsRun}
 use Rattle.disk_runs.specs.Masters.{IsOfRunBy}
 use Rattle.disk_runs.specs.Stands.{Known, LeavesRun, Stands}
 use Rattle.core_calls.specs.Deeds.{commits}

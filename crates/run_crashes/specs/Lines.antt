@@ -4,15 +4,15 @@ use Rattle.map_model.specs.Lists.{Has}
 use Rattle.map_model.specs.Journals.{Name, Txn, Journal, IsClosed, Serial, after}
 use Rattle.map_model.specs.Laws.{IsFalling}
 use Rattle.map_model.specs.Outputs.{Reply, names}
-use Rattle.image_model.specs.Ends.{kept}
-use Rattle.image_model.specs.Entries.{Entry, is_commit}
-use Rattle.image_model.specs.Images.{found, won_by}
-use Rattle.core_state.specs.Openings.{Opening, first_map}
-use Rattle.core_state.specs.Events.{Event}
+use Rattle.disk_runs.specs.image_model.Ends.{kept}
+use Rattle.disk_runs.specs.image_model.Entries.{Entry, is_commit}
+use Rattle.disk_runs.specs.image_model.Images.{found, won_by}
+use Rattle.disk_runs.specs.core_state.Openings.{Opening, first_map}
+use Rattle.disk_runs.specs.core_state.Events.{Event}
 use Rattle.lean_disk.specs.Story.{Crash}
-use Rattle.disk_slots.specs.declared.master.Master.{Master}
-use Rattle.disk_image.specs.Shown.{Areas, DiskStandsFor, IsCleanDisk, image_by}
-use Rattle.core_disk.specs.Held.{HoldsRun}
+use Rattle.disk_runs.specs.disk_slots.declared.master.Master.{Master}
+use Rattle.disk_runs.specs.disk_image.Shown.{Areas, DiskStandsFor, IsCleanDisk, image_by}
+use Rattle.disk_runs.specs.core_disk.Held.{HoldsRun}
 use Rattle.disk_runs.specs.Fair.{IsFairFrom}
 use Rattle.disk_runs.specs.Masters.{IsOfRunBy}
 use Rattle.disk_runs.specs.Moments.{LeavesSome}

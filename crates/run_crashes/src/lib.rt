@@ -5,6 +5,7 @@
 
 ghost use Rattle.run_crashes.specs.Laws.{EveryCrashedLine, EveryLine, EveryPut, EveryReopened, EveryStop};
 
+use disk_runs::{core_disk, disk_image, worker_log};
 use lean_disk::Disk;
 
 /// What recovery gives from a disk that a crash left, in the words of the lines that were out.

@@ -5,12 +5,12 @@ use Rattle.std.proofs.lemmas.Option.{none-some, same_Some}
 use Rattle.map_model.specs.Lists.{Has}
 use Rattle.page_model.specs.Nodes.{free}
 use Rattle.page_model.specs.Page.{Page, new_page}
-use Rattle.image_model.specs.Entries.{Contents}
-use Rattle.image_model.specs.Slots.{is_older, newer_page, valid}
+use Rattle.disk_runs.specs.image_model.Entries.{Contents}
+use Rattle.disk_runs.specs.image_model.Slots.{is_older, newer_page, valid}
 use Rattle.lean_disk.specs.Area.{Write}
-use Rattle.disk_image.specs.Shown.{slot_of}
-use Rattle.page_store.specs.Bases.{YieldsTo, image_page}
-use Rattle.page_store.specs.Saved.{IsSpared, Save, write_of}
+use Rattle.disk_runs.specs.disk_image.Shown.{slot_of}
+use Rattle.disk_runs.specs.page_store.Bases.{YieldsTo, image_page}
+use Rattle.disk_runs.specs.page_store.Saved.{IsSpared, Save, write_of}
 use Rattle.disk_runs.specs.Pages.{Firm, Yields}
 use Rattle.disk_runs.proofs.PageLemmas.{first_alone, older_is, older_true, second_alone, slotted, valid_is}
 

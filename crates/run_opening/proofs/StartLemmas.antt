@@ -7,27 +7,27 @@ use Rattle.std.proofs.Math.Nat.{zero-mod}
 use Rattle.map_model.specs.Lists.{Has}
 use Rattle.page_model.specs.Nodes.{free}
 use Rattle.page_model.specs.Page.{Page, new_page}
-use Rattle.image_model.specs.Entries.{Contents, Entry}
-use Rattle.image_model.specs.Images.{Image, bases, recovered_page, sorted}
-use Rattle.core_state.specs.Openings.{Opening, start_page}
+use Rattle.disk_runs.specs.image_model.Entries.{Contents, Entry}
+use Rattle.disk_runs.specs.image_model.Images.{Image, bases, recovered_page, sorted}
+use Rattle.disk_runs.specs.core_state.Openings.{Opening, start_page}
 use Rattle.lean_disk.specs.Area.{Write}
 use Rattle.lean_disk.specs.Story.{Crash, Story, areas_of}
-use Rattle.disk_slots.specs.Masters.{IsMasterSlot, master_slot}
-use Rattle.disk_slots.specs.Pages.{page_slot}
-use Rattle.disk_slots.specs.declared.master.Master.{Master}
-use Rattle.disk_slots.proofs.LawLemmas.{every_master}
-use Rattle.disk_image.specs.Formats.{format_of}
-use Rattle.disk_image.specs.PageSlots.{page_in}
-use Rattle.disk_image.specs.Runs.{HasNone, sealed_in}
-use Rattle.disk_image.specs.Shown.{head_of, image_by, page_slot_in, slot_of}
-use Rattle.disk_image.proofs.MasterSlotLemmas.{every_master_in}
-use Rattle.disk_image.proofs.PageSlotLemmas.{every_page_in}
-use Rattle.page_store.specs.Bases.{image_page}
-use Rattle.page_store.specs.Saved.{Save, place_of, write_of}
-use Rattle.page_store.proofs.PieceLemmas.{same_page}
-use Rattle.master_store.proofs.SlotLemmas as slots
-use Rattle.worker_log.specs.Logs.{Log}
-use Rattle.worker_log.specs.Kept.{IsFresh}
+use Rattle.disk_runs.specs.disk_slots.Masters.{IsMasterSlot, master_slot}
+use Rattle.disk_runs.specs.disk_slots.Pages.{page_slot}
+use Rattle.disk_runs.specs.disk_slots.declared.master.Master.{Master}
+use Rattle.disk_runs.proofs.disk_slots_lemmas.LawLemmas.{every_master}
+use Rattle.disk_runs.specs.disk_image.Formats.{format_of}
+use Rattle.disk_runs.specs.disk_image.PageSlots.{page_in}
+use Rattle.disk_runs.specs.disk_image.Runs.{HasNone, sealed_in}
+use Rattle.disk_runs.specs.disk_image.Shown.{head_of, image_by, page_slot_in, slot_of}
+use Rattle.disk_runs.proofs.disk_image_lemmas.MasterSlotLemmas.{every_master_in}
+use Rattle.disk_runs.proofs.disk_image_lemmas.PageSlotLemmas.{every_page_in}
+use Rattle.disk_runs.specs.page_store.Bases.{image_page}
+use Rattle.disk_runs.specs.page_store.Saved.{Save, place_of, write_of}
+use Rattle.disk_runs.proofs.page_store_lemmas.PieceLemmas.{same_page}
+use Rattle.disk_runs.proofs.master_store_lemmas.SlotLemmas as slots
+use Rattle.disk_runs.specs.worker_log.Logs.{Log}
+use Rattle.disk_runs.specs.worker_log.Kept.{IsFresh}
 use Rattle.recovery.specs.Opened.{IsGreatest}
 use Rattle.recovery.specs.declared.opening.Recovered.{Recovered}
 use Rattle.disk_runs.specs.Fair.{IsAsRead}

@@ -1,12 +1,12 @@
 -- A run begins on a disk that recovery has opened: what recovery's clauses give, and the logs as they are made.
 use Rattle.std.specs.Prelude.{◌≡◌, ◌<◌, ◌≤◌, ℕ, suc, true, [], length, slice_index}
-use Rattle.core_state.specs.Openings.{Opening}
+use Rattle.disk_runs.specs.core_state.Openings.{Opening}
 use Rattle.lean_disk.specs.Area.{Area}
 use Rattle.lean_disk.specs.Story.{Crash, Story, areas_of}
-use Rattle.disk_slots.specs.declared.master.Master.{Master}
-use Rattle.disk_image.specs.Shown.{IsCleanDisk}
-use Rattle.worker_log.specs.Logs.{Log}
-use Rattle.worker_log.specs.Kept.{IsFresh, IsInRange, IsKept, fresh_account}
+use Rattle.disk_runs.specs.disk_slots.declared.master.Master.{Master}
+use Rattle.disk_runs.specs.disk_image.Shown.{IsCleanDisk}
+use Rattle.disk_runs.specs.worker_log.Logs.{Log}
+use Rattle.disk_runs.specs.worker_log.Kept.{IsFresh, IsInRange, IsKept, fresh_account}
 use Rattle.recovery.specs.Installed.{HasInstalled}
 use Rattle.recovery.specs.Opened.{IsOpened, IsRecovered, IsUntouched, IsWhole}
 use Rattle.recovery.specs.Starts.{IsStartOf}

@@ -7,12 +7,12 @@ use Rattle.map_model.specs.declared.call.Refusal.{Refusal}
 use Rattle.map_model.specs.declared.call.Refusal.TheVariants as refusal
 use Rattle.map_model.specs.Histories.{Step}
 use Rattle.map_model.specs.Lists.{any, keep, upd}
-use Rattle.core_state.specs.Events.{Event}
-use Rattle.core_state.specs.Local.{is_of}
-use Rattle.core_state.specs.Needs.{may}
-use Rattle.core_state.specs.Openings.{Opening}
-use Rattle.core_state.specs.States.{State, Worker}
-use Rattle.core_state.specs.Steps.{AllMet, begun, happens, run, state_after, step}
+use Rattle.core_crash.specs.core_state.Events.{Event}
+use Rattle.core_crash.specs.core_state.Local.{is_of}
+use Rattle.core_crash.specs.core_state.Needs.{may}
+use Rattle.core_crash.specs.core_state.Openings.{Opening}
+use Rattle.core_crash.specs.core_state.States.{State, Worker}
+use Rattle.core_crash.specs.core_state.Steps.{AllMet, begun, happens, run, state_after, step}
 use Rattle.core_calls.specs.Deeds.{Refused, Unsaid}
 use Rattle.core_calls.specs.Fronts.{Done, front, outcomes}
 use Rattle.core_calls.specs.LogEvents.{IsPressedYet, RefusedLogs, SyncsWhere, is_log}

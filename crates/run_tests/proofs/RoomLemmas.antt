@@ -8,8 +8,8 @@ use Rattle.map_model.specs.declared.call.Refusal.TheVariants as refusal
 use Rattle.map_model.specs.Lists.{Has, all, any}
 use Rattle.map_model.specs.Maps.{MapAnswer}
 use Rattle.map_model.specs.Pairings.{is_last, is_last_refusal, script_of}
-use Rattle.core_state.specs.Events.{Event, Mode}
-use Rattle.core_state.specs.Openings.{Opening}
+use Rattle.core_crash.specs.core_state.Events.{Event, Mode}
+use Rattle.core_crash.specs.core_state.Openings.{Opening}
 use Rattle.core_calls.specs.Deeds.{Deed, Met, Refused, answered, asked}
 use Rattle.core_calls.specs.Fronts.{Done, outcomes}
 use Rattle.core_calls.specs.Steps.{call_behind, due_call, hindered_in, is_conflict, is_structure}

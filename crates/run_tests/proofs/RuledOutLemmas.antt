@@ -12,21 +12,21 @@ use Rattle.map_model.specs.Maps.{Map, MapCall, write_of, writes_key}
 use Rattle.map_model.specs.Histories.{Step, first_of, last_write, write_or}
 use Rattle.map_model.specs.Journals.{Journal, Txn, after}
 use Rattle.map_model.proofs.ListLemmas.{any_has, keep_has}
-use Rattle.image_model.specs.Ends.{is_kept, reach, wins}
-use Rattle.image_model.specs.Entries.{Entry, is_commit}
-use Rattle.image_model.specs.Fair.{piece}
-use Rattle.image_model.specs.Images.{Image, found, map_of}
+use Rattle.core_crash.specs.image_model.Ends.{is_kept, reach, wins}
+use Rattle.core_crash.specs.image_model.Entries.{Entry, is_commit}
+use Rattle.core_crash.specs.image_model.Fair.{piece}
+use Rattle.core_crash.specs.image_model.Images.{Image, found, map_of}
 use Rattle.lean_disk.specs.Story.{Crash, Story, areas_of}
-use Rattle.disk_slots.specs.declared.master.Master.{Master}
+use Rattle.disk_image.specs.disk_slots.declared.master.Master.{Master}
 use Rattle.disk_image.specs.Laws.{EveryMasterIn}
 use Rattle.disk_image.specs.MasterSlots.{master_in, master_on, newer}
 use Rattle.disk_image.specs.Shown.{image_by}
 use Rattle.recovery.specs.Opened.{IsGreatest}
-use Rattle.core_state.specs.Openings.{Opening}
-use Rattle.core_state.specs.Events.{Event}
-use Rattle.core_state.specs.States.{State, Worker, start}
-use Rattle.core_state.specs.Steps.{begun, run, state_after}
-use Rattle.core_state.proofs.Runs.{run_more}
+use Rattle.core_crash.specs.core_state.Openings.{Opening}
+use Rattle.core_crash.specs.core_state.Events.{Event}
+use Rattle.core_crash.specs.core_state.States.{State, Worker, start}
+use Rattle.core_crash.specs.core_state.Steps.{begun, run, state_after}
+use Rattle.core_crash.proofs.core_state_lemmas.Runs.{run_more}
 use Rattle.core_calls.specs.Deeds.{Deed, Begun, Committed, Aborted, Refused, Unsaid, answered, asked, marks_for, marks_of, reads_of}
 use Rattle.core_calls.specs.Fronts.{Done, front, outcomes}
 use Rattle.core_calls.specs.LogEvents.{behind}

@@ -10,12 +10,12 @@ use Rattle.map_model.specs.declared.call.Call.TheVariants.{Commit}
 use Rattle.map_model.specs.declared.call.Refusal.{Refusal}
 use Rattle.map_model.specs.declared.call.Refusal.TheVariants.{Conflict}
 use Rattle.map_model.specs.Pairings.{in_turn, is_last, is_last_refusal, is_open_line, script_of}
-use Rattle.image_model.specs.Entries.{Entry}
-use Rattle.core_state.specs.Events.{Event}
-use Rattle.core_state.specs.Needs.{are_hot, following, holds_answer, is_following, is_leaf_of, needs}
-use Rattle.core_state.specs.Openings.{Opening}
-use Rattle.core_state.specs.States.{State}
-use Rattle.core_state.specs.Steps.{run, state_after}
+use Rattle.core_crash.specs.image_model.Entries.{Entry}
+use Rattle.core_crash.specs.core_state.Events.{Event}
+use Rattle.core_crash.specs.core_state.Needs.{are_hot, following, holds_answer, is_following, is_leaf_of, needs}
+use Rattle.core_crash.specs.core_state.Openings.{Opening}
+use Rattle.core_crash.specs.core_state.States.{State}
+use Rattle.core_crash.specs.core_state.Steps.{run, state_after}
 use Rattle.core_calls.specs.Deeds.{Deed, Met, Refused, answered}
 use Rattle.core_calls.specs.Scans.{is_scan}
 use Rattle.core_calls.specs.Steps.{hindered_in, is_conflict}

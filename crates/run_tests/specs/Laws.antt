@@ -5,7 +5,7 @@ use Rattle.lean_disk.specs.Story.{Crash, Story, areas_of}
 use Rattle.lean_disk.specs.Told.{Begins, BeginsAfter}
 use Rattle.lean_disk.specs.declared.mem_disk.MemDisk.{MemDisk}
 use Rattle.lean_edge.specs.Outside.{Feed, Held}
-use Rattle.disk_slots.specs.declared.master.Master.{Master}
+use Rattle.disk_image.specs.disk_slots.declared.master.Master.{Master}
 use Rattle.disk_image.specs.Fair.{IsFairCrash}
 use Rattle.disk_image.specs.Shown.{Areas, IsCleanDisk}
 use Rattle.paged_engine.specs.declared.opening.Size.{Size}

@@ -9,16 +9,16 @@ use Rattle.map_model.specs.Journals.{Journal, Name, Txn, Wrote}
 use Rattle.core_calls.specs.Deeds.{answered, asked}
 use Rattle.core_calls.specs.Fronts.{Done}
 use Rattle.core_calls.specs.Steps.{is_structure}
-use Rattle.image_model.specs.Entries.{Entry, is_commit}
-use Rattle.image_model.specs.Fair.{IsFair, after_writes}
-use Rattle.image_model.specs.Images.{found, map_of}
+use Rattle.core_crash.specs.image_model.Entries.{Entry, is_commit}
+use Rattle.core_crash.specs.image_model.Fair.{IsFair, after_writes}
+use Rattle.core_crash.specs.image_model.Images.{found, map_of}
 use Rattle.lean_disk.specs.Area.{Write}
 use Rattle.lean_disk.specs.Story.{Crash, Story, areas_of}
-use Rattle.disk_slots.specs.declared.master.Master.{Master}
+use Rattle.disk_image.specs.disk_slots.declared.master.Master.{Master}
 use Rattle.disk_image.specs.MasterSlots.{master_on}
 use Rattle.disk_image.specs.Shown.{Areas, image_by}
-use Rattle.core_state.specs.Openings.{Opening}
-use Rattle.core_state.specs.Events.{Event, Mode}
+use Rattle.core_crash.specs.core_state.Openings.{Opening}
+use Rattle.core_crash.specs.core_state.Events.{Event, Mode}
 use Rattle.call_parts.specs.Rooms.{is_paging, makes_sync}
 use Rattle.engine_front.specs.Turns.{IsHindered, IsScanning}
 use Rattle.recovery.specs.Opened.{IsGreatest}

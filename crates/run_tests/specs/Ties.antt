@@ -11,19 +11,19 @@ use Rattle.core_calls.specs.Deeds.{answered}
 use Rattle.core_calls.specs.Fronts.{Done, front}
 use Rattle.core_calls.specs.Steps.{hindered_in}
 use Rattle.core_crash.specs.Crashes.{log_of}
-use Rattle.core_state.specs.Events.{Event}
-use Rattle.core_state.specs.Needs.{holds_row, value_in}
-use Rattle.core_state.specs.Openings.{Opening}
-use Rattle.core_state.specs.States.{State}
-use Rattle.core_state.specs.Steps.{run, state_after}
+use Rattle.core_crash.specs.core_state.Events.{Event}
+use Rattle.core_crash.specs.core_state.Needs.{holds_row, value_in}
+use Rattle.core_crash.specs.core_state.Openings.{Opening}
+use Rattle.core_crash.specs.core_state.States.{State}
+use Rattle.core_crash.specs.core_state.Steps.{run, state_after}
 use Rattle.disk_image.specs.Runs.{Block, block_at}
 use Rattle.disk_image.specs.Shown.{IsCleanDisk}
-use Rattle.disk_slots.specs.declared.master.Master.{Master}
-use Rattle.image_model.specs.Entries.{Entry}
+use Rattle.disk_image.specs.disk_slots.declared.master.Master.{Master}
+use Rattle.core_crash.specs.image_model.Entries.{Entry}
 use Rattle.lean_disk.specs.Story.{Story, areas_of}
 use Rattle.lean_edge.specs.Outside.{Feed}
 use Rattle.paged_engine.specs.declared.opening.Size.{Size}
-use Rattle.log_record.specs.declared.record.Record.{Record}
+use Rattle.disk_image.specs.log_record.declared.record.Record.{Record}
 use Rattle.script_lang.specs.Text.{script_lines}
 use Rattle.script_run.specs.Runs.{works_on}
 use Rattle.script_run.specs.declared.stop.Stop.TheVariants as stops

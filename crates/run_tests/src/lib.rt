@@ -2,8 +2,8 @@
 #![tactic(auto)]
 
 ghost use Rattle.std.specs.Prelude.{codes};
-ghost use Rattle.disk_slots.specs.Slots as slots;
-ghost use Rattle.log_block.specs.Block as blocks;
+ghost use Rattle.disk_image.specs.disk_slots.Slots as slots;
+ghost use Rattle.disk_image.specs.log_block.Block as blocks;
 ghost use Rattle.run_tests.specs.Laws.{EveryNextRun};
 ghost use Rattle.run_tests.specs.RuledOut.{EveryDurableIsFound, EveryFirstBegin, EveryFirstCommit, EveryKeyStands, EveryOtherKeyStands, EveryReadIsFair, EveryStoppedCall};
 ghost use Rattle.run_tests.specs.Ties.{EveryConflictIsAborted, EveryFlushedIsLeft, EveryHandIsNext, EveryPairIsHeld, EveryUsedIsWritten};

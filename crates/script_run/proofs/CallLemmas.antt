@@ -10,10 +10,10 @@ use Rattle.map_model.specs.declared.call.Call.{Call}
 use Rattle.map_model.specs.declared.call.Answer.{Answer}
 use Rattle.map_model.specs.Lists.{any}
 use Rattle.map_model.specs.Outputs.{Reply}
-use Rattle.core_state.specs.Events.{Event}
-use Rattle.core_state.specs.Local.{is_sync}
-use Rattle.core_state.specs.Openings.{Opening}
-use Rattle.disk_slots.specs.declared.master.Master.{Master}
+use Rattle.disk_runs.specs.core_state.Events.{Event}
+use Rattle.disk_runs.specs.core_state.Local.{is_sync}
+use Rattle.disk_runs.specs.core_state.Openings.{Opening}
+use Rattle.disk_runs.specs.disk_slots.declared.master.Master.{Master}
 use Rattle.core_calls.specs.Fronts.{Done, front}
 use Rattle.core_calls.specs.Printed.{printed}
 use Rattle.disk_runs.specs.Masters.{IsOfRunBy}

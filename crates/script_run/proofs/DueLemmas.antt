@@ -10,9 +10,9 @@ use Rattle.map_model.specs.declared.call.Answer.{Answer}
 use Rattle.map_model.specs.Journals.{Name}
 use Rattle.map_model.specs.Outputs.{Reply}
 use Rattle.map_model.specs.Pairings.{is_last}
-use Rattle.core_state.specs.Events.{Event}
-use Rattle.core_state.specs.Openings.{Opening}
-use Rattle.core_state.specs.Steps.{state_after}
+use Rattle.disk_runs.specs.core_state.Events.{Event}
+use Rattle.disk_runs.specs.core_state.Openings.{Opening}
+use Rattle.disk_runs.specs.core_state.Steps.{state_after}
 use Rattle.core_calls.specs.Deeds.{answered}
 use Rattle.core_calls.specs.Durables.{due, durables, moments}
 use Rattle.core_calls.specs.Fronts.{front}

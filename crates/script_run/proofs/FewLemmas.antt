@@ -3,7 +3,7 @@ use Rattle.std.proofs.Common.{◌≡◌, ◌++◌, ◌∷◌, [], ◌≤◌, ◌
 use Rattle.std.proofs.lemmas.List.{append-nil, length-append}
 use Rattle.map_model.specs.Outputs.{Reply}
 use Rattle.map_model.specs.Pairings.{script_of}
-use Rattle.core_state.specs.Openings.{Opening}
+use Rattle.disk_runs.specs.core_state.Openings.{Opening}
 use Rattle.core_calls.specs.Durables.{durables, moments}
 use Rattle.core_calls.specs.Fronts.{Done}
 use Rattle.core_calls.specs.LineCounts.{EveryLineCount, LineCountLaws}

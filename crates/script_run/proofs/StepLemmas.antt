@@ -9,7 +9,7 @@ use Rattle.map_model.specs.declared.call.Call.{Call}
 use Rattle.map_model.specs.declared.call.Call.TheVariants as call
 use Rattle.map_model.specs.Journals.{Name}
 use Rattle.map_model.specs.Pairings.{is_last, is_open_line, script_of}
-use Rattle.core_state.specs.Openings.{Opening}
+use Rattle.disk_runs.specs.core_state.Openings.{Opening}
 use Rattle.core_calls.specs.Deeds.{answered, asked}
 use Rattle.core_calls.specs.Durables.{durables, moments}
 use Rattle.core_calls.specs.Fronts.{Done}

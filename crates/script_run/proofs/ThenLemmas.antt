@@ -9,13 +9,13 @@ use Rattle.map_model.specs.declared.call.Call.{Call}
 use Rattle.map_model.specs.declared.call.Answered.{Answered}
 use Rattle.map_model.specs.Journals.{Name}
 use Rattle.map_model.specs.Pairings.{is_open_line, script_of}
-use Rattle.core_state.specs.Openings.{Opening}
+use Rattle.disk_runs.specs.core_state.Openings.{Opening}
 use Rattle.core_calls.specs.Deeds.{in_words}
 use Rattle.core_calls.specs.Fronts.{Done, front}
 use Rattle.core_calls.specs.Crashes.{EveryRunCrash}
-use Rattle.core_disk.specs.Shows.{EveryShown}
-use Rattle.disk_image.specs.Laws.{EveryAgreement}
-use Rattle.disk_slots.specs.declared.master.Master.{Master}
+use Rattle.disk_runs.specs.core_disk.Shows.{EveryShown}
+use Rattle.disk_runs.specs.disk_image.Laws.{EveryAgreement}
+use Rattle.disk_runs.specs.disk_slots.declared.master.Master.{Master}
 use Rattle.disk_runs.specs.Stands.{Known}
 use Rattle.disk_runs.proofs.LineLemmas.{every_master_line}
 use Rattle.run_crashes.specs.Lines.{NoneStopped}

@@ -5,21 +5,21 @@ use Rattle.map_model.specs.declared.call.Answer.TheVariants as answer
 use Rattle.map_model.specs.Journals.{Name}
 use Rattle.map_model.specs.Outputs.{Reply}
 use Rattle.map_model.specs.Pairings.{is_last, is_open_line, script_of}
-use Rattle.core_state.specs.Openings.{Opening}
+use Rattle.disk_runs.specs.core_state.Openings.{Opening}
 use Rattle.lean_edge.specs.Outside.{Feed, Held}
 use Rattle.lean_disk.specs.Area.{Leaves}
 use Rattle.lean_disk.specs.Moments.{LeavesOnly}
 use Rattle.lean_disk.specs.Story.{Crash, Story, Tells}
-use Rattle.disk_slots.specs.declared.master.Master.{Master}
-use Rattle.disk_image.specs.Laws.{EveryAgreement, EverySealed}
-use Rattle.worker_log.specs.Laws.{EveryKept, EveryPrefix}
+use Rattle.disk_runs.specs.disk_slots.declared.master.Master.{Master}
+use Rattle.disk_runs.specs.disk_image.Laws.{EveryAgreement, EverySealed}
+use Rattle.disk_runs.specs.worker_log.Laws.{EveryKept, EveryPrefix}
 use Rattle.core_calls.specs.Crashes.{EveryRunCrash}
 use Rattle.core_calls.specs.Deeds.{answered, asked}
 use Rattle.core_calls.specs.Durables.{durables, moments}
 use Rattle.core_calls.specs.Fronts.{Done, front}
 use Rattle.core_calls.specs.Printed.{durable_lines, printed}
 use Rattle.core_calls.specs.Steps.{hindered_in}
-use Rattle.core_disk.specs.Shows.{EveryShown}
+use Rattle.disk_runs.specs.core_disk.Shows.{EveryShown}
 use Rattle.disk_runs.specs.Masters.{IsOfRunBy}
 use Rattle.disk_runs.specs.Stands.{Known}
 use Rattle.engine_calls.specs.Clauses.{Between}

@@ -1,7 +1,7 @@
 // What is printed of a call.
 ghost use Rattle.std.specs.Prelude.{◌≡◌, ◌<◌, ◌^◌, ◌∷◌, ◌++◌, List, None, Some, true, false};
-ghost use Rattle.core_state.specs.Openings.{Opening};
-ghost use Rattle.core_state.specs.Steps.{state_after};
+ghost use Rattle.disk_runs.specs.core_state.Openings.{Opening};
+ghost use Rattle.disk_runs.specs.core_state.Steps.{state_after};
 ghost use Rattle.core_calls.specs.Deeds.{answered};
 ghost use Rattle.core_calls.specs.Durables.{due, durables, moments};
 ghost use Rattle.core_calls.specs.Fronts.{Done, front};

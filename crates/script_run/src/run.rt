@@ -1,6 +1,6 @@
 // Line by line: read, asked, printed.
 ghost use Rattle.std.specs.Prelude.{◌≡◌, ◌↔◌, ◌≤◌, ◌+◌, ◌^◌, ◌++◌, ◌∷◌, ◌<◌, ◌-◌, ℕ, true, false, List, Some, None, Err, IfOk, IfErr, IsErr};
-ghost use Rattle.core_state.specs.Openings.{Opening};
+ghost use Rattle.disk_runs.specs.core_state.Openings.{Opening};
 ghost use Rattle.core_calls.specs.Deeds.{asked};
 ghost use Rattle.core_calls.specs.Durables.{durables, moments};
 ghost use Rattle.core_calls.specs.Fronts.{Done};
@@ -23,6 +23,7 @@ ghost use Rattle.script_run.specs.Inside.{AnsweredTo, AnswersRun, IsNewest, IsOf
 use crate::lines::{LINES, next_call};
 use crate::replies::{has_line, put_answer};
 use crate::stop::Stop;
+use disk_runs::{core_disk, disk_image, worker_log};
 use engine_front::calls::{Calls, Unanswered};
 use lean_disk::Disk;
 use lean_edge::{Sink, Source};

@@ -1,7 +1,7 @@
 -- The parts of an engine behind a call of the session in the store.
 use Rattle.std.proofs.Common.{◌≡◌, ◌⊎◌, inl, inr, ◌≤◌, ◌<◌, ℕ, Bool, true, false, List, replicate, refl, sym, ap, ◌∙◌, subst, arith}
 use Rattle.std.proofs.lemmas.Bool.{cases_eq}
-use Rattle.disk_slots.specs.declared.master.Master.{Master}
+use Rattle.disk_runs.specs.disk_slots.declared.master.Master.{Master}
 use Rattle.rows_trait.specs.Plain.{sizes}
 use Rattle.rows_trait.specs.Rule.{IsPicture, plan}
 use Rattle.rows_trait.specs.Views.{Shape}

@@ -3,18 +3,18 @@ use Rattle.std.proofs.Common.{◌≡◌, ◌≤◌, ◌<◌, ◌+◌, ◌^◌, �
 use Rattle.std.proofs.lemmas.Bool.{and_from, and_parts, cases_eq, cases_lt, ltb-true}
 use Rattle.map_model.specs.Lists.{Has}
 use Rattle.map_model.proofs.ListLemmas.{any_has}
-use Rattle.image_model.specs.Entries.{Entry, is_record}
-use Rattle.core_state.specs.Lists.{most}
-use Rattle.core_state.specs.States.{State, flushed_by_all, start}
-use Rattle.core_state.specs.Events as happening
-use Rattle.core_state.specs.Needs.{is_behind, may}
-use Rattle.core_commit.proofs.Controls.{le_most}
-use Rattle.core_commit.proofs.History.{IsRecorded}
-use Rattle.core_commit.proofs.Lists.{Within}
-use Rattle.core_commit.proofs.Runs.{Good, good_run, good_start}
+use Rattle.rows_trait.specs.image_model.Entries.{Entry, is_record}
+use Rattle.rows_trait.specs.core_state.Lists.{most}
+use Rattle.rows_trait.specs.core_state.States.{State, flushed_by_all, start}
+use Rattle.rows_trait.specs.core_state.Events as happening
+use Rattle.rows_trait.specs.core_state.Needs.{is_behind, may}
+use Rattle.disk_runs.proofs.core_commit_lemmas.Controls.{le_most}
+use Rattle.disk_runs.proofs.core_commit_lemmas.History.{IsRecorded}
+use Rattle.disk_runs.proofs.core_commit_lemmas.Lists.{Within}
+use Rattle.disk_runs.proofs.core_commit_lemmas.Runs.{Good, good_run, good_start}
 use Rattle.row_opening.specs.Openings.{EveryReached}
-use Rattle.row_words.specs.Moments.{events_of}
-use Rattle.row_words.specs.Openings.{opening}
+use Rattle.rows_trait.specs.row_words.Moments.{events_of}
+use Rattle.rows_trait.specs.row_words.Openings.{opening}
 use Rattle.rows_trait.specs.declared.view.View.{View}
 use Rattle.rows_trait.specs.Views.{Shape, state}
 use Rattle.session_state.specs.Numbers.{AreClocksLow, AreNumbered}

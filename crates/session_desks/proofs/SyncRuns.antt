@@ -2,24 +2,24 @@
 use Rattle.std.proofs.Common.{◌≡◌, ◌≤◌, ◌<◌, ◌⊎◌, inl, inr, ◌++◌, ◌+◌, ◌^◌, ℕ, suc, Bool, true, List, [], ◌∷◌, IsTrue, refl, sym, ap, ◌∙◌, subst, arith, true≢false}
 use Rattle.std.proofs.lemmas.Bool.{cases_eq}
 use Rattle.std.proofs.lemmas.List.{append_assoc}
-use Rattle.core_state.specs.Openings.{Opening}
-use Rattle.core_state.specs.Events.{Event}
-use Rattle.core_state.specs.Needs.{may}
-use Rattle.core_state.specs.States.{flushed_by_all}
-use Rattle.core_state.specs.Steps.{state_after}
+use Rattle.rows_trait.specs.core_state.Openings.{Opening}
+use Rattle.rows_trait.specs.core_state.Events.{Event}
+use Rattle.rows_trait.specs.core_state.Needs.{may}
+use Rattle.rows_trait.specs.core_state.States.{flushed_by_all}
+use Rattle.rows_trait.specs.core_state.Steps.{state_after}
 use Rattle.core_calls.specs.Fronts.{Done, front}
 use Rattle.lean_disk.specs.Area.{Leaves}
 use Rattle.lean_disk.specs.Moments.{CrashIn, Framed, LeavesOnly}
 use Rattle.lean_disk.specs.Story.{Crash, IsLawful, Story}
 use Rattle.lean_disk.proofs.MomentLemmas.{started, weaker}
 use Rattle.lean_disk.proofs.MomentLemmas as moments
-use Rattle.disk_image.specs.Laws.{EverySealed}
-use Rattle.disk_slots.specs.Masters.{IsMaster}
-use Rattle.disk_slots.specs.declared.master.Master.{Master}
-use Rattle.core_disk.specs.Versions.{EveryVersion}
+use Rattle.disk_runs.specs.disk_image.Laws.{EverySealed}
+use Rattle.disk_runs.specs.disk_slots.Masters.{IsMaster}
+use Rattle.disk_runs.specs.disk_slots.declared.master.Master.{Master}
+use Rattle.disk_runs.specs.core_disk.Versions.{EveryVersion}
 use Rattle.disk_runs.specs.MasterLaws.{IsAllSynced, IsSync, raised, with_sync}
 use Rattle.disk_runs.specs.Masters.{IsNextOf, IsNoEarlier, slot_of}
-use Rattle.image_model.specs.Fair.{piece}
+use Rattle.rows_trait.specs.image_model.Fair.{piece}
 use Rattle.disk_runs.specs.Moments.{LeavesSome}
 use Rattle.disk_runs.specs.Stands.{Known, Stands}
 use Rattle.disk_runs.proofs.LineLemmas.{same}
@@ -28,8 +28,8 @@ use Rattle.disk_runs.proofs.MasterLemmas.{is_slot}
 use Rattle.disk_runs.proofs.MomentLemmas.{every_moment, none_yet}
 use Rattle.disk_runs.proofs.NextLemmas.{every_still_sync}
 use Rattle.disk_runs.proofs.StandLemmas.{every_rest}
-use Rattle.worker_log.specs.Laws.{EveryKept, EveryPrefix}
-use Rattle.worker_log.specs.Logs.{Log}
+use Rattle.disk_runs.specs.worker_log.Laws.{EveryKept, EveryPrefix}
+use Rattle.disk_runs.specs.worker_log.Logs.{Log}
 use Rattle.log_calls.specs.Calls.{Anything, IsLog, KeepsWithin}
 use Rattle.log_calls.specs.Syncs.{KeepsEither, SyncsOn}
 use Rattle.log_calls.specs.Wholes.{EndsInRecord, FlushesWhole, IsWhole, flush_of}

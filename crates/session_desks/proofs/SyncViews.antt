@@ -3,20 +3,20 @@ use Rattle.std.proofs.Common.{◌≡◌, ◌≤◌, ◌<◌, ◌⊎◌, inl, inr
 use Rattle.std.proofs.lemmas.Bool.{cases_eq}
 use Rattle.std.proofs.lemmas.List.{append_assoc, length-append}
 use Rattle.map_model.specs.Lists.{Has}
-use Rattle.core_state.specs.Openings.{Opening}
-use Rattle.core_state.specs.States as core
-use Rattle.core_state.specs.States.{start}
-use Rattle.core_state.specs.Events as happening
-use Rattle.core_state.specs.Needs.{may}
-use Rattle.core_state.specs.Steps.{AllMet, happens, state_after}
-use Rattle.core_state.specs.Steps as steps
-use Rattle.core_state.proofs.Runs.{run_more}
+use Rattle.rows_trait.specs.core_state.Openings.{Opening}
+use Rattle.rows_trait.specs.core_state.States as core
+use Rattle.rows_trait.specs.core_state.States.{start}
+use Rattle.rows_trait.specs.core_state.Events as happening
+use Rattle.rows_trait.specs.core_state.Needs.{may}
+use Rattle.rows_trait.specs.core_state.Steps.{AllMet, happens, state_after}
+use Rattle.rows_trait.specs.core_state.Steps as steps
+use Rattle.rows_trait.proofs.core_state_lemmas.Runs.{run_more}
 use Rattle.core_calls.specs.Fronts.{Done, front}
 use Rattle.core_calls.specs.LogEvents.{AreFlushes}
 use Rattle.lean_disk.specs.Story.{Crash, IsLawful, Story}
-use Rattle.core_disk.specs.Versions.{EveryVersion}
-use Rattle.disk_image.specs.Laws.{EverySealed}
-use Rattle.disk_slots.specs.declared.master.Master.{Master}
+use Rattle.disk_runs.specs.core_disk.Versions.{EveryVersion}
+use Rattle.disk_runs.specs.disk_image.Laws.{EverySealed}
+use Rattle.disk_runs.specs.disk_slots.declared.master.Master.{Master}
 use Rattle.disk_runs.specs.Stands.{Known}
 use Rattle.log_calls.specs.Wholes.{EndsInRecord, flush_of}
 use Rattle.engine_calls.specs.Parts.{behind_first}
@@ -24,17 +24,17 @@ use Rattle.engine_calls.proofs.MarkLemmas.{met_join}
 use Rattle.engine_trait.specs.Areas.{Around}
 use Rattle.engine_trait.specs.Logs.{Logs}
 use Rattle.row_opening.specs.Openings.{EveryNeed, EveryReached, Opens}
-use Rattle.row_words.specs.declared.event.Event.{Event}
-use Rattle.row_words.specs.declared.event.Event.TheVariants as told
-use Rattle.row_words.specs.declared.given.Given.{Given}
-use Rattle.row_words.specs.Moments.{Moment, event_of, events_of}
-use Rattle.row_words.specs.Openings.{opening}
-use Rattle.row_words.specs.Sealed.{run, stepped}
+use Rattle.rows_trait.specs.row_words.declared.event.Event.{Event}
+use Rattle.rows_trait.specs.row_words.declared.event.Event.TheVariants as told
+use Rattle.rows_trait.specs.row_words.declared.given.Given.{Given}
+use Rattle.rows_trait.specs.row_words.Moments.{Moment, event_of, events_of}
+use Rattle.rows_trait.specs.row_words.Openings.{opening}
+use Rattle.rows_trait.specs.row_words.Sealed.{run, stepped}
 use Rattle.rows_trait.specs.declared.view.View.{View}
 use Rattle.rows_trait.specs.Views.{state}
-use Rattle.worker_log.specs.Calls.{flushed_log}
-use Rattle.worker_log.specs.Laws.{EveryKept, EveryPrefix}
-use Rattle.worker_log.specs.Logs.{Log}
+use Rattle.disk_runs.specs.worker_log.Calls.{flushed_log}
+use Rattle.disk_runs.specs.worker_log.Laws.{EveryKept, EveryPrefix}
+use Rattle.disk_runs.specs.worker_log.Logs.{Log}
 use Rattle.session_state.specs.Ties.{Behind}
 use Rattle.session_state.specs.Staging.{KeepsLog}
 use Rattle.session_state.specs.Syncs.{HasNoneBehind, flushed_of, flushes_of}

@@ -1,16 +1,16 @@
 -- A whole sync as one part of a call: its flushes, and then the sync, behind a master that was written or not.
 use Rattle.std.proofs.Common.{◌≡◌, ◌≤◌, ◌<◌, inl, inr, ◌++◌, ℕ, suc, true, List, [], ◌∷◌, length, refl, sym, ap, ◌∙◌, subst, arith}
 use Rattle.std.proofs.lemmas.List.{append_assoc, length-append}
-use Rattle.core_state.specs.Openings.{Opening}
-use Rattle.core_state.specs.States as core
-use Rattle.core_state.specs.States.{flushed_by_all}
-use Rattle.core_state.specs.Events as happening
-use Rattle.core_state.specs.Needs.{may}
-use Rattle.core_state.specs.Steps.{AllMet, state_after}
+use Rattle.rows_trait.specs.core_state.Openings.{Opening}
+use Rattle.rows_trait.specs.core_state.States as core
+use Rattle.rows_trait.specs.core_state.States.{flushed_by_all}
+use Rattle.rows_trait.specs.core_state.Events as happening
+use Rattle.rows_trait.specs.core_state.Needs.{may}
+use Rattle.rows_trait.specs.core_state.Steps.{AllMet, state_after}
 use Rattle.core_calls.specs.Fronts.{Done, front}
-use Rattle.core_commit.proofs.Lists.{le_least}
-use Rattle.core_disk.specs.Versions.{EveryVersion}
-use Rattle.disk_image.specs.Laws.{EverySealed}
+use Rattle.disk_runs.proofs.core_commit_lemmas.Lists.{le_least}
+use Rattle.disk_runs.specs.core_disk.Versions.{EveryVersion}
+use Rattle.disk_runs.specs.disk_image.Laws.{EverySealed}
 use Rattle.disk_runs.specs.MasterLaws.{IsAllSynced, raised}
 use Rattle.disk_runs.specs.Masters.{IsNoEarlier}
 use Rattle.disk_runs.specs.Stands.{Known}
@@ -20,12 +20,12 @@ use Rattle.engine_trait.specs.Areas.{Around}
 use Rattle.engine_trait.specs.Calls.{Memory}
 use Rattle.engine_trait.specs.Logs.{Logs}
 use Rattle.row_opening.specs.Openings.{EveryNeed, EveryReached}
-use Rattle.row_words.specs.declared.event.Event.TheVariants as told
-use Rattle.row_words.specs.Moments.{events_of}
+use Rattle.rows_trait.specs.row_words.declared.event.Event.TheVariants as told
+use Rattle.rows_trait.specs.row_words.Moments.{events_of}
 use Rattle.rows_trait.specs.declared.view.View.{View}
 use Rattle.rows_trait.specs.Views.{state}
-use Rattle.worker_log.specs.Laws.{EveryKept, EveryPrefix}
-use Rattle.worker_log.specs.Logs.{Log}
+use Rattle.disk_runs.specs.worker_log.Laws.{EveryKept, EveryPrefix}
+use Rattle.disk_runs.specs.worker_log.Logs.{Log}
 use Rattle.session_state.specs.Ties.{Behind}
 use Rattle.session_state.specs.Syncs.{HasSynced}
 use Rattle.session_desks.specs.Runs.{Breaks, Goes, GoesFlushed, IsAt, memory_with}

@@ -5,7 +5,7 @@ use Rattle.engine_trait.specs.Calls.{Memory}
 use Rattle.rows_trait.specs.Plain.{sizes}
 use Rattle.rows_trait.specs.Rule.{IsPicture, plan}
 use Rattle.rows_trait.specs.Views.{Shape, state}
-use Rattle.worker_log.specs.Logs.{Log}
+use Rattle.disk_runs.specs.worker_log.Logs.{Log}
 use Rattle.session_state.specs.Opened.{plain_shape}
 use Rattle.session_state.specs.declared.work.Work.{Work}
 use Rattle.session_desks.specs.Desks.{AreSeated, Turned, log_of}

@@ -1,11 +1,11 @@
 -- A part of a call in each run, from wherever the call has come to: how the disk goes on, and what is in memory of it then.
 use Rattle.std.specs.Prelude.{◌≡◌, ◌≤◌, ◌<◌, ◌++◌, ℕ, true, List}
-use Rattle.core_state.specs.Openings.{Opening}
-use Rattle.core_state.specs.Events.{Event}
+use Rattle.rows_trait.specs.core_state.Openings.{Opening}
+use Rattle.rows_trait.specs.core_state.Events.{Event}
 use Rattle.core_calls.specs.Fronts.{Done, front}
 use Rattle.lean_disk.specs.Moments.{LeavesOnly}
 use Rattle.lean_disk.specs.Story.{Crash, Story}
-use Rattle.disk_slots.specs.declared.master.Master.{Master}
+use Rattle.disk_runs.specs.disk_slots.declared.master.Master.{Master}
 use Rattle.disk_runs.specs.MasterLaws.{IsAllSynced}
 use Rattle.disk_runs.specs.Stands.{Known, Stands}
 use Rattle.engine_calls.specs.Moves.{Moved}
@@ -13,7 +13,7 @@ use Rattle.engine_calls.specs.Parts.{Passes}
 use Rattle.engine_trait.specs.Areas.{Beside}
 use Rattle.engine_trait.specs.Calls.{IsOf, Memory}
 use Rattle.rows_trait.specs.declared.view.View.{View}
-use Rattle.worker_log.specs.Logs.{Log}
+use Rattle.disk_runs.specs.worker_log.Logs.{Log}
 use Rattle.session_state.specs.Ties.{Behind}
 
 -- these logs, and the master that counts

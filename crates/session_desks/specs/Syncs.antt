@@ -1,16 +1,16 @@
 -- How a sync goes on: it flushes the log of one session after another, and then writes the next master; and what that comes to.
 use Rattle.std.specs.Prelude.{◌≡◌, ◌⊎◌, ◌≤◌, ◌<◌, ◌+◌, ◌^◌, ◌++◌, ◌&&◌, ◌||◌, ◌==◌, max, ℕ, suc, Bool, true, false, List, [], ◌∷◌, get_or, length}
 use Rattle.map_model.specs.Lists.{all, any}
-use Rattle.core_state.specs.Events as happening
-use Rattle.core_state.specs.Needs.{may}
-use Rattle.core_state.specs.Openings.{Opening}
-use Rattle.core_state.specs.States as core
-use Rattle.core_state.specs.Steps.{AllMet, state_after}
+use Rattle.rows_trait.specs.core_state.Events as happening
+use Rattle.rows_trait.specs.core_state.Needs.{may}
+use Rattle.rows_trait.specs.core_state.Openings.{Opening}
+use Rattle.rows_trait.specs.core_state.States as core
+use Rattle.rows_trait.specs.core_state.Steps.{AllMet, state_after}
 use Rattle.core_calls.specs.Fronts.{Done, front}
 use Rattle.core_calls.specs.LogEvents.{AreFlushes, IsSync}
 use Rattle.lean_disk.specs.Moments.{CrashIn, Framed, LeavesOnly}
 use Rattle.lean_disk.specs.Story.{Story}
-use Rattle.disk_slots.specs.declared.master.Master.{Master}
+use Rattle.disk_runs.specs.disk_slots.declared.master.Master.{Master}
 use Rattle.disk_runs.specs.MasterLaws.{raised}
 use Rattle.disk_runs.specs.Masters.{IsNoEarlier}
 use Rattle.log_calls.specs.Calls.{Anything}
@@ -20,13 +20,13 @@ use Rattle.engine_trait.specs.Areas.{Around}
 use Rattle.engine_trait.specs.Calls.{Memory}
 use Rattle.engine_trait.specs.Logs.{Logs}
 use Rattle.row_opening.specs.Openings.{Opens}
-use Rattle.row_words.specs.declared.event.Event as told
-use Rattle.row_words.specs.declared.given.Given.{Given}
-use Rattle.row_words.specs.Moments.{events_of}
-use Rattle.row_words.specs.Openings.{opening}
+use Rattle.rows_trait.specs.row_words.declared.event.Event as told
+use Rattle.rows_trait.specs.row_words.declared.given.Given.{Given}
+use Rattle.rows_trait.specs.row_words.Moments.{events_of}
+use Rattle.rows_trait.specs.row_words.Openings.{opening}
 use Rattle.rows_trait.specs.declared.view.View.{View}
 use Rattle.rows_trait.specs.Views.{state}
-use Rattle.worker_log.specs.Logs.{Log}
+use Rattle.disk_runs.specs.worker_log.Logs.{Log}
 use Rattle.session_state.specs.Ties.{Behind}
 use Rattle.session_state.specs.Syncs.{HasSynced, MayFlush, finds_room, flushed_of, flushes_of, synced_session}
 use Rattle.session_desks.specs.Desks.{desk_of}

@@ -3,9 +3,9 @@ ghost use Rattle.std.specs.Prelude.{◌≡◌, ◌≤◌, ◌<◌};
 ghost use Rattle.session_desks.specs.Desks.{AreSeated, Turned};
 ghost use Rattle.session_desks.specs.Parts.{in_store};
 
+use disk_runs::worker_log::WorkerLog;
 use session_state::{Session, Work};
 use std::mem::swap;
-use worker_log::WorkerLog;
 
 /// A session and its log.
 #[derive(Drop)]

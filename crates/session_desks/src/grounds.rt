@@ -1,8 +1,10 @@
 // What the calls of a machine stand on.
-ghost use Rattle.core_disk.specs.Versions.{EveryVersion};
-ghost use Rattle.worker_log.specs.Laws.{EveryKept, EveryPrefix};
-ghost use Rattle.disk_image.specs.Laws.{EverySealed};
+ghost use Rattle.disk_runs.specs.core_disk.Versions.{EveryVersion};
+ghost use Rattle.disk_runs.specs.worker_log.Laws.{EveryKept, EveryPrefix};
+ghost use Rattle.disk_runs.specs.disk_image.Laws.{EverySealed};
 ghost use Rattle.row_opening.specs.Openings.{EveryNeed, EveryReached};
+
+use disk_runs::{core_disk, disk_image, worker_log};
 
 /// The laws of versions, logs, seals and openings.
 pub fn laws()

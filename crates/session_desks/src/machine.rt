@@ -3,7 +3,7 @@ ghost use Rattle.std.specs.Prelude.{◌≡◌, ◌≤◌, ◌<◌};
 ghost use Rattle.session_desks.specs.Parts.{HasTurned, IsSound, Works};
 
 use crate::desk::{Desk, turn_to};
-use disk_slots::Master;
+use disk_runs::disk_slots::Master;
 use key_locks::latches::Latches;
 use rows_trait::plain::PlainRows;
 use rows_trait::trace::Trace;

@@ -15,11 +15,11 @@ ghost use Rattle.session_desks.specs.Syncs.{AreRaised, HasOpening, IsWriting, Is
 use crate::desk::Desk;
 use crate::grounds::laws;
 use crate::machine::Machine;
-use disk_slots::{Heads, Master};
+use disk_runs::disk_slots::{Heads, Master};
+use disk_runs::worker_log::{DiskFault, WorkerLog};
 use lean_disk::{Did, Disk};
 use log_calls::sync_master;
 use session_state::{Session, Stages, clocks_low, flush_own, may_flush, store_synced};
-use worker_log::{DiskFault, WorkerLog};
 
 // The greater of two numbers.
 fn greater(a: u64, b: u64) -> u64

@@ -1,12 +1,12 @@
 -- No entry has a number above its worker's clock.
 use Rattle.std.proofs.Common.{◌≤◌, ◌++◌, refl, sym, subst}
 use Rattle.map_model.specs.Lists.{Has}
-use Rattle.image_model.specs.Entries.{Entry}
-use Rattle.core_state.specs.Openings.{Opening}
-use Rattle.core_state.specs.States.{State, start}
-use Rattle.core_commit.proofs.Runs.{good_run, good_start}
-use Rattle.row_words.specs.declared.given.Given.{Given}
-use Rattle.row_words.specs.Moments.{events_of}
+use Rattle.btree_descent.specs.image_model.Entries.{Entry}
+use Rattle.btree_descent.specs.core_state.Openings.{Opening}
+use Rattle.btree_descent.specs.core_state.States.{State, start}
+use Rattle.btree_descent.proofs.core_commit_lemmas.Runs.{good_run, good_start}
+use Rattle.btree_descent.specs.row_words.declared.given.Given.{Given}
+use Rattle.btree_descent.specs.row_words.Moments.{events_of}
 use Rattle.row_opening.specs.Openings.{EveryReached, Opens}
 use Rattle.session_state.specs.Numbers.{AreClocked}
 

@@ -4,7 +4,7 @@ use Rattle.std.proofs.lemmas.Bool.{cases_eq, cases_lt, eqb-true}
 use Rattle.std.proofs.lemmas.List.{drop_all, drop_more, get_or-replicate, get_or_default, get_or_past, length-append, length-replicate, length-set}
 use Rattle.map_model.specs.Lists.{Has}
 use Rattle.map_model.proofs.ListLemmas.{any_has, has_any, has_cases, has_left, has_right}
-use Rattle.core_state.specs.Needs.{is_reader}
+use Rattle.btree_descent.specs.core_state.Needs.{is_reader}
 use Rattle.session_state.specs.Held.{AreMarked, Held, count_of, with_row}
 
 -- ## How many stand

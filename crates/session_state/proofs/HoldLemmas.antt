@@ -1,11 +1,11 @@
 -- What is so between two calls, where rows, views and sessions are the same.
 use Rattle.std.proofs.Common.{◌≡◌, ◌≤◌, ℕ, sym, ap, ◌∙◌, subst}
-use Rattle.row_words.specs.Openings.{opening}
-use Rattle.rows_trait.specs.declared.view.View.{View}
-use Rattle.rows_trait.specs.Views.{Shape}
+use Rattle.btree_descent.specs.row_words.Openings.{opening}
+use Rattle.btree_descent.specs.rows_trait.declared.view.View.{View}
+use Rattle.btree_descent.specs.rows_trait.Views.{Shape}
 use Rattle.btree_descent.specs.Known as pages
 use Rattle.key_locks.specs.Rows as locking
-use Rattle.worker_log.specs.Logs.{Log}
+use Rattle.disk_runs.specs.worker_log.Logs.{Log}
 use Rattle.session_state.specs.Holds.{AreRows, Holds}
 use Rattle.session_state.specs.Numbers.{AreClocked, AreNumbered}
 use Rattle.session_state.specs.declared.session.Session.{Session}

@@ -1,18 +1,18 @@
 -- What the seat sees where nobody else steps, and what it is in a run.
 use Rattle.std.proofs.Common.{◌≡◌, ◌≤◌, ◌<◌, ℕ, true, List, [], ◌∷◌, ◌++◌, refl, sym, ap, subst, ◌∙◌, append-nil}
-use Rattle.core_state.specs.Needs.{may}
+use Rattle.btree_descent.specs.core_state.Needs.{may}
 use Rattle.core_calls.specs.Room.{free_list, frees_from}
-use Rattle.core_state.specs.Steps.{happens}
-use Rattle.row_words.specs.declared.event.Event.{Event}
-use Rattle.row_words.specs.declared.given.Given.{Given}
-use Rattle.row_words.specs.Moments.{Moment, event_of, events_of}
-use Rattle.row_words.specs.Openings.{opening}
-use Rattle.row_words.specs.Sealed.{begun, run, stepped}
-use Rattle.row_words.proofs.SealedLemmas.{run_append}
-use Rattle.rows_trait.specs.declared.view.View.{View}
-use Rattle.rows_trait.specs.Views.{Shape, after_all, may as plays, state}
-use Rattle.rows_trait.specs.Turns.{Goes}
-use Rattle.lean_proto.specs.Paging.{IsResident}
+use Rattle.btree_descent.specs.core_state.Steps.{happens}
+use Rattle.btree_descent.specs.row_words.declared.event.Event.{Event}
+use Rattle.btree_descent.specs.row_words.declared.given.Given.{Given}
+use Rattle.btree_descent.specs.row_words.Moments.{Moment, event_of, events_of}
+use Rattle.btree_descent.specs.row_words.Openings.{opening}
+use Rattle.btree_descent.specs.row_words.Sealed.{begun, run, stepped}
+use Rattle.btree_descent.proofs.row_words_lemmas.SealedLemmas.{run_append}
+use Rattle.btree_descent.specs.rows_trait.declared.view.View.{View}
+use Rattle.btree_descent.specs.rows_trait.Views.{Shape, after_all, may as plays, state}
+use Rattle.btree_descent.specs.rows_trait.Turns.{Goes}
+use Rattle.btree_descent.specs.lean_proto.Paging.{IsResident}
 
 -- a seat acts for everyone
 pub acts : (z : Shape) (v : View) (w : ℕ) → z.alone ≡ true → plays z.alone v w ≡ true

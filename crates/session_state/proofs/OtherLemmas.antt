@@ -5,29 +5,29 @@ use Rattle.std.proofs.lemmas.Bool.{and_from, and_parts, eqb-true, leb-true, ne_e
 use Rattle.map_model.specs.Lists.{all, any, keep, upd}
 use Rattle.map_model.proofs.ListLemmas.{at_upd}
 use Rattle.map_model.specs.Maps.{MapAnswer}
-use Rattle.image_model.specs.Entries.{Entry, Kind, is_commit, is_record, word_in}
+use Rattle.btree_descent.specs.image_model.Entries.{Entry, Kind, is_commit, is_record, word_in}
 use Rattle.page_model.specs.Needs as page_needs
 use Rattle.rfa_model.specs.Reaches.{least}
-use Rattle.core_state.specs.Events as happening
-use Rattle.core_state.specs.Local as local
-use Rattle.core_state.specs.Needs.{are_hot, holds_row, is_free, is_held_by, is_reader, may, may_hold, needs, pages_of}
-use Rattle.core_state.specs.Openings.{Opening}
-use Rattle.core_state.specs.States.{Row, State, flushed_by_all, gsns_of, nodes_of}
-use Rattle.core_state.specs.Steps as core
-use Rattle.core_state.specs.Steps.{AllMet, end_entry, happens, locked, put_back, unlocked}
-use Rattle.core_state.proofs.Locality.{every_local}
+use Rattle.btree_descent.specs.core_state.Events as happening
+use Rattle.btree_descent.specs.core_state.Local as local
+use Rattle.btree_descent.specs.core_state.Needs.{are_hot, holds_row, is_free, is_held_by, is_reader, may, may_hold, needs, pages_of}
+use Rattle.btree_descent.specs.core_state.Openings.{Opening}
+use Rattle.btree_descent.specs.core_state.States.{Row, State, flushed_by_all, gsns_of, nodes_of}
+use Rattle.btree_descent.specs.core_state.Steps as core
+use Rattle.btree_descent.specs.core_state.Steps.{AllMet, end_entry, happens, locked, put_back, unlocked}
+use Rattle.btree_descent.proofs.core_state_lemmas.Locality.{every_local}
 use Rattle.core_calls.specs.LogEvents.{behind}
 use Rattle.engine_calls.proofs.MarkLemmas.{met_join}
-use Rattle.row_words.specs.declared.event.Event.{Event}
-use Rattle.row_words.specs.declared.event.Event.TheVariants as told
-use Rattle.row_words.specs.declared.event.Met.TheVariants as met
-use Rattle.row_words.specs.declared.given.Given.{Given}
-use Rattle.row_words.specs.Moments.{Moment, event_of, events_of, mode_of}
-use Rattle.row_words.specs.Openings.{opening}
-use Rattle.row_words.specs.Sealed.{begun, run, stepped}
-use Rattle.row_words.proofs.SealedLemmas.{run_append}
-use Rattle.rows_trait.specs.declared.view.View.{View}
-use Rattle.rows_trait.specs.Views.{after_all, state}
+use Rattle.btree_descent.specs.row_words.declared.event.Event.{Event}
+use Rattle.btree_descent.specs.row_words.declared.event.Event.TheVariants as told
+use Rattle.btree_descent.specs.row_words.declared.event.Met.TheVariants as met
+use Rattle.btree_descent.specs.row_words.declared.given.Given.{Given}
+use Rattle.btree_descent.specs.row_words.Moments.{Moment, event_of, events_of, mode_of}
+use Rattle.btree_descent.specs.row_words.Openings.{opening}
+use Rattle.btree_descent.specs.row_words.Sealed.{begun, run, stepped}
+use Rattle.btree_descent.proofs.row_words_lemmas.SealedLemmas.{run_append}
+use Rattle.btree_descent.specs.rows_trait.declared.view.View.{View}
+use Rattle.btree_descent.specs.rows_trait.Views.{after_all, state}
 use Rattle.key_locks.proofs.Masks.{others_else, reads_else}
 use Rattle.session_state.specs.Holds.{IsOf}
 use Rattle.session_state.specs.Others.{EveryOther, EverySteps, Steps, is_of}

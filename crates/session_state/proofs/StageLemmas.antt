@@ -1,13 +1,13 @@
 -- What staging is to a session whose clock alone has changed before it.
 use Rattle.std.proofs.Common.{◌≡◌, inl, inr, ◌≤◌, ◌+◌, ℕ, List, [], ◌∷◌, length, Result, sym, ap, ◌∙◌, subst, arith}
 use Rattle.std.proofs.lemmas.Bool.{cases_lt}
-use Rattle.draw_trait.specs.declared.draw.Unstaged.{Unstaged}
+use Rattle.btree_descent.specs.draw_trait.declared.draw.Unstaged.{Unstaged}
 use Rattle.flush_avoidance.specs.declared.Clock.{Clock}
 use Rattle.lean_disk.specs.Story.{Story}
-use Rattle.log_record.specs.declared.record.Record.{Record}
-use Rattle.log_block.specs.Block.{records_text}
-use Rattle.worker_log.specs.Calls.{After, HasRoom}
-use Rattle.worker_log.specs.Logs.{Log}
+use Rattle.btree_descent.specs.log_record.declared.record.Record.{Record}
+use Rattle.disk_runs.specs.log_block.Block.{records_text}
+use Rattle.disk_runs.specs.worker_log.Calls.{After, HasRoom}
+use Rattle.disk_runs.specs.worker_log.Logs.{Log}
 use Rattle.flush_avoidance.specs.Clocks.{risen}
 use Rattle.session_state.specs.Staging.{IsButClock, Staging}
 use Rattle.session_state.specs.declared.session.Session.{Session}

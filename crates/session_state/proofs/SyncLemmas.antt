@@ -3,28 +3,28 @@ use Rattle.std.proofs.Common.{◌≡◌, ◌≤◌, ◌<◌, ◌+◌, ◌*◌, �
 use Rattle.std.proofs.lemmas.Bool.{and_from, and_parts, cases_lt, cond-false, cond-true, eq-eqb, eqb-true, le-leb, leb-true, ne_eqb, or_cases, or_left, or_right}
 use Rattle.map_model.specs.Lists.{Has}
 use Rattle.map_model.proofs.ListLemmas.{has_any, upd_same}
-use Rattle.image_model.specs.Entries.{Entry, is_commit, is_record}
+use Rattle.btree_descent.specs.image_model.Entries.{Entry, is_commit, is_record}
 use Rattle.rfa_model.proofs.ReachLemmas.{least_from, least_low}
-use Rattle.core_state.specs.Events as happening
-use Rattle.core_state.specs.Lists.{most}
-use Rattle.core_state.specs.Needs.{holds_row, is_behind, may}
-use Rattle.core_state.specs.States.{State, flushed_by_all}
-use Rattle.core_state.specs.Steps.{happens}
+use Rattle.btree_descent.specs.core_state.Events as happening
+use Rattle.btree_descent.specs.core_state.Lists.{most}
+use Rattle.btree_descent.specs.core_state.Needs.{holds_row, is_behind, may}
+use Rattle.btree_descent.specs.core_state.States.{State, flushed_by_all}
+use Rattle.btree_descent.specs.core_state.Steps.{happens}
 use Rattle.core_calls.proofs.EntryLemmas.{commit_record}
 use Rattle.core_calls.specs.LogEvents as log_events
 use Rattle.lean_disk.specs.Story.{Story}
 use Rattle.log_calls.specs.Wholes.{EndsInRecord, FlushesWhole, flush_of}
-use Rattle.worker_log.specs.Calls.{flushed_log}
-use Rattle.worker_log.specs.Logs.{Log}
-use Rattle.row_words.specs.declared.event.Event.TheVariants.{Flush, Sync}
-use Rattle.core_commit.proofs.Controls.{le_most}
-use Rattle.row_words.specs.Moments.{events_of}
-use Rattle.row_words.specs.Openings.{opening}
-use Rattle.rows_trait.specs.declared.view.View.{View}
-use Rattle.rows_trait.specs.Turns.{MayTurn, Synced, Turned}
-use Rattle.rows_trait.specs.Layout.{count_of}
-use Rattle.rows_trait.specs.Views.{Shape, state}
-use Rattle.lean_proto.specs.Controls as controls
+use Rattle.disk_runs.specs.worker_log.Calls.{flushed_log}
+use Rattle.disk_runs.specs.worker_log.Logs.{Log}
+use Rattle.btree_descent.specs.row_words.declared.event.Event.TheVariants.{Flush, Sync}
+use Rattle.btree_descent.proofs.core_commit_lemmas.Controls.{le_most}
+use Rattle.btree_descent.specs.row_words.Moments.{events_of}
+use Rattle.btree_descent.specs.row_words.Openings.{opening}
+use Rattle.btree_descent.specs.rows_trait.declared.view.View.{View}
+use Rattle.btree_descent.specs.rows_trait.Turns.{MayTurn, Synced, Turned}
+use Rattle.btree_descent.specs.rows_trait.Layout.{count_of}
+use Rattle.btree_descent.specs.rows_trait.Views.{Shape, state}
+use Rattle.btree_descent.specs.lean_proto.Controls as controls
 use Rattle.session_state.specs.Holds.{Holds, IsOf}
 use Rattle.session_state.specs.Syncs.{EveryFlush, EverySynced, FlushesOwn, HasNoneBehind, HasSynced, MayFlush, finds_room, flushed_of, flushes_of, synced_session}
 use Rattle.session_state.specs.Undo.{filled}

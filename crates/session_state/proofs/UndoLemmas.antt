@@ -4,13 +4,13 @@ use Rattle.std.specs.Prelude.{min, reverse}
 use Rattle.std.proofs.Math.Nat.{min-eq_left, min-eq_right, min-le_left, min-le_right}
 use Rattle.std.proofs.lemmas.Bool.{cases_lt, eqb-true, le-leb, leb-true}
 use Rattle.std.proofs.lemmas.List.{length-append, reverse-append}
-use Rattle.image_model.specs.Entries.{Entry}
-use Rattle.log_record.specs.declared.record.Record.{Record}
-use Rattle.log_record.specs.Spelling.{Fits, record_text}
-use Rattle.log_record.proofs.SizeLemmas.{size_range, text_size}
-use Rattle.log_block.specs.Block.{records_text}
-use Rattle.worker_log.specs.Calls.{After, HasRoom, flushed_log}
-use Rattle.worker_log.specs.Logs.{Log, limit, used}
+use Rattle.btree_descent.specs.image_model.Entries.{Entry}
+use Rattle.btree_descent.specs.log_record.declared.record.Record.{Record}
+use Rattle.btree_descent.specs.log_record.Spelling.{Fits, record_text}
+use Rattle.btree_descent.proofs.log_record_lemmas.SizeLemmas.{size_range, text_size}
+use Rattle.disk_runs.specs.log_block.Block.{records_text}
+use Rattle.disk_runs.specs.worker_log.Calls.{After, HasRoom, flushed_log}
+use Rattle.disk_runs.specs.worker_log.Logs.{Log, limit, used}
 use Rattle.session_state.specs.Undo.{HasHand, HasRoomToStage, HasRoomToUndo, filled, kept_blocks, undo_of}
 use Rattle.session_state.specs.declared.undo.Undone.{Undone}
 

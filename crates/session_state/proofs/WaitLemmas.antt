@@ -4,12 +4,12 @@ use Rattle.std.proofs.lemmas.Bool.{and_left, and_right, cases_Bool, cases_eq, co
 use Rattle.map_model.specs.Lists.{Has, keep, upd}
 use Rattle.map_model.proofs.ListLemmas.{upd_same}
 use Rattle.rfa_model.proofs.ReachLemmas.{least_from, least_low}
-use Rattle.image_model.specs.Entries.{Entry, is_commit}
-use Rattle.core_state.specs.Events.{Event}
-use Rattle.core_state.specs.Openings.{Opening}
-use Rattle.core_state.specs.States.{State, flushed_by_all}
-use Rattle.core_state.specs.Steps.{happens}
-use Rattle.core_commit.proofs.Copies.{at_place}
+use Rattle.btree_descent.specs.image_model.Entries.{Entry, is_commit}
+use Rattle.btree_descent.specs.core_state.Events.{Event}
+use Rattle.btree_descent.specs.core_state.Openings.{Opening}
+use Rattle.btree_descent.specs.core_state.States.{State, flushed_by_all}
+use Rattle.btree_descent.specs.core_state.Steps.{happens}
+use Rattle.btree_descent.proofs.core_commit_lemmas.Copies.{at_place}
 use Rattle.core_calls.specs.LogEvents.{behind}
 
 -- what all logs are flushed up to they are behind a flush

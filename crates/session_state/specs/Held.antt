@@ -1,7 +1,7 @@
 -- The lock rows that a session holds.
 use Rattle.std.specs.Prelude.{◌≡◌, ◌↔◌, ◌≤◌, ◌<◌, ◌^◌, ◌++◌, ℕ, suc, Bool, true, false, List, [], ◌∷◌, length, slice_index_or, if◌then◌else◌}
 use Rattle.map_model.specs.Lists.{Has}
-use Rattle.core_state.specs.Needs.{is_reader}
+use Rattle.btree_descent.specs.core_state.Needs.{is_reader}
 
 -- of so many lock rows these, each once, the first that was taken first
 pub record Held : Type 0 where

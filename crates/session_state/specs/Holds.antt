@@ -2,17 +2,17 @@
 use Rattle.std.specs.Prelude.{◌≡◌, ◌↔◌, ◌≤◌, ◌<◌, ◌+◌, ◌^◌, ℕ, suc, true, false, [], length}
 use Rattle.page_model.specs.Limits.{most_sessions, transaction_changes}
 use Rattle.map_model.specs.Lists.{Has}
-use Rattle.core_state.specs.States.{Worker, flushed_by_all}
-use Rattle.core_state.specs.Needs.{holds_row}
+use Rattle.btree_descent.specs.core_state.States.{Worker, flushed_by_all}
+use Rattle.btree_descent.specs.core_state.Needs.{holds_row}
 use Rattle.core_calls.specs.LogEvents.{behind}
 use Rattle.core_calls.specs.Room.{free_list}
-use Rattle.row_words.specs.Openings.{opening}
-use Rattle.rows_trait.specs.declared.view.View.{View}
-use Rattle.rows_trait.specs.Views.{Shape, state}
+use Rattle.btree_descent.specs.row_words.Openings.{opening}
+use Rattle.btree_descent.specs.rows_trait.declared.view.View.{View}
+use Rattle.btree_descent.specs.rows_trait.Views.{Shape, state}
 use Rattle.btree_descent.specs.Descents as descents
 use Rattle.btree_descent.specs.Known as pages
 use Rattle.key_locks.specs.Rows as locking
-use Rattle.worker_log.specs.Logs.{Log, used}
+use Rattle.disk_runs.specs.worker_log.Logs.{Log, used}
 use Rattle.session_state.specs.declared.session.Session.{Session}
 use Rattle.session_state.specs.Numbers.{AreClocked, AreNumbered}
 use Rattle.session_state.specs.Undo.{HasHand, HasRoomToUndo, kept_blocks, undo_of}

@@ -2,15 +2,15 @@
 use Rattle.std.specs.Prelude.{◌≡◌, ◌≤◌, ◌<◌, ◌+◌, ◌*◌, ◌^◌, ℕ, max, true, List}
 use Rattle.map_model.specs.Lists.{Has}
 use Rattle.page_model.specs.Limits.{most_sessions}
-use Rattle.image_model.specs.Entries.{Entry}
+use Rattle.btree_descent.specs.image_model.Entries.{Entry}
 use Rattle.core_numbers.specs.Numbers as numbers
 use Rattle.row_numbers.specs.Views.{Fits}
-use Rattle.row_words.specs.declared.event.Event.{Event}
-use Rattle.row_words.specs.declared.given.Given.{Given}
-use Rattle.row_words.specs.Openings.{opening}
-use Rattle.row_words.specs.Sealed.{begun}
-use Rattle.rows_trait.specs.declared.view.View.{View}
-use Rattle.rows_trait.specs.Views.{after_all, state}
+use Rattle.btree_descent.specs.row_words.declared.event.Event.{Event}
+use Rattle.btree_descent.specs.row_words.declared.given.Given.{Given}
+use Rattle.btree_descent.specs.row_words.Openings.{opening}
+use Rattle.btree_descent.specs.row_words.Sealed.{begun}
+use Rattle.btree_descent.specs.rows_trait.declared.view.View.{View}
+use Rattle.btree_descent.specs.rows_trait.Views.{after_all, state}
 
 -- the base fits its word, and as the rows began no number was above it that may not come
 pub record AreNumbered (v : Given) : Type 0 where

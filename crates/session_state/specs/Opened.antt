@@ -1,7 +1,7 @@
 -- A session as it begins, and the shape of the rows that its engine has.
 use Rattle.std.specs.Prelude.{◌≡◌, ◌<◌, ℕ, true, false, []}
-use Rattle.rows_trait.specs.Plain.{sizes}
-use Rattle.rows_trait.specs.Views.{Shape, no_place}
+use Rattle.btree_descent.specs.rows_trait.Plain.{sizes}
+use Rattle.btree_descent.specs.rows_trait.Views.{Shape, no_place}
 use Rattle.session_state.specs.declared.session.Session.{Session}
 
 -- a session that has done nothing, where all is flushed up to the base

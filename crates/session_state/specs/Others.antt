@@ -1,14 +1,14 @@
 -- Several sessions on the same rows: what one has in memory lasts while a call of another goes on.
 use Rattle.std.specs.Prelude.{◌≡◌, ℕ, Bool, true, false, ◌==◌, List, ◌++◌}
 use Rattle.map_model.specs.Lists.{all}
-use Rattle.core_state.specs.Steps.{AllMet}
-use Rattle.row_words.specs.declared.event.Event.{Event}
-use Rattle.row_words.specs.declared.event.Event.TheVariants as told
-use Rattle.row_words.specs.Moments.{events_of}
-use Rattle.row_words.specs.Openings.{opening}
-use Rattle.rows_trait.specs.declared.view.View.{View}
-use Rattle.rows_trait.specs.Views.{Shape, state}
-use Rattle.worker_log.specs.Logs.{Log}
+use Rattle.btree_descent.specs.core_state.Steps.{AllMet}
+use Rattle.btree_descent.specs.row_words.declared.event.Event.{Event}
+use Rattle.btree_descent.specs.row_words.declared.event.Event.TheVariants as told
+use Rattle.btree_descent.specs.row_words.Moments.{events_of}
+use Rattle.btree_descent.specs.row_words.Openings.{opening}
+use Rattle.btree_descent.specs.rows_trait.declared.view.View.{View}
+use Rattle.btree_descent.specs.rows_trait.Views.{Shape, state}
+use Rattle.disk_runs.specs.worker_log.Logs.{Log}
 use Rattle.session_state.specs.Holds.{Holds}
 use Rattle.session_state.specs.declared.session.Session.{Session}
 

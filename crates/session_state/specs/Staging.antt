@@ -1,14 +1,14 @@
 -- What came of a record that a change asked its log to stage.
 use Rattle.std.specs.Prelude.{◌≡◌, ◌≤◌, ℕ, suc, List, [], ◌∷◌, length, Result, Ok, Err}
-use Rattle.draw_trait.specs.declared.draw.Unstaged.{Unstaged}
-use Rattle.draw_trait.specs.declared.draw.Unstaged.TheVariants.{DiskFault, LogFull}
+use Rattle.btree_descent.specs.draw_trait.declared.draw.Unstaged.{Unstaged}
+use Rattle.btree_descent.specs.draw_trait.declared.draw.Unstaged.TheVariants.{DiskFault, LogFull}
 use Rattle.lean_disk.specs.Faults.{HasCause}
 use Rattle.lean_disk.specs.Moments.{Framed}
 use Rattle.lean_disk.specs.Story.{Story}
-use Rattle.log_record.specs.declared.record.Record.{Record}
-use Rattle.log_block.specs.Block.{records_text}
-use Rattle.worker_log.specs.Calls.{After}
-use Rattle.worker_log.specs.Logs.{Log, used}
+use Rattle.btree_descent.specs.log_record.declared.record.Record.{Record}
+use Rattle.disk_runs.specs.log_block.Block.{records_text}
+use Rattle.disk_runs.specs.worker_log.Calls.{After}
+use Rattle.disk_runs.specs.worker_log.Logs.{Log, used}
 use Rattle.log_calls.specs.Calls.{KeepsWithin, StagesOn}
 use Rattle.engine_calls.specs.Clauses.{OnLog}
 use Rattle.flush_avoidance.specs.Clocks.{risen}

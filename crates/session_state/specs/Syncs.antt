@@ -1,21 +1,21 @@
 -- What a sync does: each session's log is flushed, and then all are synced up to the greatest clock.
 use Rattle.std.specs.Prelude.{◌≡◌, ◌↔◌, ◌≤◌, ◌<◌, ◌+◌, ◌*◌, ◌||◌, ◌==◌, ℕ, Bool, true, false, leb, List, ◌++◌, [], ◌∷◌, length, if◌then◌else◌}
 use Rattle.map_model.specs.Lists.{Has}
-use Rattle.image_model.specs.Entries.{Entry, is_record}
-use Rattle.core_state.specs.States.{State}
-use Rattle.core_state.specs.Events as happening
-use Rattle.core_state.specs.Needs.{may}
+use Rattle.btree_descent.specs.image_model.Entries.{Entry, is_record}
+use Rattle.btree_descent.specs.core_state.States.{State}
+use Rattle.btree_descent.specs.core_state.Events as happening
+use Rattle.btree_descent.specs.core_state.Needs.{may}
 use Rattle.lean_disk.specs.Story.{Story}
 use Rattle.log_calls.specs.Wholes.{FlushesWhole, flush_of}
 use Rattle.disk_runs.specs.MasterLaws.{raised}
-use Rattle.row_words.specs.declared.event.Event.{Event}
-use Rattle.row_words.specs.declared.event.Event.TheVariants as told
-use Rattle.row_words.specs.Moments.{events_of}
-use Rattle.row_words.specs.Openings.{opening}
-use Rattle.rows_trait.specs.declared.view.View.{View}
-use Rattle.rows_trait.specs.Views.{Shape, state}
-use Rattle.worker_log.specs.Calls.{flushed_log}
-use Rattle.worker_log.specs.Logs.{Log}
+use Rattle.btree_descent.specs.row_words.declared.event.Event.{Event}
+use Rattle.btree_descent.specs.row_words.declared.event.Event.TheVariants as told
+use Rattle.btree_descent.specs.row_words.Moments.{events_of}
+use Rattle.btree_descent.specs.row_words.Openings.{opening}
+use Rattle.btree_descent.specs.rows_trait.declared.view.View.{View}
+use Rattle.btree_descent.specs.rows_trait.Views.{Shape, state}
+use Rattle.disk_runs.specs.worker_log.Calls.{flushed_log}
+use Rattle.disk_runs.specs.worker_log.Logs.{Log}
 use Rattle.session_state.specs.Holds.{Holds}
 use Rattle.session_state.specs.Others.{Steps}
 use Rattle.session_state.specs.Undo.{HasRoomToUndo, filled}

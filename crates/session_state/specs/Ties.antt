@@ -1,15 +1,15 @@
 -- In which run an engine is.
 use Rattle.std.specs.Prelude.{◌≡◌, ◌≤◌, ◌^◌, ◌++◌, ℕ, Bool, List, length}
-use Rattle.core_state.specs.Openings.{Opening}
-use Rattle.core_state.specs.Events.{Event}
-use Rattle.core_state.specs.Steps.{AllMet, state_after}
+use Rattle.btree_descent.specs.core_state.Openings.{Opening}
+use Rattle.btree_descent.specs.core_state.Events.{Event}
+use Rattle.btree_descent.specs.core_state.Steps.{AllMet, state_after}
 use Rattle.core_calls.specs.Fronts.{Done, front}
 use Rattle.core_calls.specs.Runs.{EachTells}
 use Rattle.engine_trait.specs.Calls.{is_half_done}
 use Rattle.engine_trait.specs.Limits.{AreLoads, limits}
-use Rattle.row_words.specs.Moments.{events_of}
+use Rattle.btree_descent.specs.row_words.Moments.{events_of}
 use Rattle.row_opening.specs.Openings.{Opens}
-use Rattle.rows_trait.specs.declared.view.View.{View}
+use Rattle.btree_descent.specs.rows_trait.declared.view.View.{View}
 
 -- The rows began as the opening. The view has seen just the events of these outcomes, each of which is told behind those before it, and behind them
 -- maybe the loads of the opening, which the next call takes to its own events. The outcomes tell whether an abort of session `own` is half done.

@@ -1,8 +1,8 @@
 -- What a transaction has still to put back.
 use Rattle.std.specs.Prelude.{◌≡◌, ◌≤◌, ◌<◌, ◌+◌, ◌-◌, ◌*◌, ◌^◌, ℕ, min, List, [], ◌∷◌, length, Option, Some, None}
-use Rattle.image_model.specs.Entries.{Entry}
+use Rattle.btree_descent.specs.image_model.Entries.{Entry}
 use Rattle.page_model.specs.Limits.{transaction_changes}
-use Rattle.worker_log.specs.Logs.{Log, used}
+use Rattle.disk_runs.specs.worker_log.Logs.{Log, used}
 use Rattle.session_state.specs.declared.undo.Undone.{Undone}
 
 -- the newest one, if there is one

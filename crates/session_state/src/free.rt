@@ -3,7 +3,7 @@ ghost use Rattle.std.specs.Prelude.{◌≡◌, ◌<◌, ◌^◌, length, IfOk};
 ghost use Rattle.core_calls.specs.Room.{frees_from};
 ghost use Rattle.session_state.specs.Free.{first_of, nodes_in, without_first};
 
-use btree_node::Node;
+use btree_descent::btree_node::Node;
 use std::alloc::{AllocError, Global};
 use std::marker::Model;
 

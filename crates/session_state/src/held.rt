@@ -1,6 +1,6 @@
 // The lock rows that a session holds.
 ghost use Rattle.std.specs.Prelude.{◌≡◌, ◌≤◌, ◌<◌, [], length, slice_index, IfOk};
-ghost use Rattle.core_state.specs.Needs.{is_reader};
+ghost use Rattle.btree_descent.specs.core_state.Needs.{is_reader};
 ghost use Rattle.session_state.specs.Held.{with_row};
 
 use std::alloc::{AllocError, Global};

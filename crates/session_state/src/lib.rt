@@ -14,7 +14,7 @@ mod syncs;
 mod undo;
 mod work;
 
-pub use draw_trait::staged::Staged;
+pub use btree_descent::draw_trait::staged::Staged;
 pub use free::FreePages;
 pub use held::HeldRows;
 pub use laws::{every_flush, every_other, every_reserve, every_synced};

@@ -1,22 +1,23 @@
 // What a sync does to a session: its log is flushed whole, and then its clock is raised.
 ghost use Rattle.std.specs.Prelude.{◌≡◌, ◌↔◌, ◌<◌, ◌+◌, IsErr, IsOk, OnOk, true};
-ghost use Rattle.core_state.specs.Events as happening;
-ghost use Rattle.core_state.specs.Needs.{may};
+ghost use Rattle.btree_descent.specs.core_state.Events as happening;
+ghost use Rattle.btree_descent.specs.core_state.Needs.{may};
 ghost use Rattle.lean_disk.specs.Faults.{HasCause};
 ghost use Rattle.log_calls.specs.Wholes.{EndsInRecord};
-ghost use Rattle.row_words.specs.Openings.{opening};
-ghost use Rattle.rows_trait.specs.Views.{state};
+ghost use Rattle.btree_descent.specs.row_words.Openings.{opening};
+ghost use Rattle.btree_descent.specs.rows_trait.Views.{state};
 ghost use Rattle.session_state.specs.Holds.{Holds, IsSameSession};
 ghost use Rattle.session_state.specs.Staging.{KeepsLog};
 ghost use Rattle.session_state.specs.Syncs.{FlushesOwn, HasNoneBehind, HasSynced, MayFlush, finds_room, synced_session};
 
 use crate::session::Session;
 use crate::work::Work;
+use btree_descent::lean_proto;
+use btree_descent::rows_trait::names::Names;
+use btree_descent::rows_trait::rows::Rows;
+use disk_runs::worker_log::{DiskFault, RESERVE, WorkerLog};
 use lean_disk::Disk;
 use log_calls::flush_whole;
-use rows_trait::names::Names;
-use rows_trait::rows::Rows;
-use worker_log::{DiskFault, RESERVE, WorkerLog};
 
 /// The event of a flush of a session's log up to this number.
 #[derive(Drop)]
@@ -27,7 +28,7 @@ pub struct Flushes {
 
 impl Names for Flushes {
     ghost use Rattle.std.specs.Prelude.{[], ◌∷◌};
-    ghost use Rattle.row_words.specs.declared.event.Event.TheVariants.{Flush};
+    ghost use Rattle.btree_descent.specs.row_words.declared.event.Event.TheVariants.{Flush};
 
     ghost names = { λ s _. Flush s.own s.number ∷ [] };
 }
@@ -40,7 +41,7 @@ struct Syncs {
 
 impl Names for Syncs {
     ghost use Rattle.std.specs.Prelude.{[], ◌∷◌};
-    ghost use Rattle.row_words.specs.declared.event.Event.TheVariants.{Sync};
+    ghost use Rattle.btree_descent.specs.row_words.declared.event.Event.TheVariants.{Sync};
 
     ghost names = { λ s _. Sync s.number ∷ [] };
 }

@@ -3,19 +3,19 @@ ghost use Rattle.std.specs.Prelude.{◌≡◌, ◌≤◌, ◌<◌, ◌+◌, OnOk
 ghost use Rattle.page_model.specs.Limits.{most_sessions};
 ghost use Rattle.lean_disk.specs.Faults.{HasCause};
 ghost use Rattle.lean_disk.specs.Moments.{Framed};
-ghost use Rattle.log_record.specs.Spelling.{Fits};
-ghost use Rattle.worker_log.specs.Calls.{After};
-ghost use Rattle.worker_log.specs.Kept.{IsInRange};
-ghost use Rattle.worker_log.specs.Logs.{used};
+ghost use Rattle.btree_descent.specs.log_record.Spelling.{Fits};
+ghost use Rattle.disk_runs.specs.worker_log.Calls.{After};
+ghost use Rattle.disk_runs.specs.worker_log.Kept.{IsInRange};
+ghost use Rattle.disk_runs.specs.worker_log.Logs.{used};
 ghost use Rattle.log_calls.specs.Calls.{KeepsMoments, KeepsNotes, KeepsWithin, StagesOn};
 
 use crate::session::Session;
-use draw_trait::draw::{Draw, Unstaged};
-use draw_trait::staged::{Staged, one_more};
+use btree_descent::draw_trait::draw::{Draw, Unstaged};
+use btree_descent::draw_trait::staged::{Staged, one_more};
+use btree_descent::log_record::Record;
+use disk_runs::worker_log::{DiskFault, RESERVE, WorkerLog};
 use lean_disk::{Disk, MemDisk};
-use log_record::Record;
 use std::marker::Brand;
-use worker_log::{DiskFault, RESERVE, WorkerLog};
 
 /// Its disk and its log, and what it has in memory.
 pub struct Work<D> {

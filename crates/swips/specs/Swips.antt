@@ -1,7 +1,7 @@
 -- The words of swips. A swip names a page by its frame where it is hot, else by its number.
 use Rattle.std.specs.Prelude.{◌≡◌, ◌<◌, ◌≤◌, ◌+◌, ◌^◌, ◌⊎◌, ℕ}
 use Rattle.page_model.specs.Limits.{frame_bit}
-use Rattle.core_state.specs.States.{Place}
+use Rattle.row_words.specs.core_state.States.{Place}
 use Rattle.swips.specs.declared.swip.Swip.{Swip}
 use Rattle.swips.specs.declared.swip.Swip.TheVariants.{Frame, Page}
 

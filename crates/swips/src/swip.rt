@@ -1,7 +1,7 @@
 // A swip, and the word that spells it.
 ghost use Rattle.std.specs.Prelude.{◌≡◌, ◌<◌, ◌≤◌, ◌-◌, ℕ, Some, IfSome, IfNone};
 ghost use Rattle.page_model.specs.Limits.{frame_bit};
-ghost use Rattle.core_state.specs.States.{Place};
+ghost use Rattle.row_words.specs.core_state.States.{Place};
 ghost use Rattle.row_words.specs.Words.{swip};
 ghost use Rattle.swips.specs.declared.swip.Swip.{Swip};
 ghost use Rattle.swips.specs.Swips.{word_of, swip_of, Spells, IsSpelling};

@@ -1,7 +1,7 @@
 -- How many numbers pass a test, where they go to others that pass one.
 use Rattle.std.proofs.Common.{◌≡◌, ◌⊎◌, inl, inr, ◌∙◌, ◌≤◌, ◌<◌, ◌+◌, ◌==◌, ◌&&◌, ◌||◌, ℕ, zero, suc, Bool, true, false, cond, not, refl, sym, ap, arith, true≢false}
 use Rattle.std.proofs.lemmas.Bool.{and_from, and_parts, cases_eq, eq-eqb, ne_eqb, not_from_false}
-use Rattle.core_state.specs.Lists.{count_below}
+use Rattle.core_paging.specs.core_state.Lists.{count_below}
 use Rattle.core_covers.proofs.CountLemmas.{count_mono}
 
 pub count_all : (n : ℕ) → count_below n (λ _. true) ≡ n

@@ -6,12 +6,12 @@ use Rattle.std.proofs.lemmas.List.{append-nil}
 use Rattle.page_model.specs.Nodes.{Node, covers}
 use Rattle.page_model.specs.Tree.{IsTree}
 use Rattle.page_model.proofs.Tree.{Lies, ok, one, tall}
-use Rattle.core_state.specs.Openings.{Opening}
-use Rattle.core_state.specs.States.{Place, State, flushed_by_all, in_frame, nodes_of}
-use Rattle.core_state.specs.Events.{Event}
-use Rattle.core_state.specs.Lists.{count_below}
-use Rattle.core_state.specs.Needs.{may}
-use Rattle.core_state.specs.Steps.{AllMet, state_after, step}
+use Rattle.core_paging.specs.core_state.Openings.{Opening}
+use Rattle.core_paging.specs.core_state.States.{Place, State, flushed_by_all, in_frame, nodes_of}
+use Rattle.core_paging.specs.core_state.Events.{Event}
+use Rattle.core_paging.specs.core_state.Lists.{count_below}
+use Rattle.core_paging.specs.core_state.Needs.{may}
+use Rattle.core_paging.specs.core_state.Steps.{AllMet, state_after, step}
 use Rattle.core_paging.specs.Paging.{EveryResidence}
 use Rattle.core_calls.specs.LogEvents.{IsTight, IsTightSomewhere, SyncsWhere}
 use Rattle.core_covers.specs.Highs.{EveryHigh, is_above, pages_above, writes}

@@ -1,10 +1,10 @@
 -- How many syncs the pages that find no frame can ask for. A sync leaves no page above what is flushed everywhere, and none is due before so many are.
 use Rattle.std.specs.Prelude.{◌≤◌, ◌+◌, ◌*◌, ◌++◌, ℕ, suc, min, false, List, [], ◌∷◌}
 use Rattle.page_model.specs.Limits.{transaction_changes}
-use Rattle.core_state.specs.Openings.{Opening}
-use Rattle.core_state.specs.States.{nodes_of}
-use Rattle.core_state.specs.Events.{Event}
-use Rattle.core_state.specs.Steps.{AllMet, state_after}
+use Rattle.core_paging.specs.core_state.Openings.{Opening}
+use Rattle.core_paging.specs.core_state.States.{nodes_of}
+use Rattle.core_paging.specs.core_state.Events.{Event}
+use Rattle.core_paging.specs.core_state.Steps.{AllMet, state_after}
 use Rattle.core_calls.specs.LogEvents.{IsTight, IsTightSomewhere, SyncsWhere}
 use Rattle.core_covers.specs.Highs.{pages_above, writes}
 

@@ -1,7 +1,7 @@
 -- Changes are put back, and transactions end.
 use Rattle.std.proofs.Common.{◌≡◌, ℕ, suc, ◌+◌, Bool, true, false, List, [], ◌∷◌, ◌++◌, length, map, Result, Ok, Err, MatchResult, refl, sym, ap, ap₂, ◌∙◌, subst, true≢false, get_or, append_assoc, length-append, append-nil, ◌<◌, ◌≤◌, inr, arith}
 use Rattle.std.proofs.lemmas.Bool.{eq-eqb}
-use Rattle.image_model.specs.Entries.{Entry}
+use Rattle.core_state.specs.image_model.Entries.{Entry}
 use Rattle.core_state.specs.States.{State}
 use Rattle.core_state.specs.Openings.{Opening}
 use Rattle.core_state.specs.Events.{Event}

@@ -5,7 +5,7 @@ use Rattle.std.proofs.lemmas.List.{get_or-set_same, get_or-set_other}
 use Rattle.map_model.specs.Lists.{upd}
 use Rattle.page_model.specs.Pairs.{find}
 use Rattle.page_model.specs.Tree.{word_or}
-use Rattle.image_model.specs.Entries.{Kind, Entry, word_in}
+use Rattle.core_state.specs.image_model.Entries.{Kind, Entry, word_in}
 use Rattle.core_state.specs.States.{State, Worker, Row, start}
 use Rattle.core_state.specs.Openings.{Opening}
 use Rattle.core_state.specs.Events.{Event, Mode}

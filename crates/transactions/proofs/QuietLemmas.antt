@@ -3,7 +3,7 @@ use Rattle.std.proofs.Common.{◌≡◌, ◌⊎◌, ℕ, suc, Bool, true, false,
 use Rattle.std.proofs.lemmas.Bool.{cases_eq, cond-true, cond-false, and_parts, ne_eqb, eq-eqb}
 use Rattle.map_model.specs.Lists.{upd}
 use Rattle.map_model.specs.Maps.{MapAnswer}
-use Rattle.image_model.specs.Entries.{Kind, Entry}
+use Rattle.core_state.specs.image_model.Entries.{Kind, Entry}
 use Rattle.page_model.specs.Records.{Record}
 use Rattle.core_state.specs.States.{State, Worker, Row}
 use Rattle.core_state.specs.Openings.{Opening}

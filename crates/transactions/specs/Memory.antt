@@ -1,6 +1,6 @@
 -- What a session has in memory, and how it is the core's worker.
 use Rattle.std.specs.Prelude.{◌≡◌, ◌<◌, ◌%◌, ◌^◌, ℕ, zero, suc, Bool, true, false, List, [], ◌∷◌, length, map, slice_index_or, Option, Some, None, ltb, if◌then◌else◌}
-use Rattle.image_model.specs.Entries.{Entry}
+use Rattle.core_state.specs.image_model.Entries.{Entry}
 use Rattle.core_state.specs.Openings.{Opening}
 use Rattle.core_state.specs.Events as core
 use Rattle.core_state.specs.Events.{Event}

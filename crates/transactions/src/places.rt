@@ -1,6 +1,6 @@
 // What sessions' calls stand on: the index, the lock rows and the logs. They are one object, since each of them steps on the same rows.
 ghost use Rattle.std.specs.Prelude.{◌≡◌, ◌≤◌, ◌<◌, ◌+◌, ◌^◌, ◌++◌, length, ℕ, suc, Bool, true, false, List, [], ◌∷◌, Option, Some, None, MatchResult, IfOk, IfErr};
-ghost use Rattle.image_model.specs.Entries.{Entry};
+ghost use Rattle.core_state.specs.image_model.Entries.{Entry};
 ghost use Rattle.page_model.specs.Pairs.{find};
 ghost use Rattle.rfa_model.specs.Stamps.{need_of};
 ghost use Rattle.core_state.specs.States.{State};

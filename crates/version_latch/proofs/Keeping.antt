@@ -2,7 +2,7 @@
 use Rattle.std.proofs.Common.{cond, Some, arith, ◌∷◌, ◌≡◌, ◌==◌, ◌||◌, ℕ, Bool, true, false, List, [], refl, sym, ap, subst, ◌∙◌, inr, eq-eqb}
 use Rattle.std.proofs.lemmas.Bool.{cond-true}
 use Rattle.std.proofs.lemmas.Bool.Decides.{nat_tests}
-use Rattle.row_words.specs.declared.event.Event.{Event}
+use Rattle.rows_trait.specs.row_words.declared.event.Event.{Event}
 use Rattle.rows_trait.specs.declared.view.Act.{Act}
 use Rattle.rows_trait.specs.declared.view.Act.TheVariants.{Look}
 use Rattle.rows_trait.specs.declared.view.View.{View}

@@ -1,11 +1,11 @@
 -- Which events the steps of a look append, and that they change nothing.
 use Rattle.std.proofs.Common.{◌≡◌, ◌≢◌, ◌==◌, ◌%◌, ℕ, Bool, true, false, List, [], ◌∷◌, refl, arith, eq-eqb, ne_eqb}
 use Rattle.std.specs.Prelude.{if◌then◌else◌}
-use Rattle.row_words.specs.declared.event.Event.{Event}
-use Rattle.row_words.specs.declared.event.Event.TheVariants.{Miss}
-use Rattle.row_words.specs.declared.given.Given.{Given}
-use Rattle.row_words.specs.Moments.{actor_of, is_rising}
-use Rattle.row_words.proofs.SealedLemmas.{is_silent, silent_changes, silent_sets, silent_part}
+use Rattle.rows_trait.specs.row_words.declared.event.Event.{Event}
+use Rattle.rows_trait.specs.row_words.declared.event.Event.TheVariants.{Miss}
+use Rattle.rows_trait.specs.row_words.declared.given.Given.{Given}
+use Rattle.rows_trait.specs.row_words.Moments.{actor_of, is_rising}
+use Rattle.rows_trait.proofs.row_words_lemmas.SealedLemmas.{is_silent, silent_changes, silent_sets, silent_part}
 use Rattle.rows_trait.specs.Views.{IsEven, AreSilent}
 use Rattle.version_latch.specs.Named.{missed, checked}
 

@@ -1,6 +1,6 @@
 -- Why a row was not latched.
 use Rattle.std.specs.Prelude.{◌≡◌, ◌≤◌, ℕ, List}
-use Rattle.row_words.specs.declared.event.Event.{Event}
+use Rattle.rows_trait.specs.row_words.declared.event.Event.{Event}
 use Rattle.rows_trait.specs.declared.view.View.{View}
 use Rattle.rows_trait.specs.Views.{Shape}
 use Rattle.rows_trait.specs.Causes.{HasFound, HasMoved}

@@ -1,6 +1,6 @@
 //! A look at a row from an even version on: begun, used, and checked or upgraded.
 ghost use Rattle.std.specs.Prelude.{◌≡◌, ◌≢◌, ◌+◌, ◌%◌, ◌<◌, ◌≤◌, ◌^◌, ℕ, true, false, [], IfOk, IfErr, slice_index};
-ghost use Rattle.row_words.specs.Sealed.{Shown};
+ghost use Rattle.rows_trait.specs.row_words.Sealed.{Shown};
 ghost use Rattle.rows_trait.specs.Layout.{rows_of, width};
 ghost use Rattle.rows_trait.specs.Views.{IsEven, AreSilent, Has, Since, IsStill, Knows, latest, holds, may, state};
 ghost use Rattle.rows_trait.specs.Causes.{HasFound, IsLatched, HasMoved};

@@ -10,3 +10,7 @@ mod hold;
 
 pub use glimpse::{Glimpse, LAST, Latched, Moved, Unheld};
 pub use hold::Hold;
+
+// Passed on to the crates above.
+pub use rows_trait;
+pub use rows_trait::btree_node;

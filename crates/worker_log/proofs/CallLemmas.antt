@@ -2,7 +2,7 @@
 use Rattle.std.proofs.Common.{◌≡◌, ◌⊎◌, inl, inr, ⊎_elim, ℕ, ◌+◌, ◌*◌, ◌%◌, ◌^◌, ◌≤◌, ◌<◌, List, [], ◌∷◌, ◌++◌, length, get_or, refl, sym, ◌∙◌, ap, subst, IsTrue, arith, cond, length-append, ◌==◌}
 use Rattle.std.proofs.lemmas.Bool.{cases_lt, cond-false, cond-true, eq-eqb, ne_eqb}
 use Rattle.map_model.specs.Lists.{Has}
-use Rattle.image_model.specs.Fair.{IsFair}
+use Rattle.disk_image.specs.image_model.Fair.{IsFair}
 use Rattle.lean_disk.specs.Area.{Area, Leaves, Write, IsApart, torn}
 use Rattle.lean_disk.specs.Story.{Story, Crash, Tells, IsLawful}
 use Rattle.lean_disk.specs.Calls.{Wrote, Synced}
@@ -10,10 +10,10 @@ use Rattle.lean_disk.specs.Moments.{LeavesOnly, CrashIn, Framed}
 use Rattle.lean_disk.specs.declared.disk.Did.{Did}
 use Rattle.lean_disk.specs.declared.disk.Did.TheVariants.{Done}
 use Rattle.lean_disk.proofs.MomentLemmas.{started, goes_on, then, weaker, framed, framed_wrote, framed_synced, crash_in}
-use Rattle.log_record.specs.Spelling.{Fits}
-use Rattle.log_record.specs.declared.record.Record.{Record}
-use Rattle.log_record.proofs.SizeLemmas.{size_range}
-use Rattle.log_block.specs.Block.{Belongs, IsSealed, block_text, generation_of, records_text}
+use Rattle.disk_image.specs.log_record.Spelling.{Fits}
+use Rattle.disk_image.specs.log_record.declared.record.Record.{Record}
+use Rattle.disk_image.proofs.log_record_lemmas.SizeLemmas.{size_range}
+use Rattle.disk_image.specs.log_block.Block.{Belongs, IsSealed, block_text, generation_of, records_text}
 use Rattle.disk_image.specs.Runs.{Block}
 use Rattle.disk_image.proofs.BlockInLemmas.{every_belongs}
 use Rattle.disk_image.proofs.RunLemmas.{belongs-text}

@@ -3,11 +3,11 @@ use Rattle.std.proofs.Common.{◌≡◌, ⊎_elim, ℕ, ◌+◌, ◌*◌, ◌%�
 use Rattle.std.proofs.lemmas.List.{length-take}
 use Rattle.std.proofs.Math.Nat.{mod-lt}
 use Rattle.map_model.specs.Lists.{Has}
-use Rattle.image_model.specs.Fair.{piece, IsFair}
-use Rattle.image_model.proofs.FairLemmas.{IsOfOne, narrow}
+use Rattle.disk_image.specs.image_model.Fair.{piece, IsFair}
+use Rattle.disk_image.proofs.image_model_lemmas.FairLemmas.{IsOfOne, narrow}
 use Rattle.lean_disk.specs.Area.{Area, Write, IsApart}
-use Rattle.log_record.specs.declared.record.Record.{Record}
-use Rattle.log_block.specs.Block.{Belongs, IsSealed, block_of}
+use Rattle.disk_image.specs.log_record.declared.record.Record.{Record}
+use Rattle.disk_image.specs.log_block.Block.{Belongs, IsSealed, block_of}
 use Rattle.disk_image.specs.Blocks.{belongs}
 use Rattle.disk_image.specs.Runs.{Block, block_at, HasNone}
 use Rattle.disk_image.proofs.BlockInLemmas.{every_belongs}

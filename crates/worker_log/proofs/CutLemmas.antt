@@ -3,8 +3,8 @@ use Rattle.std.proofs.Common.{◌≡◌, ⊎_elim, inl, inr, ℕ, zero, suc, ◌
 use Rattle.std.proofs.lemmas.List.{drop-drop, drop-take, length-drop}
 use Rattle.map_model.specs.Lists.{Has}
 use Rattle.lean_disk.specs.Area.{Area, Write}
-use Rattle.log_record.specs.declared.record.Record.{Record}
-use Rattle.log_block.specs.Block.{Belongs}
+use Rattle.disk_image.specs.log_record.declared.record.Record.{Record}
+use Rattle.disk_image.specs.log_block.Block.{Belongs}
 use Rattle.disk_image.specs.Runs.{Block}
 use Rattle.disk_image.proofs.BlockInLemmas.{every_belongs}
 use Rattle.worker_log.specs.Logs.{Log}

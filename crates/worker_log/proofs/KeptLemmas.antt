@@ -5,12 +5,12 @@ use Rattle.std.proofs.lemmas.List.{append-nil, length-drop, nil_from_length, tak
 use Rattle.std.proofs.lemmas.List.Concat.{flat_map-append}
 use Rattle.map_model.proofs.ListLemmas.{has_cases, has_left, has_right}
 use Rattle.map_model.specs.Lists.{Has}
-use Rattle.image_model.specs.Fair.{piece, IsFair, IsWritten}
-use Rattle.image_model.proofs.FairLemmas.{among_more, exactly}
+use Rattle.disk_image.specs.image_model.Fair.{piece, IsFair, IsWritten}
+use Rattle.disk_image.proofs.image_model_lemmas.FairLemmas.{among_more, exactly}
 use Rattle.lean_disk.specs.Area.{Area, Write, put_over, written as over, synced as cleaned}
-use Rattle.log_record.specs.Spelling.{Fits, record_text}
-use Rattle.log_record.specs.declared.record.Record.{Record}
-use Rattle.log_block.specs.Block.{IsSealed, block_text, records_text}
+use Rattle.disk_image.specs.log_record.Spelling.{Fits, record_text}
+use Rattle.disk_image.specs.log_record.declared.record.Record.{Record}
+use Rattle.disk_image.specs.log_block.Block.{IsSealed, block_text, records_text}
 use Rattle.disk_image.specs.Runs.{Block, block_at}
 use Rattle.disk_image.proofs.BlockInLemmas.{every_belongs}
 use Rattle.disk_image.proofs.RunLemmas.{belongs-text}

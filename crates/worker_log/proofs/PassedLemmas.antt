@@ -3,7 +3,7 @@ use Rattle.std.proofs.Common.{◌≡◌, ◌⊎◌, inl, inr, ⊎_elim, ◌≤�
 use Rattle.std.proofs.lemmas.Bool.{cases_lt, cases_Bool, cond-true, cond-false, leb-true, lt-leb, le-leb}
 use Rattle.map_model.specs.Lists.{Has}
 use Rattle.lean_disk.specs.Area.{Area}
-use Rattle.log_record.specs.declared.record.Record.{Record}
+use Rattle.disk_image.specs.log_record.declared.record.Record.{Record}
 use Rattle.worker_log.specs.Logs.{Log, passed_by, passed_end}
 use Rattle.worker_log.specs.Accounts.{Account, joined, records_of}
 use Rattle.worker_log.specs.Kept.{AllFitBlocks, IsKept, RiseFrom, cut, end_behind, end_of, ends_of}

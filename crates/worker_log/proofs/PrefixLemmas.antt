@@ -2,7 +2,7 @@
 use Rattle.std.proofs.Common.{◌≡◌, ⊎_elim, ℕ, zero, suc, ◌+◌, ◌-◌, ◌≤◌, ◌<◌, true, false, List, [], ◌∷◌, length, take, refl, ◌∙◌, ap, arith}
 use Rattle.std.proofs.lemmas.Bool.{cases_lt, cases_Bool}
 use Rattle.map_model.specs.Lists.{Has}
-use Rattle.log_record.specs.declared.record.Record.{Record}
+use Rattle.disk_image.specs.log_record.declared.record.Record.{Record}
 use Rattle.disk_image.specs.Blocks.{belongs}
 use Rattle.disk_image.specs.Runs.{Block, run_in, block_at}
 use Rattle.disk_image.proofs.RunLemmas.{run_in-more, run_in-end}

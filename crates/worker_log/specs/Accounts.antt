@@ -1,8 +1,8 @@
 -- An account of what was put into a log.
 use Rattle.std.specs.Prelude.{ℕ, suc, List, [], ◌∷◌, ◌++◌, length}
 use Rattle.lean_disk.specs.Area.{Write}
-use Rattle.log_record.specs.declared.record.Record.{Record}
-use Rattle.log_block.specs.Block.{block_text, records_text}
+use Rattle.disk_image.specs.log_record.declared.record.Record.{Record}
+use Rattle.disk_image.specs.log_block.Block.{block_text, records_text}
 use Rattle.disk_image.specs.Runs.{Block}
 
 -- An account of a log: the bytes of its area and the writes to it by the time the account begins; since then the records of

@@ -1,7 +1,7 @@
 -- What calls make of a log, whatever the account.
 use Rattle.std.specs.Prelude.{◌≡◌, ◌≤◌, ◌+◌, ◌==◌, ℕ, [], ◌∷◌, ◌++◌, drop, length, if◌then◌else◌}
-use Rattle.log_record.specs.declared.record.Record.{Record}
-use Rattle.log_block.specs.Block.{records_text}
+use Rattle.disk_image.specs.log_record.declared.record.Record.{Record}
+use Rattle.disk_image.specs.log_block.Block.{records_text}
 use Rattle.worker_log.specs.Logs.{Log}
 
 -- The record fits in the block in hand.

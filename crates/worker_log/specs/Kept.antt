@@ -1,10 +1,10 @@
 -- What an account says of a log and of its area, and what a crash leaves of it.
 use Rattle.std.specs.Prelude.{◌≡◌, ◌⊎◌, ◌≤◌, ◌<◌, ◌+◌, ◌-◌, ◌^◌, ◌*◌, ◌%◌, ℕ, List, [], ◌∷◌, ◌++◌, length, take, drop}
 use Rattle.map_model.specs.Lists.{Has}
-use Rattle.image_model.specs.Fair.{IsFair}
+use Rattle.disk_image.specs.image_model.Fair.{IsFair}
 use Rattle.lean_disk.specs.Area.{Write, Area}
-use Rattle.log_record.specs.declared.record.Record.{Record}
-use Rattle.log_block.specs.Block.{AllFit, records_text, Belongs, IsSealed, generation_of}
+use Rattle.disk_image.specs.log_record.declared.record.Record.{Record}
+use Rattle.disk_image.specs.log_block.Block.{AllFit, records_text, Belongs, IsSealed, generation_of}
 use Rattle.disk_image.specs.Runs.{Block, run_in, block_at, HasNone}
 use Rattle.worker_log.specs.Logs.{Log, used}
 use Rattle.worker_log.specs.Accounts.{Account, all_blocks, spelled_from, joined, records_of}

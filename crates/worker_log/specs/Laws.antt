@@ -1,10 +1,10 @@
 -- What a crash leaves between two calls, what the run that a crash leaves says, and what stands after a cut.
 use Rattle.std.specs.Prelude.{◌≡◌, ◌≤◌, ◌<◌, ◌+◌, ◌^◌, ℕ, List, [], ◌∷◌, ◌++◌, drop, length, take}
 use Rattle.map_model.specs.Lists.{Has}
-use Rattle.image_model.specs.Entries.{Entry}
-use Rattle.image_model.specs.Images.{IsFalling}
+use Rattle.disk_image.specs.image_model.Entries.{Entry}
+use Rattle.disk_image.specs.image_model.Images.{IsFalling}
 use Rattle.lean_disk.specs.Area.{Area, Leaves}
-use Rattle.log_record.specs.declared.record.Record.{Record}
+use Rattle.disk_image.specs.log_record.declared.record.Record.{Record}
 use Rattle.disk_image.specs.Records.{entry_of}
 use Rattle.disk_image.specs.Runs.{Block, logged_onto, entries_in, AreReadable}
 use Rattle.worker_log.specs.Logs.{Log, passed_by, passed_end}

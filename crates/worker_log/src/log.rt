@@ -5,8 +5,8 @@ ghost use Rattle.lean_disk.specs.Calls.{Synced, Wrote};
 ghost use Rattle.lean_disk.specs.Faults.{HasCause};
 ghost use Rattle.lean_disk.specs.Moments.{CrashIn, Framed, LeavesOnly};
 ghost use Rattle.lean_disk.specs.Story.{Tells};
-ghost use Rattle.log_record.specs.Spelling.{Fits, record_text};
-ghost use Rattle.log_block.specs.Block.{block_text, records_text};
+ghost use Rattle.disk_image.specs.log_record.Spelling.{Fits, record_text};
+ghost use Rattle.disk_image.specs.log_block.Block.{block_text, records_text};
 ghost use Rattle.worker_log.specs.Logs.{Log, limit, passed_by, used};
 ghost use Rattle.worker_log.specs.Kept.{IsInRange, IsFresh, IsKept, LeavesBlocks, StagesTo, closed, cut, fresh_account, flushed as flushed_account};
 ghost use Rattle.worker_log.specs.Calls.{After, HasRoom, cut_log, flushed_log};
@@ -14,9 +14,9 @@ ghost use Rattle.worker_log.specs.Accounts.{Account};
 
 use crate::ends::{drop_ends, new_ends, passed, push_end};
 use circular_buffer::HeapCircularBuffer;
+use disk_image::log_block::{BLOCK, PAYLOAD, block_bytes};
+use disk_image::log_record::{Record, record_bytes, record_size};
 use lean_disk::{Did, Part};
-use log_block::{BLOCK, PAYLOAD, block_bytes};
-use log_record::{Record, record_bytes, record_size};
 use std::alloc::{AllocError, Global};
 use std::marker::Model;
 

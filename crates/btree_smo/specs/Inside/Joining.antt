@@ -3,17 +3,17 @@ use Rattle.std.specs.Prelude.{◌≡◌, ◌≢◌, ◌≤◌, ◌<◌, ◌^◌,
 use Rattle.page_model.specs.Pairs.{without}
 use Rattle.page_model.specs.Page as stored
 use Rattle.page_model.specs.Page.{with_pairs}
-use Rattle.btree_node.specs.Structure.{joined, freed}
-use Rattle.core_state.specs.Events as happening
-use Rattle.core_state.specs.Needs as core
-use Rattle.row_words.specs.declared.event.Event.TheVariants.{Join}
-use Rattle.row_words.specs.Openings.{opening}
-use Rattle.rows_trait.specs.declared.view.View.{View}
-use Rattle.rows_trait.specs.Views.{Shape, state, may}
-use Rattle.log_record.specs.declared.record.Record.{Record}
-use Rattle.log_record.specs.declared.record.Pairs.{Pairs}
-use Rattle.log_record.specs.declared.record.Body.TheVariants as body
-use Rattle.log_record.specs.Model.{model_pairs}
+use Rattle.disk_image.specs.btree_node.Structure.{joined, freed}
+use Rattle.btree_descent.specs.core_state.Events as happening
+use Rattle.btree_descent.specs.core_state.Needs as core
+use Rattle.btree_descent.specs.row_words.declared.event.Event.TheVariants.{Join}
+use Rattle.btree_descent.specs.row_words.Openings.{opening}
+use Rattle.btree_descent.specs.rows_trait.declared.view.View.{View}
+use Rattle.btree_descent.specs.rows_trait.Views.{Shape, state, may}
+use Rattle.disk_image.specs.log_record.declared.record.Record.{Record}
+use Rattle.disk_image.specs.log_record.declared.record.Pairs.{Pairs}
+use Rattle.disk_image.specs.log_record.declared.record.Body.TheVariants as body
+use Rattle.disk_image.specs.log_record.Model.{model_pairs}
 use Rattle.btree_descent.specs.Known.{IsSound}
 use Rattle.btree_descent.specs.declared.put.TheConstants.{LAST_NUMBER}
 use Rattle.row_image.specs.Images.{written}

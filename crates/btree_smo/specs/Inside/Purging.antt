@@ -3,23 +3,23 @@ use Rattle.std.specs.Prelude.{not, ◌≡◌, ◌≢◌, ◌≤◌, ◌<◌, ◌
 use Rattle.page_model.specs.Pairs.{Pair, find, is_in, keep}
 use Rattle.page_model.specs.Page as stored
 use Rattle.page_model.specs.Page.{with_pairs}
-use Rattle.row_words.specs.declared.event.Event.{Event}
-use Rattle.row_words.specs.declared.event.Event.TheVariants.{Purge}
-use Rattle.row_words.specs.Openings.{opening}
-use Rattle.rows_trait.specs.declared.view.View.{View}
-use Rattle.rows_trait.specs.Layout.{rows_of}
-use Rattle.rows_trait.specs.Views.{Shape, AreApart, holds, held_at, state, may}
-use Rattle.rows_trait.specs.Turns.{Ran}
-use Rattle.core_state.specs.Events as happening
-use Rattle.core_state.specs.Needs as core
-use Rattle.log_record.specs.declared.record.Record.{Record}
-use Rattle.log_record.specs.declared.record.Keys.{Keys}
-use Rattle.log_record.specs.declared.record.Body.TheVariants as body
-use Rattle.log_record.specs.Model.{model_keys}
+use Rattle.btree_descent.specs.row_words.declared.event.Event.{Event}
+use Rattle.btree_descent.specs.row_words.declared.event.Event.TheVariants.{Purge}
+use Rattle.btree_descent.specs.row_words.Openings.{opening}
+use Rattle.btree_descent.specs.rows_trait.declared.view.View.{View}
+use Rattle.btree_descent.specs.rows_trait.Layout.{rows_of}
+use Rattle.btree_descent.specs.rows_trait.Views.{Shape, AreApart, holds, held_at, state, may}
+use Rattle.btree_descent.specs.rows_trait.Turns.{Ran}
+use Rattle.btree_descent.specs.core_state.Events as happening
+use Rattle.btree_descent.specs.core_state.Needs as core
+use Rattle.disk_image.specs.log_record.declared.record.Record.{Record}
+use Rattle.disk_image.specs.log_record.declared.record.Keys.{Keys}
+use Rattle.disk_image.specs.log_record.declared.record.Body.TheVariants as body
+use Rattle.disk_image.specs.log_record.Model.{model_keys}
 use Rattle.btree_descent.specs.Known.{IsSound}
-use Rattle.lean_proto.specs.Purges.{IsQuiet}
+use Rattle.btree_descent.specs.lean_proto.Purges.{IsQuiet}
 use Rattle.btree_smo.specs.Outcomes.{AreMisses, Found, IsSpentIn}
-use Rattle.version_latch.specs.declared.glimpse.TheConstants.{LAST}
+use Rattle.btree_descent.specs.version_latch.declared.glimpse.TheConstants.{LAST}
 use Rattle.held_rows.specs.Rows.{Stood, IsFrame}
 use Rattle.btree_smo.specs.Inside.{IsLeft, StandsIn}
 use Rattle.btree_smo.specs.declared.quiet.Quiet.{Quiet}

@@ -1,9 +1,9 @@
 -- Lock rows that are latched where nobody can need what they say: words of private functions.
 use Rattle.std.specs.Prelude.{◌≡◌, ◌≤◌, ◌+◌, ℕ, true, false}
-use Rattle.rows_trait.specs.declared.view.View.{View}
-use Rattle.rows_trait.specs.Views.{Shape, holds, state}
-use Rattle.version_latch.specs.declared.glimpse.TheConstants.{LAST}
-use Rattle.lean_proto.specs.Purges.{IsQuiet}
+use Rattle.btree_descent.specs.rows_trait.declared.view.View.{View}
+use Rattle.btree_descent.specs.rows_trait.Views.{Shape, holds, state}
+use Rattle.btree_descent.specs.version_latch.declared.glimpse.TheConstants.{LAST}
+use Rattle.btree_descent.specs.lean_proto.Purges.{IsQuiet}
 use Rattle.btree_smo.specs.declared.quiet.Quiet.{Quiet}
 use Rattle.btree_smo.specs.declared.quiet.Quiet.TheVariants.{Taken, Busy, Spent}
 use Rattle.btree_smo.specs.Outcomes.{Found}

@@ -1,7 +1,7 @@
 -- How a dump ends, from what recovery did and what was put.
 use Rattle.std.proofs.Common.{◌≡◌, inl, inr, ⊎_elim, ◌<◌, ◌+◌, ℕ, List, length, Some, Result, Err, refl, sym, ◌∙◌, ap, subst, arith}
 use Rattle.page_model.specs.Tree.{value}
-use Rattle.image_model.specs.Laws.{EveryUndone}
+use Rattle.disk_runs.specs.image_model.Laws.{EveryUndone}
 use Rattle.lean_disk.specs.Area.{Area}
 use Rattle.lean_disk.specs.Faults.{HasCause, IsBlamed, Rose}
 use Rattle.lean_disk.specs.Moments.{LeavesOnly}
@@ -10,10 +10,10 @@ use Rattle.lean_disk.specs.Told.{TellsOn}
 use Rattle.lean_edge.specs.Outside.{Held}
 use Rattle.lean_edge.specs.declared.sink.Put.{Put}
 use Rattle.lean_edge.specs.declared.sink.Put.TheVariants.{Done, Failed}
-use Rattle.disk_slots.specs.declared.master.Master.{Master}
-use Rattle.disk_image.specs.Formats.{format_of}
-use Rattle.disk_image.specs.MasterSlots.{master_on}
-use Rattle.disk_image.specs.Shown.{Areas, IsCleanDisk}
+use Rattle.disk_runs.specs.disk_slots.declared.master.Master.{Master}
+use Rattle.disk_runs.specs.disk_image.Formats.{format_of}
+use Rattle.disk_runs.specs.disk_image.MasterSlots.{master_on}
+use Rattle.disk_runs.specs.disk_image.Shown.{Areas, IsCleanDisk}
 use Rattle.node_tree.specs.Nodes.{nodes_of}
 use Rattle.pair_walk.specs.Laws.{ListingLaws}
 use Rattle.recovery.specs.Crashes.{RecoveryLeaves}

@@ -7,14 +7,14 @@ use Rattle.page_model.specs.Nodes.{Node}
 use Rattle.page_model.specs.Pairs.{Pair}
 use Rattle.page_model.specs.Tree.{IsTree, value, value_of}
 use Rattle.page_model.proofs.Same.{entry_same}
-use Rattle.image_model.specs.Entries.{Contents}
-use Rattle.image_model.specs.Images.{Image, map_of, recovered_page}
-use Rattle.image_model.specs.Laws.{EveryUndone, UndoneLaws}
-use Rattle.image_model.proofs.WordLemmas.{words}
+use Rattle.disk_runs.specs.image_model.Entries.{Contents}
+use Rattle.disk_runs.specs.image_model.Images.{Image, map_of, recovered_page}
+use Rattle.disk_runs.specs.image_model.Laws.{EveryUndone, UndoneLaws}
+use Rattle.disk_runs.proofs.image_model_lemmas.WordLemmas.{words}
 use Rattle.lean_disk.specs.Story.{Story, areas_of}
-use Rattle.disk_slots.specs.declared.master.Master.{Master}
-use Rattle.disk_image.specs.Formats.{format_of}
-use Rattle.disk_image.specs.Shown.{Areas, image_by}
+use Rattle.disk_runs.specs.disk_slots.declared.master.Master.{Master}
+use Rattle.disk_runs.specs.disk_image.Formats.{format_of}
+use Rattle.disk_runs.specs.disk_image.Shown.{Areas, image_by}
 use Rattle.node_tree.specs.Nodes.{node_or, nodes_of}
 use Rattle.pair_walk.specs.Laws.{ListingLaws}
 use Rattle.pair_walk.specs.Listings.{ArePairsOf, Lists}

@@ -2,10 +2,10 @@
 use Rattle.std.proofs.Common.{◌≡◌, ◌⊎◌, inl, inr, ◌≤◌, ◌<◌, ℕ, suc, length, Some, ◌∙◌, ap, arith}
 use Rattle.std.proofs.lemmas.List.{length-replicate}
 use Rattle.map_model.specs.Lists.{Has}
-use Rattle.image_model.specs.Entries.{Entry}
-use Rattle.image_model.specs.Images.{Image, bases, sorted}
-use Rattle.disk_slots.specs.declared.master.Master.{Master}
-use Rattle.disk_image.specs.Masters.{IsOfRun}
+use Rattle.disk_runs.specs.image_model.Entries.{Entry}
+use Rattle.disk_runs.specs.image_model.Images.{Image, bases, sorted}
+use Rattle.disk_runs.specs.disk_slots.declared.master.Master.{Master}
+use Rattle.disk_runs.specs.disk_image.Masters.{IsOfRun}
 use Rattle.recovery.specs.Masters.{next_master}
 use Rattle.recovery.specs.Opened.{IsGreatest}
 

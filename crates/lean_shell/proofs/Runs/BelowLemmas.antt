@@ -3,18 +3,18 @@ use Rattle.std.proofs.Common.{◌≡◌, ◌≤◌, ◌<◌, ◌&&◌, ℕ, suc,
 use Rattle.std.proofs.lemmas.Bool.{and_parts}
 use Rattle.map_model.specs.Lists.{Has, any}
 use Rattle.map_model.specs.Maps.{MapAnswer}
-use Rattle.image_model.specs.Entries.{Entry}
-use Rattle.core_state.specs.Openings.{Opening}
-use Rattle.core_state.specs.States.{State, start, flushed_by_all}
-use Rattle.core_state.specs.Events.{Event}
-use Rattle.core_state.specs.Local.{is_of}
-use Rattle.core_state.specs.Needs.{are_hot, may, needs, pages_of}
-use Rattle.core_state.specs.Steps.{happens, run, state_after, step}
-use Rattle.core_state.proofs.Runs.{run_more}
-use Rattle.core_commit.specs.Rises.{EveryRise}
-use Rattle.core_commit.proofs.Invariants.{Inv}
-use Rattle.core_commit.proofs.Lists.{Within, least_le}
-use Rattle.core_commit.proofs.Runs.{good_run, good_start}
+use Rattle.disk_runs.specs.image_model.Entries.{Entry}
+use Rattle.disk_runs.specs.core_state.Openings.{Opening}
+use Rattle.disk_runs.specs.core_state.States.{State, start, flushed_by_all}
+use Rattle.disk_runs.specs.core_state.Events.{Event}
+use Rattle.disk_runs.specs.core_state.Local.{is_of}
+use Rattle.disk_runs.specs.core_state.Needs.{are_hot, may, needs, pages_of}
+use Rattle.disk_runs.specs.core_state.Steps.{happens, run, state_after, step}
+use Rattle.disk_runs.proofs.core_state_lemmas.Runs.{run_more}
+use Rattle.disk_runs.specs.core_commit.Rises.{EveryRise}
+use Rattle.disk_runs.proofs.core_commit_lemmas.Invariants.{Inv}
+use Rattle.disk_runs.proofs.core_commit_lemmas.Lists.{Within, least_le}
+use Rattle.disk_runs.proofs.core_commit_lemmas.Runs.{good_run, good_start}
 use Rattle.core_calls.specs.Deeds.{Committed, Deed, marks_for, marks_of}
 use Rattle.core_calls.specs.Fronts.{Done, front}
 use Rattle.core_calls.specs.LogEvents.{Flushes, LogsGo, is_log}
@@ -37,7 +37,7 @@ floor_same g s (Event.Next w p k (MapAnswer.Pair at v)) q = refl
 floor_same g s (Event.Next w p k _) q = refl
 floor_same g s (Event.Put_back w p) q = back (s.worker w).changes
   where
-    back : (cs : List Entry) → (Rattle.core_state.specs.Steps.put_back g s w p cs).floor ≡ s.floor
+    back : (cs : List Entry) → (Rattle.disk_runs.specs.core_state.Steps.put_back g s w p cs).floor ≡ s.floor
     back [] = refl
     back (c ∷ cs) = refl
 floor_same g s _ q = refl
@@ -118,7 +118,7 @@ module _ (rises : EveryRise) (g : Opening) where
       go : (e : Event) → may g s e ≡ true → (m : Mark) → mark g s e ≡ Some m → IsAbove floor m
       go (Event.End w commit f) met m q =
           let needed = (and_parts (are_hot s (pages_of (Event.End w commit f))) (needs g s (Event.End w commit f)) met).1 in
-          let is_open = (and_parts (s.worker w).is_open (leb (s.worker w).floor f && (leb f (flushed_by_all g s) && Rattle.std.proofs.Common.◌||◌ commit (Rattle.core_state.specs.Lists.is_empty (s.worker w).changes))) needed).0 in
+          let is_open = (and_parts (s.worker w).is_open (leb (s.worker w).floor f && (leb f (flushed_by_all g s) && Rattle.std.proofs.Common.◌||◌ commit (Rattle.disk_runs.specs.core_state.Lists.is_empty (s.worker w).changes))) needed).0 in
           let within = ((inv_of g before).workers w).is_log is_open in
           let b = below before w within in
           subst (IsAbove floor) (some_is (Ended commit (s.worker w).txn (suc (s.worker w).clock)) m q) (omega arith)

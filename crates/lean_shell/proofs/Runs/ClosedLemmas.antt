@@ -3,7 +3,7 @@ use Rattle.std.proofs.Common.{◌≡◌, ◌++◌, Bool, true, false, cond, List
 use Rattle.std.proofs.lemmas.List.{append-nil}
 use Rattle.map_model.specs.Journals.{Name}
 use Rattle.map_model.specs.Pairings.{is_open_line}
-use Rattle.core_state.specs.Openings.{Opening}
+use Rattle.disk_runs.specs.core_state.Openings.{Opening}
 use Rattle.core_calls.specs.Fronts.{Done, outcomes}
 use Rattle.engine_calls.specs.Clauses.{IsNewLine}
 use Rattle.engine_front.specs.Turns.{IsNext}

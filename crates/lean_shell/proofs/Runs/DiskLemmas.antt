@@ -12,10 +12,10 @@ use Rattle.lean_disk.specs.Story.{Crash, Story}
 use Rattle.lean_disk.proofs.MomentLemmas.{weaker}
 use Rattle.lean_edge.specs.Outside.{Feed}
 use Rattle.script_lang.specs.Reading.{Unread}
-use Rattle.disk_slots.specs.declared.master.Master.{Master}
-use Rattle.disk_image.specs.Laws.{EveryAgreement}
-use Rattle.core_state.specs.Events.{Event}
-use Rattle.core_state.specs.Openings.{Opening}
+use Rattle.disk_runs.specs.disk_slots.declared.master.Master.{Master}
+use Rattle.disk_runs.specs.disk_image.Laws.{EveryAgreement}
+use Rattle.disk_runs.specs.core_state.Events.{Event}
+use Rattle.disk_runs.specs.core_state.Openings.{Opening}
 use Rattle.core_calls.specs.Crashes.{EveryRunCrash}
 use Rattle.core_calls.specs.Deeds.{Deed, Refused, answered, asked}
 use Rattle.core_calls.specs.Fronts.{Done, front}
@@ -23,8 +23,8 @@ use Rattle.core_calls.specs.Printed.{due_lines, durable_lines, printed}
 use Rattle.core_calls.specs.Runs.{EachTells, Tells}
 use Rattle.core_calls.specs.Steps.{hindered_in, is_conflict}
 use Rattle.core_calls.proofs.PrintedLemmas.{due_are}
-use Rattle.core_disk.specs.Held.{HoldsRun}
-use Rattle.core_disk.specs.Shows.{EveryShown}
+use Rattle.disk_runs.specs.core_disk.Held.{HoldsRun}
+use Rattle.disk_runs.specs.core_disk.Shows.{EveryShown}
 use Rattle.disk_runs.specs.Masters.{IsNoEarlier, IsOfRunBy}
 use Rattle.disk_runs.specs.Stands.{Known, Stands}
 use Rattle.call_parts.specs.Memory.{IsOf, Memory}

@@ -12,14 +12,14 @@ use Rattle.map_model.specs.Journals.{Journal, Serial}
 use Rattle.map_model.specs.Transcripts.{journal}
 use Rattle.lean_edge.specs.declared.sink.Put.{Put}
 use Rattle.script_lang.specs.Notices.{Notice, NoticeFits}
-use Rattle.disk_slots.specs.declared.master.Master.{Master}
-use Rattle.disk_image.specs.Shown.{IsCleanDisk}
+use Rattle.disk_runs.specs.disk_slots.declared.master.Master.{Master}
+use Rattle.disk_runs.specs.disk_image.Shown.{IsCleanDisk}
 use Rattle.recovery.specs.Crashes.{RecoveryLeaves}
 use Rattle.recovery.specs.Opened.{IsRefusal, IsUntouched, Keeps}
 use Rattle.recovery.specs.Telling.{TellsAll}
 use Rattle.recovery.specs.declared.opening.Unrecovered.{Unrecovered}
 use Rattle.core_calls.specs.Fronts.{Done}
-use Rattle.core_state.specs.Openings.{Opening}
+use Rattle.disk_runs.specs.core_state.Openings.{Opening}
 use Rattle.transcripts.specs.Laws.{EveryNotice, EveryTail}
 use Rattle.transcripts.specs.Told.{IsTail}
 use Rattle.transcripts.specs.Transcripts.{first_lines, IsQuiet}

@@ -15,29 +15,29 @@ use Rattle.map_model.specs.Outputs.{Reply, answers_told, names}
 use Rattle.map_model.specs.Pairings.{EachGoesOn, EachIsAnswered, answers_in, counted, in_turn, is_open_line, script_of}
 use Rattle.map_model.specs.Transcripts as model
 use Rattle.map_model.specs.Transcripts.{Line, Told, journal, lines_in, lines_of, told_onto, txn_of}
-use Rattle.image_model.specs.Ends.{reach, wins}
-use Rattle.image_model.specs.Entries.{Entry, is_commit, is_record}
-use Rattle.image_model.specs.Fair.{IsFair}
-use Rattle.image_model.specs.Images.{Image, found, map_of, page_or, won_by}
-use Rattle.image_model.specs.Slots.{base_of}
+use Rattle.disk_runs.specs.image_model.Ends.{reach, wins}
+use Rattle.disk_runs.specs.image_model.Entries.{Entry, is_commit, is_record}
+use Rattle.disk_runs.specs.image_model.Fair.{IsFair}
+use Rattle.disk_runs.specs.image_model.Images.{Image, found, map_of, page_or, won_by}
+use Rattle.disk_runs.specs.image_model.Slots.{base_of}
 use Rattle.lean_disk.specs.Story.{Crash, Story, areas_of}
-use Rattle.disk_slots.specs.declared.master.Master.{Master}
-use Rattle.disk_slots.specs.Slots as slots
-use Rattle.log_block.specs.Block as blocks
-use Rattle.disk_image.specs.Fair.{IsFairCrash}
-use Rattle.disk_image.specs.Masters.{IsOfRun}
-use Rattle.disk_image.specs.MasterSlots.{master_on}
-use Rattle.disk_image.specs.Shown.{Areas, DiskStandsFor, image_by, run_of, shown_by}
-use Rattle.core_state.specs.Events.{Event}
-use Rattle.core_state.specs.Openings.{Opening, first_map}
+use Rattle.disk_runs.specs.disk_slots.declared.master.Master.{Master}
+use Rattle.disk_runs.specs.disk_slots.Slots as slots
+use Rattle.disk_runs.specs.log_block.Block as blocks
+use Rattle.disk_runs.specs.disk_image.Fair.{IsFairCrash}
+use Rattle.disk_runs.specs.disk_image.Masters.{IsOfRun}
+use Rattle.disk_runs.specs.disk_image.MasterSlots.{master_on}
+use Rattle.disk_runs.specs.disk_image.Shown.{Areas, DiskStandsFor, image_by, run_of, shown_by}
+use Rattle.disk_runs.specs.core_state.Events.{Event}
+use Rattle.disk_runs.specs.core_state.Openings.{Opening, first_map}
 use Rattle.core_calls.specs.Crashes.{HasOneInHand}
 use Rattle.core_calls.specs.Deeds.{Committed, Deed, Outcome, answered, asked, in_words}
 use Rattle.core_calls.specs.Deeds as deeds
 use Rattle.core_calls.specs.Fronts.{Done, front, outcomes}
 use Rattle.core_calls.specs.Runs.{EachTells}
-use Rattle.core_crash.proofs.Images.{gathered_has}
-use Rattle.core_disk.specs.Held.{HoldsLog}
-use Rattle.core_state.specs.Steps.{state_after}
+use Rattle.disk_runs.proofs.core_crash_lemmas.Images.{gathered_has}
+use Rattle.disk_runs.specs.core_disk.Held.{HoldsLog}
+use Rattle.disk_runs.specs.core_state.Steps.{state_after}
 use Rattle.disk_runs.specs.Fair.{EveryFair, IsAsRead, IsFairFrom}
 use Rattle.disk_runs.specs.Masters.{IsNoEarlier, masters}
 use Rattle.disk_runs.proofs.LineLemmas.{every_master_count}

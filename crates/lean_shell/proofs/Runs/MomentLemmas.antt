@@ -8,10 +8,10 @@ use Rattle.lean_disk.specs.Told.{TellsSame, OnlyNotes}
 use Rattle.lean_disk.proofs.MomentLemmas.{goes_on_by, weaker, started}
 use Rattle.lean_edge.specs.declared.sink.Put.{Put}
 use Rattle.lean_edge.specs.declared.sink.Put.TheVariants.{Done, Failed}
-use Rattle.disk_slots.specs.declared.master.Master.{Master}
+use Rattle.disk_runs.specs.disk_slots.declared.master.Master.{Master}
 use Rattle.core_calls.specs.Fronts.{Done as DoneCall}
-use Rattle.core_state.specs.Openings.{Opening}
-use Rattle.disk_image.specs.Shown.{IsCleanDisk}
+use Rattle.disk_runs.specs.core_state.Openings.{Opening}
+use Rattle.disk_runs.specs.disk_image.Shown.{IsCleanDisk}
 use Rattle.recovery.specs.Crashes.{RecoveryLeaves}
 use Rattle.transcripts.specs.Transcripts.{first_lines, IsQuiet}
 use Rattle.paged_engine.specs.declared.opening.Size.{Size}

@@ -2,18 +2,18 @@
 use Rattle.std.proofs.Common.{◌≡◌, ◌⊎◌, inl, inr, ⊎_elim, ◌≤◌, ◌<◌, ◌+◌, ◌++◌, ℕ, suc, List, [], ◌∷◌, length, refl, sym, ◌∙◌, ap, subst, arith}
 use Rattle.map_model.proofs.ListLemmas.{order_has}
 use Rattle.map_model.specs.Lists.{Has}
-use Rattle.image_model.specs.Entries.{Entry, earlier}
-use Rattle.image_model.specs.Images.{Image, bases, found, gathered, page_or, sorted}
+use Rattle.disk_runs.specs.image_model.Entries.{Entry, earlier}
+use Rattle.disk_runs.specs.image_model.Images.{Image, bases, found, gathered, page_or, sorted}
 use Rattle.lean_disk.specs.Story.{Crash, Story, areas_of}
-use Rattle.disk_slots.specs.declared.master.Master.{Master}
-use Rattle.disk_image.specs.Laws.{Agree}
-use Rattle.disk_image.specs.Shown.{image_by}
+use Rattle.disk_runs.specs.disk_slots.declared.master.Master.{Master}
+use Rattle.disk_runs.specs.disk_image.Laws.{Agree}
+use Rattle.disk_runs.specs.disk_image.Shown.{image_by}
 use Rattle.recovery.specs.Crashes.{ShowsRecovered, ShowsStill}
 use Rattle.recovery.specs.Masters.{IsSameOrNext}
 use Rattle.recovery.specs.Opened.{IsGreatest}
-use Rattle.core_state.specs.Events.{Event}
+use Rattle.disk_runs.specs.core_state.Events.{Event}
 use Rattle.core_calls.specs.Fronts.{Done, front}
-use Rattle.core_disk.proofs.HeldLemmas.{gathered_same}
+use Rattle.disk_runs.proofs.core_disk_lemmas.HeldLemmas.{gathered_same}
 use Rattle.run_crashes.specs.Lines.{Between, FellIn, InCall, Stopped, next_of}
 use Rattle.lean_shell.specs.Crashes.{IsNear}
 use Rattle.lean_shell.proofs.Runs.BeginLemmas.{one_greatest}

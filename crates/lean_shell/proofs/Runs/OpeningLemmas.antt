@@ -1,9 +1,9 @@
 -- Where a run begins, from what the engine says of the opening.
 use Rattle.std.proofs.Common.{◌≡◌, ◌<◌, ◌≤◌, ℕ, Some, refl, sym, ◌∙◌, ap, subst, arith}
 use Rattle.lean_disk.specs.Story.{Story, areas_of}
-use Rattle.disk_slots.specs.declared.master.Master.{Master}
-use Rattle.disk_image.specs.MasterSlots.{master_on}
-use Rattle.disk_image.specs.Shown.{image_by, IsCleanDisk}
+use Rattle.disk_runs.specs.disk_slots.declared.master.Master.{Master}
+use Rattle.disk_runs.specs.disk_image.MasterSlots.{master_on}
+use Rattle.disk_runs.specs.disk_image.Shown.{image_by, IsCleanDisk}
 use Rattle.recovery.specs.Masters.{next_master}
 use Rattle.recovery.specs.Opened.{IsGreatest, IsRecovered}
 use Rattle.recovery.specs.Telling.{TellsAll}

@@ -7,7 +7,7 @@ use Rattle.map_model.specs.declared.call.Answered.{Answered}
 use Rattle.map_model.specs.Journals.{Name}
 use Rattle.map_model.specs.Outputs.{Reply, answers_told}
 use Rattle.map_model.specs.Pairings.{EachGoesOn, answers_in, in_turn}
-use Rattle.core_state.specs.Openings.{Opening}
+use Rattle.disk_runs.specs.core_state.Openings.{Opening}
 use Rattle.core_calls.specs.Deeds.{Outcome, answered, in_words}
 use Rattle.core_calls.specs.Fronts.{Done}
 use Rattle.core_calls.specs.Printed.{EveryPrinted, due_lines, durable_lines, printed}

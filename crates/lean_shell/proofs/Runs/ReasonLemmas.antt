@@ -2,7 +2,7 @@
 use Rattle.std.proofs.Common.{◌≡◌, ℕ, Result, Err}
 use Rattle.lean_disk.specs.Story.{Story, areas_of}
 use Rattle.recovery.specs.Masters.{HasOpenable}
-use Rattle.disk_image.specs.Breaks.{IsDamaged}
+use Rattle.disk_runs.specs.disk_image.Breaks.{IsDamaged}
 use Rattle.recovery.specs.Telling.{TellsAll}
 use Rattle.recovery.specs.declared.opening.Recovered.{Recovered}
 use Rattle.recovery.specs.declared.opening.Unrecovered.{Unrecovered}

@@ -4,12 +4,12 @@ use Rattle.std.proofs.lemmas.Bool.{cond-true, eq-eqb}
 use Rattle.map_model.specs.declared.call.Answer.TheVariants as answer
 use Rattle.map_model.specs.Lists.{keep}
 use Rattle.map_model.specs.Maps.{MapAnswer, MapCall}
-use Rattle.core_state.specs.Events.{Event, Mode}
-use Rattle.core_state.specs.Local.{is_of}
-use Rattle.core_state.specs.Needs.{is_held_by, may, value_in}
-use Rattle.core_state.specs.Openings.{Opening}
-use Rattle.core_state.specs.States.{State}
-use Rattle.core_state.specs.Steps.{AllMet, state_after, step}
+use Rattle.disk_runs.specs.core_state.Events.{Event, Mode}
+use Rattle.disk_runs.specs.core_state.Local.{is_of}
+use Rattle.disk_runs.specs.core_state.Needs.{is_held_by, may, value_in}
+use Rattle.disk_runs.specs.core_state.Openings.{Opening}
+use Rattle.disk_runs.specs.core_state.States.{State}
+use Rattle.disk_runs.specs.core_state.Steps.{AllMet, state_after, step}
 use Rattle.core_calls.specs.Deeds.{Deed, Met, Unsaid, answered, marks_of, reads_of}
 use Rattle.core_calls.specs.Fronts.{Done, front, outcomes}
 use Rattle.core_calls.specs.Marks.{Called, Mark, found_in, marks}

@@ -9,7 +9,7 @@ use Rattle.map_model.specs.declared.call.Call.TheVariants as call
 use Rattle.map_model.specs.declared.call.Refusal.{Refusal}
 use Rattle.map_model.specs.declared.call.Refusal.TheVariants as refusal
 use Rattle.map_model.specs.Pairings.{EachIsAnswered, in_turn, is_last, is_last_refusal, is_open_line, script_of}
-use Rattle.core_state.specs.Openings.{Opening}
+use Rattle.disk_runs.specs.core_state.Openings.{Opening}
 use Rattle.core_calls.specs.Deeds.{Committed, Deed, Met, Refused, answered, asked}
 use Rattle.core_calls.specs.Fronts.{Done}
 use Rattle.core_calls.specs.Runs.{EachTells, Tells}

@@ -5,12 +5,12 @@ use Rattle.lean_disk.specs.Moments.{LeavesOnly}
 use Rattle.lean_disk.specs.Story.{IsLawful, Story, areas_of}
 use Rattle.lean_edge.specs.Outside.{Feed, Held, added}
 use Rattle.lean_edge.specs.declared.sink.Put.TheVariants as put
-use Rattle.disk_slots.specs.declared.master.Master.{Master}
-use Rattle.disk_image.specs.Shown.{IsCleanDisk}
+use Rattle.disk_runs.specs.disk_slots.declared.master.Master.{Master}
+use Rattle.disk_runs.specs.disk_image.Shown.{IsCleanDisk}
 use Rattle.recovery.specs.Crashes.{RecoveryLeaves}
 use Rattle.recovery.specs.Opened.{Keeps}
 use Rattle.recovery.specs.Telling.{TellsAll}
-use Rattle.core_state.specs.Openings.{Opening}
+use Rattle.disk_runs.specs.core_state.Openings.{Opening}
 use Rattle.script_lang.specs.Notices.{Notice, NoticeFits}
 use Rattle.script_lang.specs.Reading.{Unread}
 use Rattle.script_run.specs.Runs.{ScriptRuns}

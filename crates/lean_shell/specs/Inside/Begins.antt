@@ -1,16 +1,16 @@
 -- Words of private functions: a run of the core begins on a disk that was opened.
 use Rattle.std.specs.Prelude.{◌≡◌, ◌<◌, ◌≤◌, ◌+◌, ℕ, suc, [], Some}
 use Rattle.lean_disk.specs.Story.{Crash, Story, areas_of}
-use Rattle.disk_slots.specs.declared.master.Master.{Master}
-use Rattle.disk_image.specs.Masters.{IsOfRun}
-use Rattle.disk_image.specs.MasterSlots.{master_on}
-use Rattle.disk_image.specs.Shown.{image_by, IsCleanDisk}
-use Rattle.image_model.specs.Images.{map_of}
+use Rattle.disk_runs.specs.disk_slots.declared.master.Master.{Master}
+use Rattle.disk_runs.specs.disk_image.Masters.{IsOfRun}
+use Rattle.disk_runs.specs.disk_image.MasterSlots.{master_on}
+use Rattle.disk_runs.specs.disk_image.Shown.{image_by, IsCleanDisk}
+use Rattle.disk_runs.specs.image_model.Images.{map_of}
 use Rattle.recovery.specs.Crashes.{IsNextOf}
 use Rattle.recovery.specs.Masters.{next_master}
 use Rattle.recovery.specs.Starts.{IsStartOf}
 use Rattle.recovery.specs.Telling.{TellsAll}
-use Rattle.core_state.specs.Openings.{Opening, first_map}
+use Rattle.disk_runs.specs.core_state.Openings.{Opening, first_map}
 use Rattle.disk_runs.specs.Stands.{Known, Stands}
 use Rattle.call_parts.specs.Memory.{IsOf, Memory}
 use Rattle.paged_engine.specs.declared.opening.Size.{Size}

@@ -1,19 +1,19 @@
 use Rattle.std.proofs.Common.{◌≡◌, ◌%◌, ◌∙◌, ℕ, List, Option, Some, None, [], ◌∷◌, true, refl, sym, ap, subst}
 use Rattle.std.proofs.lemmas.Bool.{lt-ltb}
 use Rattle.page_model.specs.Nodes.{Node, holds}
-use Rattle.core_state.specs.Needs.{following, holds_row}
-use Rattle.core_state.specs.States.{Worker, is_hot}
-use Rattle.row_words.specs.declared.event.Event.{Event}
-use Rattle.row_words.specs.declared.event.Event.TheVariants.{Next, Miss}
-use Rattle.row_words.specs.declared.given.Given.{Given}
-use Rattle.row_words.specs.Moments.{format_of}
-use Rattle.row_words.specs.Openings.{opening}
-use Rattle.row_words.specs.Words.{framed_page}
-use Rattle.row_words.proofs.Frames.{framed_high}
-use Rattle.rows_trait.specs.declared.view.View.{View}
-use Rattle.rows_trait.specs.Views.{after_all, may, state}
-use Rattle.rows_trait.proofs.Runs.{ran_none}
-use Rattle.version_latch.proofs.Keeping.{looked_ran}
+use Rattle.lean_proto.specs.core_state.Needs.{following, holds_row}
+use Rattle.lean_proto.specs.core_state.States.{Worker, is_hot}
+use Rattle.lean_proto.specs.row_words.declared.event.Event.{Event}
+use Rattle.lean_proto.specs.row_words.declared.event.Event.TheVariants.{Next, Miss}
+use Rattle.lean_proto.specs.row_words.declared.given.Given.{Given}
+use Rattle.lean_proto.specs.row_words.Moments.{format_of}
+use Rattle.lean_proto.specs.row_words.Openings.{opening}
+use Rattle.lean_proto.specs.row_words.Words.{framed_page}
+use Rattle.lean_proto.proofs.row_words_lemmas.Frames.{framed_high}
+use Rattle.lean_proto.specs.rows_trait.declared.view.View.{View}
+use Rattle.lean_proto.specs.rows_trait.Views.{after_all, may, state}
+use Rattle.lean_proto.proofs.rows_trait_lemmas.Runs.{ran_none}
+use Rattle.lean_proto.proofs.version_latch_lemmas.Keeping.{looked_ran}
 use Rattle.lean_proto.specs.Kept.{OwnKept}
 use Rattle.lean_proto.proofs.Owns.{own_after}
 use Rattle.btree_descent.specs.Named.{next_at, met_or}

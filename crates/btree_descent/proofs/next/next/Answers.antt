@@ -1,5 +1,5 @@
 use Rattle.std.proofs.Common.{◌∙◌, ap, sym, subst}
-use Rattle.rows_trait.specs.Views.{Shape}
+use Rattle.lean_proto.specs.rows_trait.Views.{Shape}
 use Rattle.btree_descent.specs.Inside.{AtLeaf}
 use Rattle.btree_descent.specs.declared.next.Following.{Following}
 use Rattle.btree_descent.specs.Nexts.{IsWalked, IsMet, WalkCaused}

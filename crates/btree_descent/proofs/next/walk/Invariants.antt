@@ -1,6 +1,6 @@
 use Rattle.std.proofs.Common.{◌≡◌, ◌≤◌}
 use Rattle.page_model.specs.Page as stored
-use Rattle.version_latch.specs.Kept.{Kept}
+use Rattle.lean_proto.specs.version_latch.Kept.{Kept}
 use Rattle.btree_descent.specs.Inside.{IsSeen}
 use Rattle.btree_descent.specs.Meets.{Passed}
 use Rattle.btree_descent.proofs.next.walk.Given as goal

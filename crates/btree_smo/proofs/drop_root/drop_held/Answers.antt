@@ -1,7 +1,7 @@
 use Rattle.std.proofs.Common.{[], refl, sym, subst, arith}
-use Rattle.rows_trait.specs.Views.{Shape}
-use Rattle.row_words.specs.declared.event.Event.TheVariants.{Drop}
-use Rattle.version_latch.proofs.Keeping.{may_ran}
+use Rattle.btree_descent.specs.rows_trait.Views.{Shape}
+use Rattle.btree_descent.specs.row_words.declared.event.Event.TheVariants.{Drop}
+use Rattle.btree_descent.proofs.version_latch_lemmas.Keeping.{may_ran}
 use Rattle.btree_descent.proofs.Calls.{sound_given}
 use Rattle.btree_descent.proofs.Spots.{draws_after}
 use Rattle.btree_smo.specs.Outcomes.{MissedUpTo}

@@ -1,6 +1,6 @@
 use Rattle.std.proofs.Common.{◌≡◌, ◌≤◌, ◌<◌, ◌%◌, ◌+◌, ◌∙◌, ℕ, List, length, refl, sym, ap, subst, arith}
-use Rattle.rows_trait.specs.declared.view.View.{View}
-use Rattle.rows_trait.specs.Views.{Shape}
+use Rattle.btree_descent.specs.rows_trait.declared.view.View.{View}
+use Rattle.btree_descent.specs.rows_trait.Views.{Shape}
 use Rattle.page_model.specs.Needs.{key_at}
 use Rattle.key_locks.specs.Rows.{Sized, IsSound}
 use Rattle.btree_smo.specs.declared.quiet.Quiet.{Quiet}

@@ -1,7 +1,7 @@
 use Rattle.std.proofs.Common.{refl, ◌∙◌, ◌++◌, subst, drop}
-use Rattle.btree_node.specs.Words.{words_of}
-use Rattle.row_words.specs.declared.event.Event.TheVariants.{Join}
-use Rattle.rows_trait.specs.Views.{Shape, held_at}
+use Rattle.disk_image.specs.btree_node.Words.{words_of}
+use Rattle.btree_descent.specs.row_words.declared.event.Event.TheVariants.{Join}
+use Rattle.btree_descent.specs.rows_trait.Views.{Shape, held_at}
 use Rattle.held_rows.specs.Rows.{Wrote}
 use Rattle.held_rows.specs.Waits.{opens_three_as, may_as, changed_as, went_as, went_after}
 use Rattle.btree_smo.proofs.PublishingThree.{three_waited, node_a, node_b, node_d, three_opened}

@@ -1,7 +1,7 @@
 use Rattle.std.proofs.Common.{◌∙◌, ◌∷◌, refl, ap}
-use Rattle.btree_node.proofs.FlatLemmas.{words-whole, words-pairs_of}
-use Rattle.log_record.specs.declared.record.Record.{Record}
-use Rattle.log_record.specs.declared.record.Body.TheVariants as body
+use Rattle.disk_image.proofs.btree_node_lemmas.FlatLemmas.{words-whole, words-pairs_of}
+use Rattle.disk_image.specs.log_record.declared.record.Record.{Record}
+use Rattle.disk_image.specs.log_record.declared.record.Body.TheVariants as body
 use Rattle.btree_smo.proofs.join.stage.Goals as goal
 
 pub pairs_of-pairs-requires-clause-whole : goal.pairs_of-pairs-requires-clause-whole

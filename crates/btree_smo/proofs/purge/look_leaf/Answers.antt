@@ -2,8 +2,8 @@ use Rattle.std.proofs.Common.{◌∙◌, ◌≡◌, ◌≤◌, ◌&&◌, ◌==�
 use Rattle.std.proofs.lemmas.Bool.{and_left, and_right, ne_eqb}
 use Rattle.page_model.specs.Page as stored
 use Rattle.page_model.specs.Nodes.{is_leaf}
-use Rattle.row_words.specs.declared.given.Given.{Given}
-use Rattle.row_words.specs.Moments.{Moment}
+use Rattle.btree_descent.specs.row_words.declared.given.Given.{Given}
+use Rattle.btree_descent.specs.row_words.Moments.{Moment}
 use Rattle.btree_descent.specs.Known.{Sound}
 use Rattle.btree_descent.specs.declared.put.TheConstants.{LAST_NUMBER}
 use Rattle.btree_descent.proofs.Calls.{sound_after}

@@ -1,5 +1,5 @@
 use Rattle.std.proofs.Common.{◌∙◌, ℕ, refl, sym, ap, subst}
-use Rattle.rows_trait.specs.Views.{Shape, holds}
+use Rattle.btree_descent.specs.rows_trait.Views.{Shape, holds}
 use Rattle.btree_descent.proofs.Calls.{frame_row, frames_after, sound_given}
 use Rattle.btree_descent.proofs.Spots.{draws_after}
 use Rattle.held_rows.specs.Rows.{HoldsOne}

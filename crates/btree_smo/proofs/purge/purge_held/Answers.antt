@@ -1,9 +1,9 @@
 use Rattle.std.proofs.Common.{◌≡◌, ◌<◌, ◌≤◌, ◌+◌, ◌-◌, ◌∙◌, ◌⊎◌, inl, inr, ℕ, true, List, [], ◌∷◌, length, refl, sym, ap, subst, arith}
-use Rattle.row_words.specs.declared.given.Given.{Given}
-use Rattle.row_words.specs.declared.event.Event.TheVariants.{Purge}
+use Rattle.btree_descent.specs.row_words.declared.given.Given.{Given}
+use Rattle.btree_descent.specs.row_words.declared.event.Event.TheVariants.{Purge}
 use Rattle.page_model.specs.Pairs.{Pair}
-use Rattle.rows_trait.specs.Views.{Shape, state, may}
-use Rattle.version_latch.proofs.Keeping.{may_ran}
+use Rattle.btree_descent.specs.rows_trait.Views.{Shape, state, may}
+use Rattle.btree_descent.proofs.version_latch_lemmas.Keeping.{may_ran}
 use Rattle.btree_descent.proofs.Calls.{sound_given}
 use Rattle.btree_descent.proofs.Spots.{draws_after}
 use Rattle.btree_smo.specs.Outcomes.{MissedUpTo}
@@ -12,7 +12,7 @@ use Rattle.held_rows.specs.Waits.{stood_then}
 use Rattle.btree_smo.specs.Inside.Quiet.{with_holds}
 use Rattle.btree_smo.specs.Purges.{IsFloor, Keeps}
 use Rattle.btree_smo.specs.Inside.Purging.{Holding, CanGo, IsPurging, IsRecord, KeepsBeside, WentOn}
-use Rattle.log_record.specs.declared.record.Record.{Record}
+use Rattle.disk_image.specs.log_record.declared.record.Record.{Record}
 use Rattle.btree_smo.proofs.Causes.{found_before, found_after}
 use Rattle.btree_smo.proofs.LockRows.{hold_none}
 use Rattle.btree_smo.proofs.Tombstones.{sized_on}

@@ -1,9 +1,9 @@
 use Rattle.std.proofs.Common.{◌∙◌, ◌+◌, [], sym, ap, subst, arith}
-use Rattle.rows_trait.specs.Views.{Shape}
-use Rattle.rows_trait.specs.Turns.{Looked, Taken}
-use Rattle.rows_trait.specs.Causes.{HasFound}
-use Rattle.version_latch.specs.declared.glimpse.Unheld.{Unheld}
-use Rattle.version_latch.specs.Unheld.{NotHeld}
+use Rattle.btree_descent.specs.rows_trait.Views.{Shape}
+use Rattle.btree_descent.specs.rows_trait.Turns.{Looked, Taken}
+use Rattle.btree_descent.specs.rows_trait.Causes.{HasFound}
+use Rattle.btree_descent.specs.version_latch.declared.glimpse.Unheld.{Unheld}
+use Rattle.btree_descent.specs.version_latch.Unheld.{NotHeld}
 use Rattle.held_rows.specs.Rows.{Stood}
 use Rattle.held_rows.specs.Latching.{Took}
 use Rattle.held_rows.specs.Waits.{stood_then, stood_shape}

@@ -3,7 +3,7 @@ use Rattle.std.specs.Prelude.{slice_index}
 use Rattle.std.specs.List.{All}
 use Rattle.std.proofs.lemmas.List.{take_more, take_more_set}
 use Rattle.std.proofs.lemmas.List.Elements.{All-push}
-use Rattle.log_record.specs.Spelling.{KeyFits}
+use Rattle.disk_image.specs.log_record.Spelling.{KeyFits}
 use Rattle.btree_smo.proofs.Words.{key_behind}
 use Rattle.btree_smo.proofs.record.fill_keys.Goals as goal
 

@@ -1,5 +1,5 @@
 use Rattle.std.proofs.Common.{subst, sym, length}
-use Rattle.rows_trait.specs.Views.{Shape}
+use Rattle.btree_descent.specs.rows_trait.Views.{Shape}
 use Rattle.btree_smo.specs.Outcomes.{MissedUpTo}
 use Rattle.btree_smo.specs.Inside.Purging.{KeepsPlaces}
 use Rattle.held_rows.specs.Waits.{missed_then}

@@ -3,9 +3,9 @@ use Rattle.std.specs.Prelude.{slice_index}
 use Rattle.std.proofs.lemmas.Bool.{cond-true, eq-eqb}
 use Rattle.std.proofs.lemmas.List.{drop_more}
 use Rattle.page_model.specs.Pairs.{is_in}
-use Rattle.rows_trait.specs.declared.view.View.{View}
-use Rattle.rows_trait.specs.Views.{Shape}
-use Rattle.rows_trait.specs.Turns.{Released}
+use Rattle.btree_descent.specs.rows_trait.declared.view.View.{View}
+use Rattle.btree_descent.specs.rows_trait.Views.{Shape}
+use Rattle.btree_descent.specs.rows_trait.Turns.{Released}
 use Rattle.btree_smo.specs.Outcomes.{MissedUpTo}
 use Rattle.btree_smo.specs.Inside.Purging.{KeepsPlaces}
 use Rattle.btree_smo.proofs.GivingUp.{keeps_next, keeps_none, missed_none, missed_one}
@@ -43,7 +43,7 @@ release-requires-clause-row g c =
     let n = ap (λ (ys : List ℕ). length ys) same in
     let k = next _ _ c.args.frames c.loop-i.i c.all-all.result.now c.args.places.now same (let lt = c.loop-i-test.true in omega arith) inv.keeps in
     let a = (k.each (slice_index c.all-all.result.now c.loop-i.i) (head (slice_index c.all-all.result.now c.loop-i.i) (drop (c.loop-i.i + 1) c.args.places.now))).inside in
-    subst (λ (y : Shape). c.args.frames + slice_index c.all-all.result.now c.loop-i.i < Rattle.rows_trait.specs.Layout.rows_of y.sizes) (sym inv.fits.1) a
+    subst (λ (y : Shape). c.args.frames + slice_index c.all-all.result.now c.loop-i.i < Rattle.btree_descent.specs.rows_trait.Layout.rows_of y.sizes) (sym inv.fits.1) a
 
 pub release-requires-clause-held : goal.release-requires-clause-held
 release-requires-clause-held g c =

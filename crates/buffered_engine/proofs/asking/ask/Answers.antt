@@ -1,6 +1,6 @@
 use Rattle.std.proofs.Common.{◌≡◌, ℕ, List, sym, ap, ◌∙◌, subst, true≢false}
 use Rattle.core_calls.specs.Fronts.{Done}
-use Rattle.core_state.specs.Openings.{Opening}
+use Rattle.rows_trait.specs.core_state.Openings.{Opening}
 use Rattle.engine_trait.specs.Calls.{IsAsked}
 use Rattle.map_model.specs.declared.call.Call.{Call}
 use Rattle.map_model.specs.declared.call.Call.TheVariants as calls

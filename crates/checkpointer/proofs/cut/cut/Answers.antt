@@ -1,5 +1,5 @@
 use Rattle.std.proofs.Common.{◌∙◌, ℕ, sym, subst, true≢false}
-use Rattle.disk_slots.specs.declared.master.Master.{Master}
+use Rattle.disk_runs.specs.disk_slots.declared.master.Master.{Master}
 use Rattle.checkpointer.specs.Cuts.{IsCutOff, KeepsCut}
 use Rattle.checkpointer.proofs.CutLemmas.{cut_keeps, cut_off, none_moves, one_number, passed_none, same_heads, still_keeps, still_off}
 use Rattle.checkpointer.proofs.cut.cut.Goals as goal

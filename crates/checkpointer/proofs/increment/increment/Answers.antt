@@ -1,5 +1,5 @@
 use Rattle.std.proofs.Common.{◌∙◌, refl, subst}
-use Rattle.core_state.specs.Openings.{Opening}
+use Rattle.disk_runs.specs.core_state.Openings.{Opening}
 use Rattle.checkpointer.specs.Savers.{KeepsRun, Settles}
 use Rattle.checkpointer.proofs.GoingLemmas.{fails_looked, going_looked, incremented, settle_fails}
 use Rattle.checkpointer.proofs.increment.increment.Goals as goal

@@ -1,6 +1,6 @@
 use Rattle.std.proofs.Common.{◌≡◌, Some, None, List, ℕ, sym, ◌∙◌, refl}
 use Rattle.std.proofs.lemmas.Bool.{true≢false}
-use Rattle.disk_image.specs.MasterSlots.{master_on}
+use Rattle.master_store.specs.disk_image.MasterSlots.{master_on}
 use Rattle.disk_format.proofs.MasterLemmas.{some_master, no_master}
 use Rattle.disk_format.proofs.new_disk.disk_has_master.Goals as goal
 

@@ -1,6 +1,6 @@
 use Rattle.std.proofs.Common.{rules, ◌≡◌, ◌++◌, List, ℕ, length, replicate, ap, ◌∙◌}
 use Rattle.page_model.specs.Page.{new_page}
-use Rattle.disk_slots.specs.Pages.{page_slot}
+use Rattle.master_store.specs.disk_slots.Pages.{page_slot}
 use Rattle.disk_format.specs.Fresh.{fresh_node, fresh_page}
 use Rattle.disk_format.proofs.parts.write_fresh.Goals as goal
 

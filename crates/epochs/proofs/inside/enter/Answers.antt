@@ -1,7 +1,7 @@
 use Rattle.std.proofs.Common.{[], ◌∷◌, arith, subst, sym}
-use Rattle.row_words.specs.declared.event.Event.TheVariants.{Enter}
-use Rattle.rows_trait.specs.Views.{Shape}
-use Rattle.rows_trait.specs.Turns.{MayTurn, Turned}
+use Rattle.lean_proto.specs.row_words.declared.event.Event.TheVariants.{Enter}
+use Rattle.lean_proto.specs.rows_trait.Views.{Shape}
+use Rattle.lean_proto.specs.rows_trait.Turns.{MayTurn, Turned}
 use Rattle.epochs.proofs.Entering.{enter_ready, has_entered}
 use Rattle.epochs.proofs.inside.enter.Goals as goal
 

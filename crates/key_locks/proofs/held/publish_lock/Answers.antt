@@ -1,8 +1,8 @@
 use Rattle.std.proofs.Common.{◌∙◌, refl, sym, ap}
-use Rattle.row_words.specs.declared.event.Event.TheVariants.{Lock}
-use Rattle.row_words.specs.Openings.{opening}
-use Rattle.rows_trait.specs.Inside.{first_of}
-use Rattle.rows_trait.specs.Views.{state}
+use Rattle.lean_proto.specs.row_words.declared.event.Event.TheVariants.{Lock}
+use Rattle.lean_proto.specs.row_words.Openings.{opening}
+use Rattle.lean_proto.specs.rows_trait.Inside.{first_of}
+use Rattle.lean_proto.specs.rows_trait.Views.{state}
 use Rattle.key_locks.specs.Rows.{event_mode}
 use Rattle.key_locks.proofs.Publishing.{lock_ready}
 use Rattle.key_locks.proofs.held.publish_lock.Goals as goal

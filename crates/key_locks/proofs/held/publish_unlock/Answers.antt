@@ -1,8 +1,8 @@
 use Rattle.std.proofs.Common.{◌∙◌, refl, sym, ap}
-use Rattle.row_words.specs.declared.event.Event.TheVariants.{Unlock}
-use Rattle.row_words.specs.Openings.{opening}
-use Rattle.rows_trait.specs.Inside.{first_of}
-use Rattle.rows_trait.specs.Views.{state}
+use Rattle.lean_proto.specs.row_words.declared.event.Event.TheVariants.{Unlock}
+use Rattle.lean_proto.specs.row_words.Openings.{opening}
+use Rattle.lean_proto.specs.rows_trait.Inside.{first_of}
+use Rattle.lean_proto.specs.rows_trait.Views.{state}
 use Rattle.key_locks.proofs.Publishing.{unlock_ready}
 use Rattle.key_locks.proofs.held.publish_unlock.Goals as goal
 

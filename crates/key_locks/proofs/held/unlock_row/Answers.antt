@@ -1,12 +1,12 @@
 use Rattle.std.proofs.Common.{◌≡◌, ◌∙◌, sym, ap, subst, true}
-use Rattle.core_state.specs.States.{Row}
-use Rattle.core_state.specs.Needs as needs
-use Rattle.core_state.specs.Steps.{unlocked}
-use Rattle.row_words.specs.declared.event.Event.TheVariants.{Unlock}
-use Rattle.row_words.specs.declared.given.Given.{Given}
-use Rattle.row_words.specs.Moments.{event_of}
-use Rattle.row_words.specs.Openings.{opening}
-use Rattle.rows_trait.specs.Views.{Shape, state}
+use Rattle.lean_proto.specs.core_state.States.{Row}
+use Rattle.lean_proto.specs.core_state.Needs as needs
+use Rattle.lean_proto.specs.core_state.Steps.{unlocked}
+use Rattle.lean_proto.specs.row_words.declared.event.Event.TheVariants.{Unlock}
+use Rattle.lean_proto.specs.row_words.declared.given.Given.{Given}
+use Rattle.lean_proto.specs.row_words.Moments.{event_of}
+use Rattle.lean_proto.specs.row_words.Openings.{opening}
+use Rattle.lean_proto.specs.rows_trait.Views.{Shape, state}
 use Rattle.key_locks.specs.Locking.{IsPublished}
 use Rattle.key_locks.proofs.Calls.{published_before}
 use Rattle.key_locks.proofs.Staying.{worker_ran}

@@ -1,15 +1,15 @@
 use Rattle.std.proofs.Common.{◌∙◌, ◌<◌, ℕ, [], ◌∷◌, refl, sym, ap, subst, false, arith}
-use Rattle.rows_trait.specs.declared.view.View.{View}
-use Rattle.rows_trait.specs.Views.{Shape, may, hold, holds}
-use Rattle.rows_trait.specs.Layout.{rows_of}
-use Rattle.rows_trait.specs.Causes.{HasFound}
-use Rattle.rows_trait.specs.Turns.{Taken, Ran}
-use Rattle.rows_trait.proofs.Runs.{ran_append}
-use Rattle.version_latch.specs.declared.glimpse.Unheld.{Unheld}
-use Rattle.version_latch.specs.Unheld.{NotHeld}
-use Rattle.version_latch.specs.Named.{missed, checked}
-use Rattle.version_latch.proofs.Naming.{missed_silent, checked_silent}
-use Rattle.version_latch.proofs.Keeping.{may_ran, may_shape, looked_latest}
+use Rattle.lean_proto.specs.rows_trait.declared.view.View.{View}
+use Rattle.lean_proto.specs.rows_trait.Views.{Shape, may, hold, holds}
+use Rattle.lean_proto.specs.rows_trait.Layout.{rows_of}
+use Rattle.lean_proto.specs.rows_trait.Causes.{HasFound}
+use Rattle.lean_proto.specs.rows_trait.Turns.{Taken, Ran}
+use Rattle.lean_proto.proofs.rows_trait_lemmas.Runs.{ran_append}
+use Rattle.lean_proto.specs.version_latch.declared.glimpse.Unheld.{Unheld}
+use Rattle.lean_proto.specs.version_latch.Unheld.{NotHeld}
+use Rattle.lean_proto.specs.version_latch.Named.{missed, checked}
+use Rattle.lean_proto.proofs.version_latch_lemmas.Naming.{missed_silent, checked_silent}
+use Rattle.lean_proto.proofs.version_latch_lemmas.Keeping.{may_ran, may_shape, looked_latest}
 use Rattle.key_locks.proofs.Taking.{taken_by, looked_ran, checked_ran, moved_after}
 use Rattle.key_locks.proofs.latches.latch_row.Goals as goal
 

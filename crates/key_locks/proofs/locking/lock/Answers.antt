@@ -1,5 +1,5 @@
 use Rattle.std.proofs.Common.{◌+◌, ℕ, false, ◌≡◌, IfErr, IfOk, subst, true}
-use Rattle.rows_trait.specs.Views.{holds}
+use Rattle.lean_proto.specs.rows_trait.Views.{holds}
 use Rattle.key_locks.specs.declared.locking.Stamp.{Stamp}
 use Rattle.key_locks.specs.declared.locking.Refusal.{Refusal}
 use Rattle.key_locks.specs.Locking.{HasLock, IsUnmet, Refuses}

@@ -1,12 +1,12 @@
 use Rattle.std.proofs.Common.{◌∙◌, ℕ, refl, sym, ap, subst}
-use Rattle.row_words.specs.declared.event.Event.TheVariants.{Lock}
-use Rattle.rows_trait.specs.Inside.{first_of}
-use Rattle.rows_trait.specs.Turns.{Looked}
-use Rattle.rows_trait.specs.Views.{Shape, may}
-use Rattle.version_latch.specs.declared.glimpse.Unheld.{Unheld}
-use Rattle.version_latch.specs.Named.{checked, missed}
-use Rattle.version_latch.specs.Unheld.{NotHeld}
-use Rattle.version_latch.proofs.Naming.{checked_silent, missed_silent}
+use Rattle.lean_proto.specs.row_words.declared.event.Event.TheVariants.{Lock}
+use Rattle.lean_proto.specs.rows_trait.Inside.{first_of}
+use Rattle.lean_proto.specs.rows_trait.Turns.{Looked}
+use Rattle.lean_proto.specs.rows_trait.Views.{Shape, may}
+use Rattle.lean_proto.specs.version_latch.declared.glimpse.Unheld.{Unheld}
+use Rattle.lean_proto.specs.version_latch.Named.{checked, missed}
+use Rattle.lean_proto.specs.version_latch.Unheld.{NotHeld}
+use Rattle.lean_proto.proofs.version_latch_lemmas.Naming.{checked_silent, missed_silent}
 use Rattle.key_locks.specs.Rows.{event_mode}
 use Rattle.key_locks.proofs.Again.{again_after, again_event, own, steady, taken_as}
 use Rattle.key_locks.proofs.locking.lock_again.Goals as goal

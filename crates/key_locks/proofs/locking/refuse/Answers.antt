@@ -1,12 +1,12 @@
 use Rattle.std.proofs.Common.{◌∙◌, [], ◌∷◌, sym, subst, arith}
-use Rattle.row_words.specs.declared.event.Event.TheVariants.{Miss}
-use Rattle.row_words.specs.declared.given.Given.{Given}
-use Rattle.rows_trait.specs.Views.{after_all, may}
-use Rattle.rows_trait.proofs.Runs.{ran_append}
-use Rattle.version_latch.specs.Named.{checked}
+use Rattle.lean_proto.specs.row_words.declared.event.Event.TheVariants.{Miss}
+use Rattle.lean_proto.specs.row_words.declared.given.Given.{Given}
+use Rattle.lean_proto.specs.rows_trait.Views.{after_all, may}
+use Rattle.lean_proto.proofs.rows_trait_lemmas.Runs.{ran_append}
+use Rattle.lean_proto.specs.version_latch.Named.{checked}
 use Rattle.key_locks.specs.Rows.{IsBlocking, core_mode}
-use Rattle.version_latch.proofs.Naming.{checked_silent, checked_other}
-use Rattle.version_latch.proofs.Keeping.{goes_ran}
+use Rattle.lean_proto.proofs.version_latch_lemmas.Naming.{checked_silent, checked_other}
+use Rattle.lean_proto.proofs.version_latch_lemmas.Keeping.{goes_ran}
 use Rattle.key_locks.proofs.Taking.{known_said, blocker_works, checked_ran}
 use Rattle.key_locks.proofs.locking.refuse.Goals as goal
 
@@ -23,7 +23,7 @@ overflow_cast-result g c =
     let o = (after_all v.given w.seen).core.row i in
     let is = c.requires.sound.0 w.seen i in
     let said = known_said z v w c.args.glimpse.now.row i c.args.glimpse.now.version c.args.words.now c.requires.at c.in-Ok.ensures.ok.goes.given c.requires.known c.in-Ok.ensures.valid in
-    let b = blocker_works (Rattle.row_words.specs.Openings.opening v.given).workers o c.args.locks.now.worker c.args.other (core_mode c.args.locks.now.mode) is (c.requires.blocked o is said) in
+    let b = blocker_works (Rattle.lean_proto.specs.row_words.Openings.opening v.given).workers o c.args.locks.now.worker c.args.other (core_mode c.args.locks.now.mode) is (c.requires.blocked o is said) in
     record { fits = (let l = b.among in let few = c.requires.sound.1 in omega arith) }
 
 pub returns-in-Ok-clause-refused : goal.returns-in-Ok-clause-refused

@@ -1,16 +1,16 @@
 use Rattle.std.proofs.Common.{◌∙◌, ℕ, [], ap, subst, arith}
-use Rattle.row_words.specs.declared.event.Event.TheVariants.{Lock}
-use Rattle.row_words.specs.Openings.{opening}
-use Rattle.rows_trait.specs.Views.{Shape, state, may, without}
-use Rattle.rows_trait.proofs.Runs.{ran_append}
-use Rattle.version_latch.specs.declared.glimpse.Unheld.{Unheld}
-use Rattle.version_latch.specs.Unheld.{NotHeld}
-use Rattle.version_latch.specs.Named.{checked}
-use Rattle.core_state.specs.Steps.{locked}
+use Rattle.lean_proto.specs.row_words.declared.event.Event.TheVariants.{Lock}
+use Rattle.lean_proto.specs.row_words.Openings.{opening}
+use Rattle.lean_proto.specs.rows_trait.Views.{Shape, state, may, without}
+use Rattle.lean_proto.proofs.rows_trait_lemmas.Runs.{ran_append}
+use Rattle.lean_proto.specs.version_latch.declared.glimpse.Unheld.{Unheld}
+use Rattle.lean_proto.specs.version_latch.Unheld.{NotHeld}
+use Rattle.lean_proto.specs.version_latch.Named.{checked}
+use Rattle.lean_proto.specs.core_state.Steps.{locked}
 use Rattle.key_locks.specs.Rows.{IsRow, core_mode, event_mode}
 use Rattle.key_locks.specs.Inside.{IsSaid}
 use Rattle.key_locks.specs.Locking.{IsPublished}
-use Rattle.version_latch.proofs.Naming.{checked_silent}
+use Rattle.lean_proto.proofs.version_latch_lemmas.Naming.{checked_silent}
 use Rattle.key_locks.proofs.Calls.{published_before}
 use Rattle.key_locks.proofs.Holding.{held_at_row}
 use Rattle.key_locks.proofs.Staying.{worker_ran}

@@ -1,5 +1,5 @@
 use Rattle.std.proofs.Common.{◌≡◌, ◌<◌, ◌≤◌, ℕ, ◌∙◌, true, sym, subst, arith}
-use Rattle.core_state.specs.Needs.{is_reader}
+use Rattle.lean_proto.specs.core_state.Needs.{is_reader}
 use Rattle.key_locks.proofs.Masks.{no_reader, least_reader}
 use Rattle.key_locks.proofs.words.least.Goals as goal
 

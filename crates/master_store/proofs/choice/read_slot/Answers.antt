@@ -1,7 +1,7 @@
 use Rattle.std.proofs.Common.{◌≡◌, ℕ, take, ap, subst, sym, ◌∙◌, refl}
-use Rattle.image_model.specs.Fair.{piece}
+use Rattle.page_store.specs.image_model.Fair.{piece}
 use Rattle.lean_disk.specs.Story.{Tells}
-use Rattle.disk_image.specs.MasterSlots.{master_in}
+use Rattle.page_store.specs.disk_image.MasterSlots.{master_in}
 use Rattle.master_store.proofs.ReadLemmas.{read_slot}
 use Rattle.master_store.proofs.choice.read_slot.Goals as goal
 

@@ -1,5 +1,5 @@
 use Rattle.std.proofs.Common.{◌≡◌, ◌*◌, ◌%◌, List, ℕ, IsTrue, subst, ◌∙◌, ap}
-use Rattle.disk_slots.specs.Masters.{master_slot}
+use Rattle.page_store.specs.disk_slots.Masters.{master_slot}
 use Rattle.lean_disk.specs.Area.{synced}
 use Rattle.lean_disk.specs.Calls.{Synced, Wrote}
 use Rattle.lean_disk.specs.Story.{Seat, Tells}

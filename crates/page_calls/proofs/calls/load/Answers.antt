@@ -1,8 +1,8 @@
 use Rattle.std.proofs.Common.{◌≡◌, ◌-◌, ℕ, IfOk, sym, subst}
 use Rattle.std.proofs.lemmas.Result.{IfOk-weaker}
 use Rattle.lean_disk.specs.Story.{Tells}
-use Rattle.page_store.specs.Slots.{HasSeal, HoldsIn, IsOf, slot_bytes}
-use Rattle.page_store.specs.declared.slot.Held.TheVariants as held
+use Rattle.disk_runs.specs.page_store.Slots.{HasSeal, HoldsIn, IsOf, slot_bytes}
+use Rattle.disk_runs.specs.page_store.declared.slot.Held.TheVariants as held
 use Rattle.page_calls.specs.Calls.{bounds_of}
 use Rattle.page_calls.specs.Mirrors.{LoadsMirrored}
 use Rattle.page_calls.specs.Slots.{last_slot}

@@ -1,7 +1,7 @@
 use Rattle.std.proofs.Common.{◌≡◌, ◌∙◌, Some, slice_get, sym, ap, subst}
 use Rattle.lean_disk.specs.Calls.{Wrote}
-use Rattle.disk_slots.specs.Pages.{page_slot}
-use Rattle.page_store.specs.Saved.{place_of}
+use Rattle.disk_runs.specs.disk_slots.Pages.{page_slot}
+use Rattle.disk_runs.specs.page_store.Saved.{place_of}
 use Rattle.page_calls.specs.Slots.{saved_slot}
 use Rattle.page_calls.specs.Calls.{SavesOn}
 use Rattle.page_calls.specs.Mirrors.{SavesMirrors}

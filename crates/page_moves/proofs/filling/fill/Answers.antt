@@ -1,6 +1,6 @@
 use Rattle.std.proofs.Common.{◌≡◌, ◌∙◌, ◌^◌, ◌+◌, ◌*◌, true, false, set, refl, sym, ap, subst, arith}
-use Rattle.row_words.specs.declared.event.Event.TheVariants.{Load}
-use Rattle.rows_trait.specs.Views.{holds, held_at}
+use Rattle.lean_proto.specs.row_words.declared.event.Event.TheVariants.{Load}
+use Rattle.lean_proto.specs.rows_trait.Views.{holds, held_at}
 use Rattle.held_rows.specs.Rows.{Wrote}
 use Rattle.held_rows.specs.Waits.{wrote_more, word_as, opens_two_as, may_as, changed_as, went_as, went_after}
 use Rattle.swips.specs.Hints.{mark}

@@ -1,6 +1,6 @@
 use Rattle.std.proofs.Common.{◌∙◌, ◌^◌, ◌+◌, ◌*◌, set, refl, ap, subst, arith}
-use Rattle.row_words.specs.declared.event.Event.TheVariants.{Rescue}
-use Rattle.rows_trait.specs.Views.{held_at}
+use Rattle.lean_proto.specs.row_words.declared.event.Event.TheVariants.{Rescue}
+use Rattle.lean_proto.specs.rows_trait.Views.{held_at}
 use Rattle.held_rows.specs.Rows.{Wrote}
 use Rattle.held_rows.specs.Waits.{word_as, opens_two_as, may_as, changed_as, went_as, went_after}
 use Rattle.page_moves.proofs.Swizzling.{both, both_open, own_changed, relink_may}

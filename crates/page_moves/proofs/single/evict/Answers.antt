@@ -1,5 +1,5 @@
 use Rattle.std.proofs.Common.{refl}
-use Rattle.row_words.specs.declared.event.Event.TheVariants.{Evict}
+use Rattle.lean_proto.specs.row_words.declared.event.Event.TheVariants.{Evict}
 use Rattle.held_rows.specs.Waits.{opens_one}
 use Rattle.page_moves.proofs.Alone.{evict_may}
 use Rattle.page_moves.proofs.single.evict.Goals as goal

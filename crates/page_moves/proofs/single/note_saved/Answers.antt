@@ -1,5 +1,5 @@
 use Rattle.std.proofs.Common.{refl}
-use Rattle.row_words.specs.declared.event.Event.TheVariants.{Save}
+use Rattle.lean_proto.specs.row_words.declared.event.Event.TheVariants.{Save}
 use Rattle.held_rows.specs.Waits.{opens_one, opens_one_as, may_as, went_as, went_after}
 use Rattle.page_moves.proofs.Alone.{save_may}
 use Rattle.page_moves.proofs.single.note_saved.Goals as goal

@@ -1,5 +1,5 @@
 use Rattle.std.proofs.Common.{◌∙◌, sym, arith}
-use Rattle.rows_trait.specs.Views.{state}
+use Rattle.btree_descent.specs.rows_trait.Views.{state}
 use Rattle.page_provider.proofs.Fetched.{fetch_aside, fetch_tame, told_heard, told_none}
 use Rattle.page_provider.proofs.Flushing.{some_words}
 use Rattle.page_provider.proofs.fetching.fetch.Goals as goal

@@ -1,5 +1,5 @@
 use Rattle.std.proofs.Common.{◌≡◌}
-use Rattle.rows_trait.specs.Views.{Knows}
+use Rattle.btree_descent.specs.rows_trait.Views.{Knows}
 use Rattle.row_image.specs.Looks.{Watched}
 use Rattle.page_provider.proofs.Peeks.{NoneBefore}
 use Rattle.page_provider.proofs.glancing.has_pair.Given as goal

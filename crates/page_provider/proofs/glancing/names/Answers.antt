@@ -1,5 +1,5 @@
 use Rattle.std.proofs.Common.{subst}
-use Rattle.row_words.specs.Moments.{pager}
+use Rattle.btree_descent.specs.row_words.Moments.{pager}
 use Rattle.row_image.specs.Images.{IsMissed}
 use Rattle.row_image.specs.declared.refusal.Unseen.{Unseen}
 use Rattle.page_provider.proofs.Sightings.{unseen_latched, unseen_moved}

@@ -1,12 +1,12 @@
 use Rattle.std.proofs.Common.{◌∙◌, ◌<◌, sym, subst}
-use Rattle.row_words.specs.Moments.{pager}
-use Rattle.row_words.specs.Openings.{opening}
-use Rattle.rows_trait.specs.Views.{state}
+use Rattle.btree_descent.specs.row_words.Moments.{pager}
+use Rattle.btree_descent.specs.row_words.Openings.{opening}
+use Rattle.btree_descent.specs.rows_trait.Views.{state}
 use Rattle.btree_descent.proofs.Calls.{frames_after}
 use Rattle.row_image.specs.Hot.{IsBare}
 use Rattle.row_image.proofs.Watching.{watched_load, watched_then, watched_shape, missed_refused, never_refused}
 use Rattle.row_image.proofs.Sighting.{begun_at, again_shape, moved_since, bare}
-use Rattle.swips.specs.declared.hint.TheConstants.{MARK}
+use Rattle.btree_descent.specs.swips.declared.hint.TheConstants.{MARK}
 use Rattle.page_provider.proofs.Peeks.{unequal_not}
 use Rattle.page_provider.proofs.glancing.unmarked.Goals as goal
 

@@ -1,7 +1,7 @@
 use Rattle.std.proofs.Common.{subst}
-use Rattle.version_latch.specs.declared.glimpse.Unheld.{Unheld}
+use Rattle.btree_descent.specs.version_latch.declared.glimpse.Unheld.{Unheld}
 use Rattle.row_image.specs.Sights.{IsUnheld}
-use Rattle.row_words.specs.Moments.{pager}
+use Rattle.btree_descent.specs.row_words.Moments.{pager}
 use Rattle.page_provider.proofs.Latches.{spent_seen, stopped_spent, takes_seen}
 use Rattle.page_provider.proofs.Loaded.{moved_loaded}
 use Rattle.page_provider.proofs.latching.take_seen.Goals as goal

@@ -1,12 +1,12 @@
 use Rattle.std.proofs.Common.{◌∙◌, subst, sym, ap}
-use Rattle.row_words.specs.Moments.{pager}
-use Rattle.rows_trait.specs.declared.view.View.{View}
-use Rattle.rows_trait.specs.Views.{Shape}
-use Rattle.version_latch.specs.declared.glimpse.Unheld.{Unheld}
+use Rattle.btree_descent.specs.row_words.Moments.{pager}
+use Rattle.btree_descent.specs.rows_trait.declared.view.View.{View}
+use Rattle.btree_descent.specs.rows_trait.Views.{Shape}
+use Rattle.btree_descent.specs.version_latch.declared.glimpse.Unheld.{Unheld}
 use Rattle.btree_descent.specs.Known.{IsSound}
 use Rattle.held_rows.proofs.GivingUp.{released_as}
 use Rattle.row_image.specs.Sights.{HasTaken, IsUnheld}
-use Rattle.row_words.specs.declared.given.Given.{Given}
+use Rattle.btree_descent.specs.row_words.declared.given.Given.{Given}
 use Rattle.page_provider.proofs.Latches.{behind_missed, both_moved, both_spent, seen_still, spent_missed, stopped_second, taken_words, takes_two}
 use Rattle.page_provider.proofs.latching.take_two.Goals as goal
 
@@ -38,7 +38,7 @@ returns-in-Moved-clause-err g c =
     let k = subst (λ (q : Unheld). IsUnheld y.alone pager c.args.second.now u q w) c.in-Moved.is c.in-Err.ensures.cause in
     let r = released_as (c.in-Err.ensures.fits.1 ∙ s1) c.in_ok-held.ensures.ok.0 c.release.ensures.step in
     let last = (seen_still c.laws.ensures.rows.sights c.requires.apart c.in_ok-held.ensures.taken c.requires.second).last in
-    stopped_second c.requires.held c.requires.first c.in_ok-held.ensures.taken k.held r tt (behind_missed (subst (λ (s : Shape). IsUnheld s.alone pager c.args.second.now u (Rattle.version_latch.specs.declared.glimpse.Unheld.TheVariants.Moved c.in-Moved.moved) w) s1 k))
+    stopped_second c.requires.held c.requires.first c.in_ok-held.ensures.taken k.held r tt (behind_missed (subst (λ (s : Shape). IsUnheld s.alone pager c.args.second.now u (Rattle.btree_descent.specs.version_latch.declared.glimpse.Unheld.TheVariants.Moved c.in-Moved.moved) w) s1 k))
     (λ alone _. subst (λ (q : Unheld). Rattle.row_image.specs.Sights.IsSpent q) c.in-Moved.is (c.in-Err.ensures.quiet (ap (λ (s : Shape). s.alone) s1 ∙ alone) (last alone)))
 
 pub returns-in-Moved-clause-cause : goal.returns-in-Moved-clause-cause

@@ -1,5 +1,5 @@
 use Rattle.std.proofs.Common.{◌∙◌, true, false, subst, ap, ◌≡◌}
-use Rattle.rows_trait.specs.Views.{Shape, holds}
+use Rattle.btree_descent.specs.rows_trait.Views.{Shape, holds}
 use Rattle.held_rows.specs.Latching as latching
 use Rattle.held_rows.specs.Latching.{Took}
 use Rattle.held_rows.specs.declared.latching.Refusal.{Refusal}

@@ -1,14 +1,14 @@
 use Rattle.std.proofs.Common.{◌∙◌, ℕ, [], sym, ap, subst}
-use Rattle.row_words.specs.Moments.{pager}
-use Rattle.row_words.specs.Sealed.{Shown}
-use Rattle.rows_trait.specs.Causes.{HasFound}
-use Rattle.rows_trait.specs.Turns.{Looked}
-use Rattle.rows_trait.specs.Views.{Shape, may, state}
-use Rattle.rows_trait.proofs.Causes.{found_after}
-use Rattle.rows_trait.proofs.Runs.{ran_append}
-use Rattle.version_latch.specs.Named.{checked, missed}
-use Rattle.version_latch.proofs.Keeping.{kept_load, kept_same, looked_after, looked_latest, may_ran, may_shape}
-use Rattle.version_latch.proofs.Naming.{checked_same, checked_silent, missed_silent}
+use Rattle.btree_descent.specs.row_words.Moments.{pager}
+use Rattle.btree_descent.specs.row_words.Sealed.{Shown}
+use Rattle.btree_descent.specs.rows_trait.Causes.{HasFound}
+use Rattle.btree_descent.specs.rows_trait.Turns.{Looked}
+use Rattle.btree_descent.specs.rows_trait.Views.{Shape, may, state}
+use Rattle.btree_descent.proofs.rows_trait_lemmas.Causes.{found_after}
+use Rattle.btree_descent.proofs.rows_trait_lemmas.Runs.{ran_append}
+use Rattle.btree_descent.specs.version_latch.Named.{checked, missed}
+use Rattle.btree_descent.proofs.version_latch_lemmas.Keeping.{kept_load, kept_same, looked_after, looked_latest, may_ran, may_shape}
+use Rattle.btree_descent.proofs.version_latch_lemmas.Naming.{checked_same, checked_silent, missed_silent}
 use Rattle.page_provider.proofs.Glances.{numbers, look_moved, start_missed, start_ran}
 use Rattle.page_provider.proofs.looking.number.Goals as goal
 
@@ -73,6 +73,6 @@ returns-in-Err-check-clause-err g c =
     let k = kept_same (g.R.Rows.shape c.start.new.rows) z u a s1 (kept_load (g.R.Rows.shape c.start.new.rows) row 1 c.word-number.result u a c.word-number.ensures.step) in
     let r = ran_append z.alone v [] u [] a (start_ran o.1 o.3) k.ran in
     let found = found_after row version v u a (subst (λ q. HasFound q version v u) (sym o.0) c.in-Ok.ensures.since.1) k.loads in
-    let last = k.latest row ∙ ap (λ q. Rattle.rows_trait.specs.Views.latest q u.steps) o.0 ∙ looked_latest z c.args.frame version (missed pager) v u o.3 in
+    let last = k.latest row ∙ ap (λ q. Rattle.btree_descent.specs.rows_trait.Views.latest q u.steps) o.0 ∙ looked_latest z c.args.frame version (missed pager) v u o.3 in
     let look = subst (λ (s : Shape). Looked s row (checked pager version) a m.found w) s2 e.3 in
     look_moved c.requires.actor r (k.held ∙ o.3.held) (λ _. last) (λ q. e.2 (q ∙ sym e.1)) look (c.in-Err-check.ensures.cause v found)

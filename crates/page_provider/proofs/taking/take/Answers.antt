@@ -1,5 +1,5 @@
 use Rattle.std.proofs.Common.{◌≡◌, ◌<◌, inl, true, false, sym, ap, subst, arith}
-use Rattle.rows_trait.specs.Views.{holds}
+use Rattle.btree_descent.specs.rows_trait.Views.{holds}
 use Rattle.held_rows.specs.Latching as latching
 use Rattle.held_rows.specs.declared.latching.Refusal.{Refusal}
 use Rattle.page_provider.proofs.Glances.{refused, spent_taken, takes}

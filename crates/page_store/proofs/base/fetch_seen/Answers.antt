@@ -3,7 +3,7 @@ use Rattle.lean_disk.specs.Area.{Area}
 use Rattle.lean_disk.specs.Moments.{OnlyReads}
 use Rattle.lean_disk.specs.Story.{Seat, Story, Tells, areas_of}
 use Rattle.lean_disk.proofs.MomentLemmas.{reads_none, reads_then}
-use Rattle.disk_slots.specs.declared.master.Master.{Master}
+use Rattle.disk_image.specs.disk_slots.declared.master.Master.{Master}
 use Rattle.page_store.specs.Inside.{page_of, valid_in}
 use Rattle.page_store.specs.Slots.{HoldsIn, IsHeldOf, slot_bytes}
 use Rattle.page_store.specs.declared.slot.Held.{Held}

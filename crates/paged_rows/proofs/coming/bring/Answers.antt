@@ -3,7 +3,7 @@ use Rattle.std.proofs.lemmas.Result.{err_from_is_err_and}
 use Rattle.page_provider.specs.declared.refusal.Refusal.{Refusal}
 use Rattle.page_provider.specs.Disks.{Disked}
 use Rattle.page_provider.specs.Providers.{Keeps}
-use Rattle.rows_trait.specs.Views.{Shape}
+use Rattle.btree_descent.specs.rows_trait.Views.{Shape}
 use Rattle.paged_rows.specs.Paged.{paged}
 use Rattle.paged_rows.specs.declared.wanted.Wanted.TheVariants as want
 use Rattle.paged_rows.specs.Warms.{IsRefusedTo, LostTo}

@@ -2,7 +2,7 @@ use Rattle.std.proofs.Common.{◌∙◌, ap, subst, sym}
 use Rattle.page_provider.specs.Disks.{Disked}
 use Rattle.page_provider.specs.Ends.{HasRefused}
 use Rattle.page_provider.specs.Faults.{ColdCause, FaultCause, HasPlaced}
-use Rattle.rows_trait.specs.Views.{Shape}
+use Rattle.btree_descent.specs.rows_trait.Views.{Shape}
 use Rattle.paged_rows.specs.Paged.{paged}
 use Rattle.paged_rows.specs.Warms.{HasJoined, IsRefusedTo, LostTo, most_a_page}
 use Rattle.paged_rows.specs.declared.wanted.Wanted.TheVariants as want

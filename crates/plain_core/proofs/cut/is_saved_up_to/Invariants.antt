@@ -1,6 +1,6 @@
 use Rattle.std.proofs.Common.{◌≡◌, Bool, drop}
 use Rattle.map_model.specs.Lists.{all}
-use Rattle.image_model.specs.Entries as entries
+use Rattle.core_state.specs.image_model.Entries as entries
 use Rattle.plain_core.specs.Inside.{is_saved}
 use Rattle.plain_core.specs.Tables.{at}
 use Rattle.plain_core.specs.Records.{page_of, entries_of}

@@ -1,5 +1,5 @@
 use Rattle.std.proofs.Common.{subst, sym}
-use Rattle.btree_node.specs.Words.{IsOrdered, pairs_of}
+use Rattle.disk_image.specs.btree_node.Words.{IsOrdered, pairs_of}
 use Rattle.record_redo.proofs.MakeLemmas.{split_ordered, lift_ordered, join_ordered, drop_ordered}
 use Rattle.record_redo.proofs.apply.make.Goals as goal
 

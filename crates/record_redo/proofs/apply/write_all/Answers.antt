@@ -2,7 +2,7 @@ use Rattle.std.proofs.Common.{◌≡◌, ◌<◌, List, length, get_or, true, sy
 use Rattle.std.proofs.lemmas.List.{drop_all}
 use Rattle.page_model.specs.Records.{Ref}
 use Rattle.disk_image.specs.Records.{entry_of}
-use Rattle.log_record.specs.declared.record.PageRef.{PageRef}
+use Rattle.disk_image.specs.log_record.declared.record.PageRef.{PageRef}
 use Rattle.record_redo.specs.Pages.{pages_of}
 use Rattle.record_redo.specs.Inside.{is_among, model_refs, steps}
 use Rattle.record_redo.proofs.AskLemmas.{nowhere}

@@ -1,8 +1,8 @@
 use Rattle.std.proofs.Common.{◌≡◌, Bool, true, false, not, ◌||◌, sym, ◌∙◌, ap, true≢false}
 use Rattle.std.proofs.lemmas.Bool.{eq-eqb}
-use Rattle.image_model.specs.Entries.{Contents, written}
+use Rattle.disk_image.specs.image_model.Entries.{Contents, written}
 use Rattle.disk_image.specs.Records.{entry_of}
-use Rattle.log_record.specs.Model.{model_ref}
+use Rattle.disk_image.specs.log_record.Model.{model_ref}
 use Rattle.record_redo.specs.Pages.{pages_of}
 use Rattle.record_redo.specs.Inside.{can_be, is_at}
 use Rattle.record_redo.proofs.PageLemmas.{page_here, number_here, keeps_set}

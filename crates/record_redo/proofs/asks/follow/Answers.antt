@@ -1,5 +1,5 @@
 use Rattle.std.proofs.Common.{◌++◌}
-use Rattle.btree_node.specs.Words.{pairs_of}
+use Rattle.disk_image.specs.btree_node.Words.{pairs_of}
 use Rattle.record_redo.proofs.MakeLemmas.{ordered_test}
 use Rattle.record_redo.proofs.asks.follow.Goals as goal
 

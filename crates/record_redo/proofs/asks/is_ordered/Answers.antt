@@ -1,4 +1,4 @@
-use Rattle.btree_node.specs.Words.{pairs_of}
+use Rattle.disk_image.specs.btree_node.Words.{pairs_of}
 use Rattle.record_redo.proofs.MakeLemmas.{ordered_test}
 use Rattle.record_redo.proofs.asks.is_ordered.Goals as goal
 

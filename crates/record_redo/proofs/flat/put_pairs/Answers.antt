@@ -1,6 +1,6 @@
 use Rattle.std.proofs.Common.{◌+◌, ◌*◌, get_or, set, ◌∙◌}
 use Rattle.std.proofs.lemmas.List.{length-set}
-use Rattle.log_record.specs.declared.record.Pair.{Pair}
+use Rattle.disk_image.specs.log_record.declared.record.Pair.{Pair}
 use Rattle.record_redo.proofs.MakeLemmas.{spelled_more}
 use Rattle.record_redo.proofs.flat.put_pairs.Goals as goal
 

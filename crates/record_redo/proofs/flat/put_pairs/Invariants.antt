@@ -1,6 +1,6 @@
 use Rattle.std.proofs.Common.{◌≡◌, ◌*◌, length, take, map}
-use Rattle.btree_node.specs.Words.{flat}
-use Rattle.log_record.specs.Model.{model_pair}
+use Rattle.disk_image.specs.btree_node.Words.{flat}
+use Rattle.disk_image.specs.log_record.Model.{model_pair}
 use Rattle.record_redo.proofs.flat.put_pairs.Given as goal
 
 abbrev pub invariant-loop-i : goal.invariant-loop-i

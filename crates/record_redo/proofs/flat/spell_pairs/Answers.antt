@@ -1,5 +1,5 @@
 use Rattle.std.proofs.Common.{◌*◌, length, take, ◌∙◌, ap}
-use Rattle.btree_node.specs.Words.{flat}
+use Rattle.disk_image.specs.btree_node.Words.{flat}
 use Rattle.record_redo.specs.Inside.{record_in}
 use Rattle.record_redo.proofs.MakeLemmas.{words_from}
 use Rattle.record_redo.proofs.flat.spell_pairs.Goals as goal

@@ -2,7 +2,7 @@ use Rattle.std.proofs.Common.{◌∙◌, List, length, true, false, sym, ap}
 use Rattle.std.proofs.lemmas.Bool.{lt-ltb, le-ltb}
 use Rattle.page_model.specs.Records.{Ref}
 use Rattle.disk_image.specs.Records.{entry_of, refs_of}
-use Rattle.log_record.specs.Model.{model_ref}
+use Rattle.disk_image.specs.log_record.Model.{model_ref}
 use Rattle.record_redo.specs.Pages.{pages_of}
 use Rattle.record_redo.specs.Inside.{steps}
 use Rattle.record_redo.proofs.LeafLemmas.{below_as, met_as, can_as}

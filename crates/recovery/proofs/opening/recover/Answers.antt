@@ -1,7 +1,7 @@
 use Rattle.std.proofs.Common.{◌≡◌, ◌^◌, ◌<◌, ◌≤◌, ◌+◌, ℕ, suc, Bool, List, length, refl, ap, subst, ◌∙◌, arith}
 use Rattle.std.proofs.lemmas.List.{length-replicate}
 use Rattle.lean_disk.specs.Story.{Tells}
-use Rattle.disk_slots.specs.declared.master.Master.{Master}
+use Rattle.master_store.specs.disk_slots.declared.master.Master.{Master}
 use Rattle.recovery.specs.Inside.{IsTurned}
 use Rattle.recovery.specs.Masters.{next_master}
 use Rattle.recovery.proofs.ClauseLemmas.{answers, installs, opens, saved_moments, wholes, written_moments}

@@ -1,7 +1,7 @@
 use Rattle.std.proofs.Common.{◌≡◌, sym, ◌∙◌, ap}
 use Rattle.std.proofs.lemmas.Slice.Eq.{bytes_eq-Decides}
 use Rattle.page_model.specs.Nodes.{Node}
-use Rattle.btree_node.specs.Words.{flat}
+use Rattle.master_store.specs.btree_node.Words.{flat}
 use Rattle.recovery.proofs.StrayLemmas.{same_bool, same_nodes}
 use Rattle.recovery.proofs.pages.is_same_node.Goals as goal
 

@@ -1,7 +1,7 @@
 use Rattle.std.proofs.Common.{◌+◌, ◌-◌, IsTrue, sym, subst}
 use Rattle.lean_disk.specs.Story.{areas_of}
-use Rattle.page_store.specs.Slots.{HoldsIn, IsHeldOf, slot_bytes}
-use Rattle.page_store.specs.declared.slot.Bounds.{Bounds}
+use Rattle.master_store.specs.page_store.Slots.{HoldsIn, IsHeldOf, slot_bytes}
+use Rattle.master_store.specs.page_store.declared.slot.Bounds.{Bounds}
 use Rattle.recovery.proofs.StrayLemmas.{seen_no_page}
 use Rattle.recovery.proofs.pages.is_stray.Goals as goal
 

@@ -2,8 +2,8 @@ use Rattle.std.proofs.Common.{◌≡◌, ◌∙◌, ap, subst}
 use Rattle.lean_disk.specs.Area.{Area}
 use Rattle.lean_disk.specs.Story.{areas_of}
 use Rattle.lean_disk.proofs.MomentLemmas.{reads_then}
-use Rattle.disk_image.specs.Shown.{Areas}
-use Rattle.page_store.specs.Bases.{IsAhead}
+use Rattle.master_store.specs.disk_image.Shown.{Areas}
+use Rattle.master_store.specs.page_store.Bases.{IsAhead}
 use Rattle.recovery.specs.Inside.{IsStray}
 use Rattle.recovery.proofs.PrepareLemmas.{same_areas}
 use Rattle.recovery.proofs.pages.see.Goals as goal

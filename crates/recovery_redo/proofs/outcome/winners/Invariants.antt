@@ -1,5 +1,5 @@
 use Rattle.std.proofs.Common.{◌≡◌, ◌≤◌, take, length}
-use Rattle.image_model.specs.Ends as ends
+use Rattle.disk_image.specs.image_model.Ends as ends
 use Rattle.recovery_scan.specs.Records.{entries_of}
 use Rattle.recovery_redo.proofs.outcome.winners.Given as goal
 

@@ -1,7 +1,7 @@
 use Rattle.std.proofs.Common.{◌≡◌, ◌<◌, ℕ, Bool, false, List, length, get_or, Err, sym, ◌∙◌, ap, subst, arith}
 use Rattle.std.specs.BTreeSet.{BTreeSet}
 use Rattle.std.proofs.lemmas.Result.{err_from_is_err_and}
-use Rattle.image_model.specs.Ends as ends
+use Rattle.disk_image.specs.image_model.Ends as ends
 use Rattle.disk_image.specs.Breaks.{Breaks}
 use Rattle.node_tree.specs.Nodes.{nodes_of}
 use Rattle.record_redo.specs.Pages.{MarksFor}

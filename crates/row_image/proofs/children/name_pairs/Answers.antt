@@ -3,7 +3,7 @@ use Rattle.std.specs.Prelude.{slice_index}
 use Rattle.std.proofs.lemmas.Result.{err_from_is_err_and}
 use Rattle.row_image.specs.declared.refusal.Unseen.{Unseen}
 use Rattle.row_image.specs.Inside.{AreNamed, IsNamed, Refused, IsRowOf, IsRowIn}
-use Rattle.rows_trait.specs.Views.{Shape}
+use Rattle.btree_descent.specs.rows_trait.Views.{Shape}
 use Rattle.row_image.proofs.Watching.{watched_none, watched_then, watched_shape, named_none, named_more, refused_after, refused_one, refused_shape, if_err}
 use Rattle.row_image.proofs.children.name_pairs.Goals as goal
 

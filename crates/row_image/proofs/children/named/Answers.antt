@@ -1,7 +1,7 @@
 use Rattle.std.proofs.Common.{◌≤◌, ◌^◌, ◌∙◌, ℕ, refl, subst, arith}
 use Rattle.std.proofs.lemmas.Result.{IfOk-weaker, IfErr-weaker}
-use Rattle.row_words.specs.Sealed.{Shown}
-use Rattle.rows_trait.specs.Views.{state}
+use Rattle.btree_descent.specs.row_words.Sealed.{Shown}
+use Rattle.btree_descent.specs.rows_trait.Views.{state}
 use Rattle.row_image.specs.Inside.{Watched, IsNamed}
 use Rattle.row_image.proofs.Watching.{watched_none, refused_one}
 use Rattle.row_image.proofs.children.named.Goals as goal

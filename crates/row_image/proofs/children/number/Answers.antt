@@ -1,6 +1,6 @@
 use Rattle.std.proofs.Common.{◌∙◌, subst}
-use Rattle.row_words.specs.Sealed.{Shown}
-use Rattle.rows_trait.specs.Views.{state}
+use Rattle.btree_descent.specs.row_words.Sealed.{Shown}
+use Rattle.btree_descent.specs.rows_trait.Views.{state}
 use Rattle.row_image.proofs.Watching.{refused_one, watched_load, watched_then, watched_shape}
 use Rattle.row_image.proofs.Sighting.{begun_at, again_shape, moved_since}
 use Rattle.row_image.proofs.children.number.Goals as goal

@@ -3,7 +3,7 @@ use Rattle.page_model.specs.Page.{Page}
 use Rattle.page_model.specs.Nodes.{Node}
 use Rattle.page_model.specs.Tree.{IsTree}
 use Rattle.page_model.specs.Check.{first_break}
-use Rattle.row_words.specs.Moments.{format_of}
+use Rattle.btree_descent.specs.row_words.Moments.{format_of}
 use Rattle.node_tree.specs.Nodes.{node_or, nodes_of}
 use Rattle.row_opening.specs.Opened.{page_or, page_at}
 use Rattle.std.specs.Prelude.{slice_get, is_some}

@@ -1,5 +1,5 @@
 use Rattle.std.proofs.Common.{◌≡◌, ◌++◌, ◌∷◌, refl, sym, ap, ◌∙◌}
-use Rattle.core_state.specs.Steps.{state_after}
+use Rattle.disk_runs.specs.core_state.Steps.{state_after}
 use Rattle.core_calls.specs.Durables.{due}
 use Rattle.core_calls.specs.Fronts.{front}
 use Rattle.lean_edge.specs.declared.sink.Put.TheVariants.{Done, Failed}

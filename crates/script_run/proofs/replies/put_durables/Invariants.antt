@@ -1,6 +1,6 @@
 use Rattle.std.proofs.Common.{◌≡◌, true, List}
-use Rattle.core_state.specs.Openings.{Opening}
-use Rattle.core_state.specs.Steps.{state_after}
+use Rattle.disk_runs.specs.core_state.Openings.{Opening}
+use Rattle.disk_runs.specs.core_state.Steps.{state_after}
 use Rattle.core_calls.specs.Durables.{due}
 use Rattle.core_calls.specs.Fronts.{Done, front}
 use Rattle.map_model.specs.Journals.{Name}

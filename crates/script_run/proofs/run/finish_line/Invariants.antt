@@ -1,5 +1,5 @@
 use Rattle.std.proofs.Common.{◌≡◌, ◌∷◌, suc, true, cond, List}
-use Rattle.core_state.specs.Openings.{Opening}
+use Rattle.disk_runs.specs.core_state.Openings.{Opening}
 use Rattle.core_calls.specs.Durables.{durables, moments}
 use Rattle.core_calls.specs.Fronts.{Done}
 use Rattle.engine_front.specs.Turns.{behind_answer, behind_durables}

@@ -1,6 +1,6 @@
 use Rattle.std.proofs.Common.{◌≡◌, ◌<◌, ◌^◌, ◌∙◌, [], ◌∷◌, arith, refl, subst, sym}
-use Rattle.row_words.specs.declared.event.Event.TheVariants.{Flush}
-use Rattle.rows_trait.specs.Turns.{MayTurn, Turned}
+use Rattle.btree_descent.specs.row_words.declared.event.Event.TheVariants.{Flush}
+use Rattle.btree_descent.specs.rows_trait.Turns.{MayTurn, Turned}
 use Rattle.session_state.proofs.SyncLemmas.{flushes_none, flushes_some, has_word, holds_whole, whole_turn}
 use Rattle.session_state.proofs.Frames.{frame_of}
 use Rattle.session_state.proofs.HoldLemmas.{holds_as}

@@ -1,9 +1,9 @@
 use Rattle.std.proofs.Common.{◌≡◌, ◌+◌, ◌%◌, ◌∙◌, ℕ, Bool, List, [], ◌∷◌, cond, length, set, refl, sym, subst, true, false, true≢false}
 use Rattle.std.proofs.lemmas.Bool.{cond-false}
-use Rattle.row_words.specs.declared.event.Event.TheVariants.{Miss}
-use Rattle.rows_trait.specs.Views.{held_at, without}
+use Rattle.lean_proto.specs.row_words.declared.event.Event.TheVariants.{Miss}
+use Rattle.lean_proto.specs.rows_trait.Views.{held_at, without}
 use Rattle.key_locks.specs.Latching.{AreLatched}
-use Rattle.version_latch.proofs.Keeping.{goes_ran, may_self}
+use Rattle.lean_proto.proofs.version_latch_lemmas.Keeping.{goes_ran, may_self}
 use Rattle.key_locks.proofs.Marking.{marked_at, set_same, unmarking}
 use Rattle.key_locks.proofs.latches.Latches.unlatch.Goals as goal
 

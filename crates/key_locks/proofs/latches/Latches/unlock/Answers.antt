@@ -1,5 +1,5 @@
 use Rattle.std.proofs.Common.{◌≡◌, ◌+◌, ◌%◌, ◌∙◌, ℕ, Bool, List, length, set, refl, sym, subst, true, false, true≢false}
-use Rattle.rows_trait.specs.Views.{without}
+use Rattle.lean_proto.specs.rows_trait.Views.{without}
 use Rattle.key_locks.specs.Latching.{AreLatched}
 use Rattle.key_locks.proofs.Marking.{marked_at, set_same, unmarking}
 use Rattle.key_locks.proofs.latches.Latches.unlock.Goals as goal

@@ -1,5 +1,5 @@
 use Rattle.std.proofs.Common.{◌≡◌, sym, subst, MatchOption, true}
-use Rattle.core_state.specs.Needs.{may_hold}
+use Rattle.lean_proto.specs.core_state.Needs.{may_hold}
 use Rattle.key_locks.specs.declared.mode.Mode.{Mode}
 use Rattle.key_locks.specs.Rows.{IsBlocking, core_mode}
 use Rattle.key_locks.specs.Inside.{others}

@@ -1,6 +1,6 @@
 use Rattle.std.proofs.Common.{◌≡◌, ◌∙◌, ℕ, sym, subst, [], ◌∷◌}
-use Rattle.core_state.specs.Steps as core
-use Rattle.row_words.specs.Words.{lock_words}
+use Rattle.lean_proto.specs.core_state.Steps as core
+use Rattle.lean_proto.specs.row_words.Words.{lock_words}
 use Rattle.key_locks.specs.declared.mode.Mode.{Mode}
 use Rattle.key_locks.specs.Rows.{core_mode}
 use Rattle.key_locks.proofs.Sayings.{holder_is, not_held, locked_alone}

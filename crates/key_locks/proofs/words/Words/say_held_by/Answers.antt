@@ -1,6 +1,6 @@
 use Rattle.std.proofs.Common.{◌≡◌, ◌∙◌, ◌==◌, ◌||◌, Bool, true, false, cond, refl, sym, ap}
 use Rattle.std.specs.Int.{bit_at}
-use Rattle.core_state.specs.Needs.{is_reader}
+use Rattle.lean_proto.specs.core_state.Needs.{is_reader}
 use Rattle.key_locks.proofs.Masks.{bit_in}
 use Rattle.key_locks.proofs.Sayings.{readers_is, holder_is, not_held}
 use Rattle.key_locks.proofs.words.Words.say_held_by.Goals as goal

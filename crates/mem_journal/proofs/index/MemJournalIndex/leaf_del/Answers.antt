@@ -1,10 +1,10 @@
 use Rattle.std.proofs.Common.{[], ◌∷◌, ◌∙◌, ◌||◌, ◌^◌, ltb, length, Bool, Some, None, refl, sym, ap, inl, arith}
-use Rattle.core_state.specs.Events.{Event}
+use Rattle.core_commit.specs.core_state.Events.{Event}
 use Rattle.transactions.specs.declared.hindrance.Hindrance.TheVariants.{NoPages}
 use Rattle.transactions.specs.Kinds.{in_changes}
 use Rattle.page_model.specs.Pairs.{find}
-use Rattle.core_state.specs.Needs.{is_reader}
-use Rattle.core_state.specs.Steps.{state_after}
+use Rattle.core_commit.specs.core_state.Needs.{is_reader}
+use Rattle.core_commit.specs.core_state.Steps.{state_after}
 use Rattle.transactions.specs.Calls.{IsDelsFirst}
 use Rattle.mem_journal.specs.Views.{view_of}
 use Rattle.mem_journal.proofs.PlaceLemmas.{hindered, broken, change_done, find_done, live_some}

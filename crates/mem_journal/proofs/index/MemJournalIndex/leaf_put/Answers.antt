@@ -1,5 +1,5 @@
 use Rattle.std.proofs.Common.{[], ◌∷◌, ◌∙◌, refl, sym, arith}
-use Rattle.core_state.specs.Events.{Event}
+use Rattle.core_commit.specs.core_state.Events.{Event}
 use Rattle.transactions.specs.declared.hindrance.Hindrance.TheVariants.{NoPages}
 use Rattle.transactions.specs.Kinds.{in_changes}
 use Rattle.transactions.specs.Calls.{IsChangesFirst}

@@ -1,6 +1,6 @@
 use Rattle.std.proofs.Common.{[], ◌∷◌, ◌∙◌, ◌+◌, suc, refl, ap, add-one}
 use Rattle.std.proofs.lemmas.List.{get_or_read}
-use Rattle.core_state.specs.Events.{Event}
+use Rattle.core_commit.specs.core_state.Events.{Event}
 use Rattle.transactions.specs.Kinds.{in_any}
 use Rattle.transactions.specs.Calls.{IsBeginsFirst}
 use Rattle.mem_journal.specs.declared.worker.Worker.{Worker}

@@ -1,5 +1,5 @@
 use Rattle.std.proofs.Common.{[], ◌∷◌, refl}
-use Rattle.core_state.specs.Events.{Event}
+use Rattle.core_commit.specs.core_state.Events.{Event}
 use Rattle.transactions.specs.Kinds.{in_any}
 use Rattle.transactions.specs.Calls.{IsEndsFirst}
 use Rattle.mem_journal.proofs.PlaceLemmas.{end_done, broken}

@@ -1,11 +1,11 @@
 use Rattle.std.proofs.Common.{[], ◌∷◌, refl, subst, sym}
 use Rattle.std.proofs.lemmas.List.{get_or_read}
-use Rattle.core_state.specs.Events.{Event}
+use Rattle.core_commit.specs.core_state.Events.{Event}
 use Rattle.transactions.specs.declared.hindrance.Hindrance.TheVariants.{Conflict, NoPages}
 use Rattle.transactions.specs.Kinds.{in_any}
 use Rattle.transactions.specs.Paths.{IsFirstOf}
 use Rattle.transactions.specs.Memory.{mode_of}
-use Rattle.core_state.specs.Steps.{state_after}
+use Rattle.core_commit.specs.core_state.Steps.{state_after}
 use Rattle.mem_journal.specs.declared.row.Row.{Row}
 use Rattle.mem_journal.specs.Rows.{IsRow}
 use Rattle.mem_journal.specs.Views.{no_row}

@@ -1,5 +1,5 @@
 use Rattle.std.proofs.Common.{◌≡◌, true, MatchOption, subst, sym}
-use Rattle.core_state.specs.Needs.{may_hold}
+use Rattle.core_commit.specs.core_state.Needs.{may_hold}
 use Rattle.transactions.specs.declared.hindrance.Mode.{Mode}
 use Rattle.transactions.specs.Memory.{mode_of}
 use Rattle.mem_journal.specs.Rows.{IsInTheWay}

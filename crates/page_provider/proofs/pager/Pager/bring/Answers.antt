@@ -1,7 +1,7 @@
 use Rattle.std.proofs.Common.{◌≡◌, ◌∙◌, ◌<◌, ℕ, Option, length, refl, sym, arith, ap, subst}
 use Rattle.std.proofs.lemmas.Result.{IfErr-weaker, IfOk-weaker, err_from_is_err_and}
 use Rattle.page_model.specs.Page.{Page}
-use Rattle.rows_trait.specs.Views.{Shape}
+use Rattle.btree_descent.specs.rows_trait.Views.{Shape}
 use Rattle.page_provider.specs.Comes.{HasContents, PlaceCause}
 use Rattle.page_provider.specs.Disks.{Disked}
 use Rattle.page_provider.specs.Ends.{HasRefused}
@@ -15,7 +15,7 @@ use Rattle.page_provider.proofs.Parts.{keeps_shape}
 use Rattle.page_provider.proofs.Running.{disked_quiet, disked_then}
 use Rattle.page_provider.proofs.Savings.{if_err}
 use Rattle.page_provider.proofs.Mirrored.{mirrored_broken, mirrored_then}
-use Rattle.rows_trait.proofs.Runs.{ran_none}
+use Rattle.btree_descent.proofs.rows_trait_lemmas.Runs.{ran_none}
 use Rattle.page_provider.proofs.Framing.{framed_then, within_reads, within_then}
 use Rattle.page_provider.proofs.Unwritten.{reads_only, unsaved_then}
 use Rattle.page_provider.proofs.pager.Pager.bring.Goals as goal

@@ -1,7 +1,7 @@
 use Rattle.std.proofs.Common.{◌≡◌, ◌∙◌, ◌+◌, refl, length, slice_get, arith, sym, ap, subst}
 use Rattle.std.specs.Prelude.{IsSome}
 use Rattle.std.proofs.lemmas.Result.{err_from_is_err_and}
-use Rattle.rows_trait.specs.Views.{Shape}
+use Rattle.btree_descent.specs.rows_trait.Views.{Shape}
 use Rattle.cooling_stage.specs.Queue.{behind, found}
 use Rattle.page_provider.specs.declared.leaving.Leave.{Leave}
 use Rattle.page_provider.specs.declared.refusal.Refusal.{Refusal}

@@ -1,7 +1,7 @@
 use Rattle.std.proofs.Common.{◌≡◌, ◌<◌, ◌∙◌, ◌^◌, Bool, true, false, None, Some, rules, refl, sym, ap, subst, arith}
 use Rattle.std.specs.Prelude.{Option}
 use Rattle.std.proofs.lemmas.Result.{err_from_is_err_and}
-use Rattle.rows_trait.specs.Views.{Shape}
+use Rattle.btree_descent.specs.rows_trait.Views.{Shape}
 use Rattle.row_image.specs.declared.sight.Sight.{Sight}
 use Rattle.page_provider.specs.Cools.{CoolsIn, CoolsOrNot}
 use Rattle.page_provider.specs.Ends.{HasRefused}
@@ -13,7 +13,7 @@ use Rattle.page_provider.proofs.Keeping.{keeps_ran}
 use Rattle.page_provider.proofs.Parts.{keeps_shape}
 use Rattle.page_provider.proofs.Savings.{if_err}
 use Rattle.page_provider.proofs.Unlinks.{seen_sight}
-use Rattle.rows_trait.proofs.Runs.{ran_none}
+use Rattle.btree_descent.proofs.rows_trait_lemmas.Runs.{ran_none}
 use Rattle.page_provider.proofs.Mirrored.{cooled_saves, saves_after, saves_none, stopped_saves}
 use Rattle.page_provider.proofs.pager.Pager.cool.Goals as goal
 

@@ -1,5 +1,5 @@
 use Rattle.std.proofs.Common.{◌∙◌, sym, subst}
-use Rattle.row_words.specs.declared.event.Event.TheVariants.{Load}
+use Rattle.btree_descent.specs.row_words.declared.event.Event.TheVariants.{Load}
 use Rattle.page_provider.specs.Comes.{ComesOrNot}
 use Rattle.page_provider.proofs.Filling.{lost_once}
 use Rattle.page_provider.proofs.Placing.{halts_unseen}

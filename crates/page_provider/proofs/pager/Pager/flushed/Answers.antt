@@ -1,6 +1,6 @@
 use Rattle.std.proofs.Common.{◌≡◌, ◌∙◌, ◌+◌, [], arith, sym, ap, subst}
-use Rattle.rows_trait.specs.Turns.{Heard}
-use Rattle.rows_trait.specs.Views.{Shape}
+use Rattle.btree_descent.specs.rows_trait.Turns.{Heard}
+use Rattle.btree_descent.specs.rows_trait.Views.{Shape}
 use Rattle.page_provider.specs.Providers.{Provider}
 use Rattle.page_provider.proofs.Flushing.{IsLow, low_first, low_flushed, low_more}
 use Rattle.page_provider.proofs.pager.Pager.flushed.Goals as goal

@@ -1,10 +1,10 @@
 use Rattle.std.proofs.Common.{◌≡◌, ◌∙◌, ◌<◌, [], ◌∷◌, length, refl, sym, ap, subst, arith}
 use Rattle.std.proofs.lemmas.Result.{err_from_is_err_and}
 use Rattle.page_model.specs.Page.{Page}
-use Rattle.row_words.specs.declared.event.Event.TheVariants.{Evict}
-use Rattle.rows_trait.specs.Turns.{Ran}
-use Rattle.rows_trait.specs.Views.{Shape}
-use Rattle.rows_trait.proofs.Runs.{ran_append, ran_none}
+use Rattle.btree_descent.specs.row_words.declared.event.Event.TheVariants.{Evict}
+use Rattle.btree_descent.specs.rows_trait.Turns.{Ran}
+use Rattle.btree_descent.specs.rows_trait.Views.{Shape}
+use Rattle.btree_descent.proofs.rows_trait_lemmas.Runs.{ran_append, ran_none}
 use Rattle.page_moves.specs.Moves.{contents_of}
 use Rattle.page_provider.specs.Evicts.{HasStayed}
 use Rattle.page_provider.specs.Inside.{Missed}

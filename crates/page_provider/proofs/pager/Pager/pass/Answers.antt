@@ -1,7 +1,7 @@
 use Rattle.std.proofs.Common.{◌≡◌, ◌+◌, Option, refl, sym, ap, subst, ◌∙◌, arith}
 use Rattle.std.proofs.lemmas.Result.{err_from_is_err_and}
 use Rattle.cooling_stage.specs.declared.stage.Cooling.{Cooling}
-use Rattle.rows_trait.specs.Views.{Shape}
+use Rattle.btree_descent.specs.rows_trait.Views.{Shape}
 use Rattle.page_provider.specs.contracts.pager.Pager.{the_view}
 use Rattle.page_provider.specs.Cools.{Steps}
 use Rattle.page_provider.specs.Finds.{Halts, Stalls}

@@ -1,6 +1,6 @@
 use Rattle.std.proofs.Common.{◌≡◌, ◌≤◌, ◌∙◌, ℕ, Option, arith, subst}
 use Rattle.std.proofs.lemmas.Result.{IfOk-weaker, err_from_is_err_and}
-use Rattle.rows_trait.specs.Views.{Shape}
+use Rattle.btree_descent.specs.rows_trait.Views.{Shape}
 use Rattle.page_provider.specs.Comes.{Fills, IsUnseen}
 use Rattle.page_provider.specs.Ends.{HasRefused}
 use Rattle.page_provider.specs.Faults.{Faulted}

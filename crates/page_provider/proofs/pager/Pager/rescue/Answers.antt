@@ -1,7 +1,7 @@
 use Rattle.std.proofs.Common.{◌≡◌, ◌<◌, true, false, length, refl, sym, ap, subst, ◌∙◌, arith, true≢false}
 use Rattle.std.proofs.lemmas.Result.{err_from_is_err_and}
 use Rattle.free_pages.specs.Pages.{is_in}
-use Rattle.row_words.specs.declared.event.Event.TheVariants.{Rescue}
+use Rattle.btree_descent.specs.row_words.declared.event.Event.TheVariants.{Rescue}
 use Rattle.page_provider.specs.Comes.{ComesOrNot}
 use Rattle.page_provider.specs.Ends.{HasRefused}
 use Rattle.page_provider.specs.Providers.{Provider}

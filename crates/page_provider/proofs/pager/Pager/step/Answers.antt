@@ -1,7 +1,7 @@
 use Rattle.std.proofs.Common.{◌∙◌, Option, subst}
 use Rattle.std.proofs.lemmas.Result.{IfErr-weaker, IfOk-weaker}
 use Rattle.cooling_stage.specs.declared.stage.Cooling.{Cooling}
-use Rattle.rows_trait.specs.Views.{Shape}
+use Rattle.btree_descent.specs.rows_trait.Views.{Shape}
 use Rattle.page_provider.specs.Cools.{Steps}
 use Rattle.page_provider.specs.Finds.{Halts}
 use Rattle.page_provider.specs.declared.refusal.Refusal.{Refusal}

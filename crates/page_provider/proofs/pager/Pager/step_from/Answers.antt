@@ -2,7 +2,7 @@ use Rattle.std.proofs.Common.{◌≡◌, ◌==◌, false, Option, sym, ap, subst
 use Rattle.std.proofs.lemmas.Result.{err_from_is_err_and, IfOk-weaker}
 use Rattle.map_model.specs.Lists.{any}
 use Rattle.cooling_stage.specs.declared.stage.Cooling.{Cooling}
-use Rattle.rows_trait.specs.Views.{Shape}
+use Rattle.btree_descent.specs.rows_trait.Views.{Shape}
 use Rattle.page_provider.specs.Cools.{CoolsOrNot, Steps}
 use Rattle.page_provider.specs.Finds.{Candidate, Halts, IsSeen, SinceFound, Stopped}
 use Rattle.page_provider.specs.declared.refusal.Refusal.{Refusal}

@@ -1,7 +1,7 @@
 use Rattle.std.proofs.Common.{Option, ap, subst, ◌∙◌}
 use Rattle.std.proofs.lemmas.Result.{IfErr-weaker, IfOk-weaker}
 use Rattle.cooling_stage.specs.declared.stage.Cooling.{Cooling}
-use Rattle.rows_trait.specs.Views.{Shape}
+use Rattle.btree_descent.specs.rows_trait.Views.{Shape}
 use Rattle.page_provider.specs.Cools.{Passes, Turns}
 use Rattle.page_provider.specs.Finds.{Stalls}
 use Rattle.page_provider.specs.Providers.{Provider}

@@ -4,8 +4,8 @@ use Rattle.page_calls.specs.Calls.{KeepsWithin}
 use Rattle.page_provider.specs.Disks.{Disked}
 use Rattle.paged_rows.specs.Paged.{paged}
 use Rattle.paged_rows.specs.Warms.{LostTo, ReadsUnlessSaved}
-use Rattle.row_words.specs.declared.given.Given.{Given}
-use Rattle.row_words.specs.Openings.{opening}
+use Rattle.btree_descent.specs.row_words.declared.given.Given.{Given}
+use Rattle.btree_descent.specs.row_words.Openings.{opening}
 use Rattle.session_state.specs.Opened.{plain_shape}
 use Rattle.paged_desks.specs.Machines.{pages, view_of}
 use Rattle.paged_desks.specs.declared.machine.PagedMachine.{PagedMachine}

@@ -1,5 +1,5 @@
 use Rattle.std.proofs.Common.{refl, ap, ℕ}
-use Rattle.image_model.specs.Entries as logged
+use Rattle.core_state.specs.image_model.Entries as logged
 use Rattle.plain_core.specs.Tables.{at}
 use Rattle.plain_core.specs.Records.{entry_of}
 use Rattle.plain_core.specs.States.{state_of}

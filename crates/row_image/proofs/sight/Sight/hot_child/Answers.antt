@@ -1,7 +1,7 @@
 use Rattle.std.proofs.Common.{◌≡◌, ◌≢◌, ◌==◌, ◌+◌, ◌^◌, ◌∙◌, Bool, true, false, refl, sym, ap, arith, true≢false}
 use Rattle.std.proofs.lemmas.Bool.Decides.{nat_tests}
 use Rattle.page_model.specs.Page.{word_at}
-use Rattle.row_words.specs.Words.{is_inner}
+use Rattle.btree_descent.specs.row_words.Words.{is_inner}
 use Rattle.row_image.proofs.Naming.{hot_child_at, no_hot_child}
 use Rattle.row_image.proofs.sight.Sight.hot_child.Goals as goal
 

@@ -1,9 +1,9 @@
 use Rattle.std.proofs.Common.{refl, ◌∙◌, sym, ap, subst, arith}
-use Rattle.rows_trait.specs.Views.{state}
+use Rattle.btree_descent.specs.rows_trait.Views.{state}
 use Rattle.row_sessions.specs.Standing.{AreSessions, IsOf}
 use Rattle.row_sessions.proofs.Standings.{shape_of, stands_then}
 use Rattle.row_sessions.proofs.Calls.{begin_after}
-use Rattle.lean_proto.proofs.Turning.{every_begin}
+use Rattle.btree_descent.proofs.lean_proto_lemmas.Turning.{every_begin}
 use Rattle.row_sessions.proofs.sessions.Sessions.begin.Goals as goal
 
 pub load_control-requires-clause-event : goal.load_control-requires-clause-event

@@ -1,5 +1,5 @@
 use Rattle.std.proofs.Common.{refl, ◌∙◌, ◌+◌, sym, ap, subst, arith}
-use Rattle.rows_trait.specs.Views.{state}
+use Rattle.btree_descent.specs.rows_trait.Views.{state}
 use Rattle.row_sessions.specs.Standing.{AreSessions, IsOf}
 use Rattle.row_sessions.proofs.Standings.{shape_of, stands_then}
 use Rattle.row_sessions.proofs.Calls.{end_turns, end_after}

@@ -1,5 +1,5 @@
 use Rattle.std.proofs.Common.{refl, ◌∙◌}
-use Rattle.rows_trait.specs.Views.{state}
+use Rattle.btree_descent.specs.rows_trait.Views.{state}
 use Rattle.row_sessions.proofs.Standings.{stands_then, sessions_core}
 use Rattle.row_sessions.proofs.Locks.{none_core}
 use Rattle.row_sessions.proofs.sessions.Sessions.holds.Goals as goal

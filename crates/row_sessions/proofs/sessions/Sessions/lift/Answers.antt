@@ -1,5 +1,5 @@
 use Rattle.std.proofs.Common.{refl, ◌∙◌, sym, ap, subst, set}
-use Rattle.rows_trait.specs.Views.{state}
+use Rattle.btree_descent.specs.rows_trait.Views.{state}
 use Rattle.row_sessions.specs.Standing.{AreSessions, drawn_session}
 use Rattle.row_sessions.proofs.Standings.{stands_then, sessions_core}
 use Rattle.row_sessions.proofs.Reshaping.{unlifted_core, lifted_after}

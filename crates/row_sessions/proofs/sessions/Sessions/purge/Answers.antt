@@ -1,5 +1,5 @@
 use Rattle.std.proofs.Common.{refl, ◌∙◌, sym, ap, subst, set, arith}
-use Rattle.rows_trait.specs.Views.{state}
+use Rattle.btree_descent.specs.rows_trait.Views.{state}
 use Rattle.row_sessions.specs.Standing.{AreSessions, drawn_session}
 use Rattle.row_sessions.proofs.Standings.{shape_of, stands_then, sessions_core}
 use Rattle.row_sessions.proofs.Reshaping.{missed_core, declined_core, cleared_after, base_floor}

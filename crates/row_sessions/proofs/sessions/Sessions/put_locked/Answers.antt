@@ -1,5 +1,5 @@
 use Rattle.std.proofs.Common.{refl, ◌∙◌, sym, ap, subst, ◌≡◌, arith}
-use Rattle.rows_trait.specs.Views.{state}
+use Rattle.btree_descent.specs.rows_trait.Views.{state}
 use Rattle.row_sessions.specs.Standing.{AreSessions, changed_session}
 use Rattle.row_sessions.proofs.Standings.{stands_then, sessions_core}
 use Rattle.row_sessions.proofs.Changes.{unput_core, changed_after}

@@ -1,6 +1,6 @@
 use Rattle.std.proofs.Common.{refl, ◌∙◌, ◌%◌, ◌+◌, ◌<◌, ap, subst, ◌≡◌, true, false, arith, length, get_or}
 use Rattle.std.proofs.lemmas.List.{get_or-set_same, length-set, length-replicate}
-use Rattle.rows_trait.specs.Views.{state}
+use Rattle.btree_descent.specs.rows_trait.Views.{state}
 use Rattle.key_locks.specs.Latching.{is_marked}
 use Rattle.row_sessions.proofs.Standings.{stands_then, sessions_core}
 use Rattle.row_sessions.proofs.Unlocks.{unlatched_core, marks_back, held_back, unlocked_after}
@@ -35,5 +35,5 @@ returns-clause-stands c =
     let marks = marks_back s.latches c.latch.new.self c.unlock.new.self n i j st.unmarked lt at o.ok.0 p.marks in
     let marked : is_marked c.latch.new.self j ≡ true = ap (λ k. is_marked c.latch.new.self k) at ∙ (ap (λ l. get_or l i false) o.ok.0 ∙ get_or-set_same s.latches i true false (omega arith)) in
     let after = unlocked_after s.seat.view second third s.rows.workers s.base c.args.worker j c.session_of-session.result.end s.sessions.items o.ok.1 (p.given_up marked) st.sessions in
-    let held = held_back s.frames i n c.unlock.new.self s.seat.view.held second.held third.held st.held o.rest (subst (λ k. Rattle.rows_trait.specs.Views.without third.held (s.frames + k) ≡ Rattle.rows_trait.specs.Views.without second.held (s.frames + k)) at p.rest) (marks ∙ st.unmarked) lt p.tied in
+    let held = held_back s.frames i n c.unlock.new.self s.seat.view.held second.held third.held st.held o.rest (subst (λ k. Rattle.btree_descent.specs.rows_trait.Views.without third.held (s.frames + k) ≡ Rattle.btree_descent.specs.rows_trait.Views.without second.held (s.frames + k)) at p.rest) (marks ∙ st.unmarked) lt p.tied in
     stands_then s _ st (p.fits.1 ∙ o.fits.1) refl refl refl p.fits.0 held after.0 marks after.1

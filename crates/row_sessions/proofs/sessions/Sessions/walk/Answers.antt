@@ -1,6 +1,6 @@
 use Rattle.std.proofs.Common.{refl, ◌∙◌, ◌%◌, ◌≡◌, true, ap, sym, subst}
-use Rattle.core_state.specs.Needs.{holds_row}
-use Rattle.rows_trait.specs.Views.{state}
+use Rattle.btree_descent.specs.core_state.Needs.{holds_row}
+use Rattle.btree_descent.specs.rows_trait.Views.{state}
 use Rattle.row_sessions.specs.declared.session.Session.{Session}
 use Rattle.row_sessions.specs.Standing.{AreSessions, session_at, touched_session}
 use Rattle.row_sessions.proofs.Standings.{stands_then, sessions_core}

@@ -1,5 +1,5 @@
 use Rattle.std.proofs.Common.{◌<◌, ◌≡◌, length, subst, sym}
-use Rattle.core_state.specs.Needs.{is_reader}
+use Rattle.btree_descent.specs.core_state.Needs.{is_reader}
 use Rattle.session_state.specs.Held.{Held}
 use Rattle.session_state.proofs.HeldLemmas.{mark_is}
 use Rattle.session_state.proofs.held.HeldRows.has.Goals as goal
