@@ -4,7 +4,7 @@ use Rattle.std.specs.Prelude.{if◌then◌else◌, nat_lt}
 use Rattle.std.proofs.lemmas.Bool.{cond-true, cond-false, and_from, and_left, and_right, le-ltb, lt-ltb, le-leb, ltb-false}
 use Rattle.map_model.specs.Maps.{MapAnswer}
 use Rattle.page_model.specs.Pairs.{Pair, Rising}
-use Rattle.lean_proto.proofs.btree_node_lemmas.PlaceLemmas.{rising-from}
+use Rattle.lean_proto.proofs.btree_node.PlaceLemmas.{rising-from}
 use Rattle.page_model.specs.Nodes.{Format}
 use Rattle.page_model.specs.Needs.{key_at}
 use Rattle.page_model.specs.Page.{word_at}

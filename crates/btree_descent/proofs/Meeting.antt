@@ -19,7 +19,7 @@ use Rattle.lean_proto.specs.row_words.Openings.{opening}
 use Rattle.lean_proto.specs.row_words.Sealed.{stepped}
 use Rattle.lean_proto.specs.rows_trait.declared.view.View.{View}
 use Rattle.lean_proto.specs.rows_trait.Views.{AreSilent, after_all, state}
-use Rattle.lean_proto.proofs.version_latch_lemmas.Naming.{one_silent, either_silent}
+use Rattle.lean_proto.proofs.version_latch.Naming.{one_silent, either_silent}
 use Rattle.btree_descent.specs.Named.{next_at, met_or}
 use Rattle.btree_descent.specs.Meets.{answer_with, HoldsIts}
 use Rattle.btree_descent.proofs.Pasts.{LeavesPages, state_then}

@@ -3,7 +3,7 @@ use Rattle.std.proofs.Common.{◌≡◌, ℕ, Bool, List, [], subst, sym}
 use Rattle.lean_proto.specs.rows_trait.declared.view.View.{View}
 use Rattle.lean_proto.specs.rows_trait.Views.{Shape, state}
 use Rattle.lean_proto.specs.rows_trait.Turns.{Ran}
-use Rattle.lean_proto.proofs.rows_trait_lemmas.Runs.{ran_append}
+use Rattle.lean_proto.proofs.rows_trait.Runs.{ran_append}
 use Rattle.btree_descent.specs.declared.descent.Leaf.{Leaf}
 use Rattle.btree_descent.specs.declared.descent.Stop.{Stop}
 use Rattle.btree_descent.specs.declared.descent.Stop.TheVariants as stop

@@ -16,8 +16,8 @@ use Rattle.lean_proto.specs.rows_trait.declared.view.Act.{Act}
 use Rattle.lean_proto.specs.rows_trait.declared.view.View.{View}
 use Rattle.lean_proto.specs.rows_trait.Views.{after_all, state, may}
 use Rattle.lean_proto.specs.rows_trait.Turns.{Ran}
-use Rattle.lean_proto.proofs.rows_trait_lemmas.Runs.{ran_append}
-use Rattle.lean_proto.proofs.version_latch_lemmas.Keeping.{may_ran}
+use Rattle.lean_proto.proofs.rows_trait.Runs.{ran_append}
+use Rattle.lean_proto.proofs.version_latch.Keeping.{may_ran}
 use Rattle.lean_proto.specs.Kept.{OwnKept}
 use Rattle.lean_proto.proofs.Owns.{own_after}
 use Rattle.btree_descent.specs.declared.next.Following.{Following}

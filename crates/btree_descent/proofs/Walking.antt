@@ -7,7 +7,7 @@ use Rattle.page_model.specs.Needs.{key_at}
 use Rattle.page_model.specs.Page as stored
 use Rattle.page_model.specs.Page.{word_at}
 use Rattle.lean_proto.specs.btree_node.Inside.{place}
-use Rattle.lean_proto.proofs.btree_node_lemmas.PlaceLemmas.{ordered-rising}
+use Rattle.lean_proto.proofs.btree_node.PlaceLemmas.{ordered-rising}
 use Rattle.lean_proto.specs.core_state.Needs.{following}
 use Rattle.core_index.specs.Walks.{met_keys}
 use Rattle.lean_proto.specs.row_words.Moments.{format_of}

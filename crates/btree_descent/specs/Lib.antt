@@ -17,6 +17,7 @@ pub use Rattle.core_index.specs as core_index
 pub use Rattle.draw_trait.specs as draw_trait
 pub use Rattle.lean_proto.specs as lean_proto
 pub use Rattle.lean_proto.specs.btree_node as btree_node
+pub use Rattle.lean_proto.specs.core_commit as core_commit
 pub use Rattle.lean_proto.specs.core_paging as core_paging
 pub use Rattle.lean_proto.specs.core_state as core_state
 pub use Rattle.lean_proto.specs.image_model as image_model

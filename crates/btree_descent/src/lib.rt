@@ -15,8 +15,13 @@ pub mod reach;
 mod trace;
 
 // Passed on to the crates above.
-pub use draw_trait;
-pub use lean_proto;
-pub use lean_proto::{btree_node, core_paging, image_model, rows_trait, version_latch};
-pub use log_record;
-pub use swips;
+pub use draw_trait::draw::{Draw, Unstaged};
+pub use draw_trait::staged::{Staged, one_more};
+pub use lean_proto::path::{DEEPEST, Path};
+pub use lean_proto::{
+    Checks, Glimpse, Hold, LAST, Latched, Misses, Moved, Names, Node as BtreeNodeNode, Nothing,
+    PlainRows, Rows, Trace as RowsTraitTrace, Unheld, every_begin, every_load, every_low,
+    every_residence, every_rise, every_stood, every_turn, every_undone,
+};
+pub use log_record::{Body, LARGEST, PageRef, Record, record_bytes};
+pub use swips::{MARK, Swip, row_of};

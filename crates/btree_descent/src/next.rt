@@ -21,9 +21,7 @@ use crate::descent::{Leaf, Stop, TOMBSTONE, last_log, way};
 use crate::events::Nexts;
 use crate::node::place;
 use crate::trace::Untraced;
-use lean_proto::rows_trait::rows::Rows;
-use lean_proto::version_latch::events::Checks;
-use lean_proto::version_latch::{Glimpse, Latched, Moved};
+use lean_proto::{Checks, Glimpse, Latched, Moved, Rows};
 
 /// Which keys a worker has locked, shared or alone.
 pub trait Locked {

@@ -7,8 +7,7 @@ ghost use Rattle.btree_descent.specs.Reaches.{CameThere, IsSettledWay, WayCaused
 
 use crate::descent::{Stop, again, way};
 use lean_proto::path::Path;
-use lean_proto::rows_trait::rows::Rows;
-use lean_proto::version_latch::{Latched, Moved};
+use lean_proto::{Latched, Moved, Rows};
 
 /// What a descent came to that reads nothing.
 #[derive(Clone, Copy)]

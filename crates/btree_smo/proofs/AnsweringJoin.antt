@@ -5,7 +5,7 @@ use Rattle.btree_descent.specs.row_words.declared.given.Given.{Given}
 use Rattle.btree_descent.specs.rows_trait.declared.view.View.{View}
 use Rattle.btree_descent.specs.rows_trait.Views.{state}
 use Rattle.btree_descent.specs.rows_trait.Turns.{Ran}
-use Rattle.btree_descent.proofs.rows_trait_lemmas.Runs.{ran_append}
+use Rattle.btree_descent.proofs.rows_trait.Runs.{ran_append}
 use Rattle.disk_image.specs.log_record.declared.record.Record.{Record}
 use Rattle.btree_descent.specs.draw_trait.Clocks.{Clock}
 use Rattle.btree_smo.specs.declared.outcome.Outcome.{Outcome}

@@ -6,13 +6,13 @@ use Rattle.btree_descent.specs.row_words.declared.given.Given.{Given}
 use Rattle.btree_descent.specs.row_words.Moments.{Moment}
 use Rattle.btree_descent.specs.row_words.Openings.{opening}
 use Rattle.btree_descent.specs.row_words.Sealed.{begun, run}
-use Rattle.btree_descent.proofs.row_words_lemmas.SealedLemmas.{run_append}
-use Rattle.btree_descent.proofs.row_words_lemmas.Stays.{cases}
+use Rattle.btree_descent.proofs.row_words.SealedLemmas.{run_append}
+use Rattle.btree_descent.proofs.row_words.Stays.{cases}
 use Rattle.btree_descent.specs.rows_trait.declared.view.View.{View}
 use Rattle.btree_descent.specs.rows_trait.Views.{Shape, after_all, state}
 use Rattle.btree_descent.specs.rows_trait.Turns.{Ran, Stepped}
-use Rattle.btree_descent.proofs.rows_trait_lemmas.Runs.{ran_append}
-use Rattle.btree_descent.proofs.lean_proto_lemmas.Growing.{flushed_on}
+use Rattle.btree_descent.proofs.rows_trait.Runs.{ran_append}
+use Rattle.btree_descent.proofs.lean_proto.Growing.{flushed_on}
 use Rattle.disk_image.specs.log_record.declared.record.Record.{Record}
 use Rattle.btree_descent.specs.draw_trait.Clocks.{Clock}
 use Rattle.btree_smo.specs.declared.outcome.Outcome.{Outcome}

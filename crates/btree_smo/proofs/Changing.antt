@@ -10,10 +10,10 @@ use Rattle.btree_descent.specs.row_words.declared.given.Given.{Given}
 use Rattle.btree_descent.specs.row_words.Moments.{Moment, event_of}
 use Rattle.btree_descent.specs.row_words.Openings.{opening}
 use Rattle.btree_descent.specs.row_words.Sealed.{begun, stepped}
-use Rattle.btree_descent.proofs.row_words_lemmas.SealedLemmas.{run_append}
+use Rattle.btree_descent.proofs.row_words.SealedLemmas.{run_append}
 use Rattle.btree_descent.specs.rows_trait.declared.view.View.{View}
 use Rattle.btree_descent.specs.rows_trait.Views.{after_all, state}
-use Rattle.btree_descent.proofs.rows_trait_lemmas.Runs.{ran_append}
+use Rattle.btree_descent.proofs.rows_trait.Runs.{ran_append}
 use Rattle.disk_image.specs.log_record.declared.record.Record.{Record}
 use Rattle.btree_descent.specs.draw_trait.Clocks.{Clock, drawn}
 use Rattle.disk_image.specs.Records.{entry_of}

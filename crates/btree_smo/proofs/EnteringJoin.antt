@@ -16,9 +16,9 @@ use Rattle.btree_descent.specs.row_words.declared.given.Given.{Given}
 use Rattle.btree_descent.specs.row_words.Openings.{opening}
 use Rattle.btree_descent.specs.rows_trait.declared.view.View.{View}
 use Rattle.btree_descent.specs.rows_trait.Views.{Shape, AreApart, after_all, state, may}
-use Rattle.btree_descent.proofs.lean_proto_lemmas.Again.{Rest, again_join}
-use Rattle.btree_descent.proofs.lean_proto_lemmas.Near.{SameNear}
-use Rattle.btree_descent.proofs.lean_proto_lemmas.Owns.{own_after}
+use Rattle.btree_descent.proofs.lean_proto.Again.{Rest, again_join}
+use Rattle.btree_descent.proofs.lean_proto.Near.{SameNear}
+use Rattle.btree_descent.proofs.lean_proto.Owns.{own_after}
 use Rattle.btree_descent.specs.lean_proto.Kept.{OwnKept}
 use Rattle.disk_image.specs.log_record.Model.{model_pairs}
 use Rattle.disk_image.specs.log_record.declared.record.Record.{Record}

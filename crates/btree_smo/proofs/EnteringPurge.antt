@@ -22,22 +22,22 @@ use Rattle.btree_descent.specs.row_words.Moments.{Moment}
 use Rattle.btree_descent.specs.row_words.Openings.{opening}
 use Rattle.btree_descent.specs.row_words.Sealed.{begun, stepped}
 use Rattle.btree_descent.specs.row_words.Words.{framed}
-use Rattle.btree_descent.proofs.row_words_lemmas.Frames.{framed_leaf, framed_level}
-use Rattle.btree_descent.proofs.row_words_lemmas.SealedLemmas.{run_append}
+use Rattle.btree_descent.proofs.row_words.Frames.{framed_leaf, framed_level}
+use Rattle.btree_descent.proofs.row_words.SealedLemmas.{run_append}
 use Rattle.btree_descent.specs.rows_trait.declared.view.View.{View}
 use Rattle.btree_descent.specs.rows_trait.Views.{Shape, Spells, AreApart, after_all, state, may}
 use Rattle.btree_descent.specs.rows_trait.Turns.{Ran}
-use Rattle.btree_descent.proofs.rows_trait_lemmas.Runs.{ran_append}
-use Rattle.btree_descent.proofs.rows_trait_lemmas.EventLemmas.{apart_sync}
+use Rattle.btree_descent.proofs.rows_trait.Runs.{ran_append}
+use Rattle.btree_descent.proofs.rows_trait.EventLemmas.{apart_sync}
 use Rattle.key_locks.specs.Rows.{Sized}
 use Rattle.btree_descent.specs.lean_proto.Purges.{CanPurge, IsQuiet}
 use Rattle.btree_descent.specs.lean_proto.Kept.{OwnKept}
-use Rattle.btree_descent.proofs.lean_proto_lemmas.Again.{Rest, again_purge}
-use Rattle.btree_descent.proofs.lean_proto_lemmas.Near.{SameNear}
-use Rattle.btree_descent.proofs.lean_proto_lemmas.Owns.{own_after}
-use Rattle.btree_descent.proofs.lean_proto_lemmas.Growing.{flushed_on}
-use Rattle.btree_descent.proofs.lean_proto_lemmas.Settling.{settled_on}
-use Rattle.btree_descent.proofs.lean_proto_lemmas.Steady.{every_purge}
+use Rattle.btree_descent.proofs.lean_proto.Again.{Rest, again_purge}
+use Rattle.btree_descent.proofs.lean_proto.Near.{SameNear}
+use Rattle.btree_descent.proofs.lean_proto.Owns.{own_after}
+use Rattle.btree_descent.proofs.lean_proto.Growing.{flushed_on}
+use Rattle.btree_descent.proofs.lean_proto.Settling.{settled_on}
+use Rattle.btree_descent.proofs.lean_proto.Steady.{every_purge}
 use Rattle.disk_image.specs.log_record.declared.record.Record.{Record}
 use Rattle.btree_descent.specs.draw_trait.Clocks.{Clock, touched, drawn}
 use Rattle.disk_image.specs.Records.{entry_of}

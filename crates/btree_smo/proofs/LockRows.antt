@@ -7,13 +7,13 @@ use Rattle.btree_descent.specs.row_words.declared.given.Given.{Given}
 use Rattle.btree_descent.specs.row_words.Moments.{Moment}
 use Rattle.btree_descent.specs.row_words.Openings.{opening}
 use Rattle.btree_descent.specs.row_words.Sealed.{stepped, run}
-use Rattle.btree_descent.proofs.row_words_lemmas.Stays.{cases}
+use Rattle.btree_descent.proofs.row_words.Stays.{cases}
 use Rattle.btree_descent.specs.rows_trait.declared.view.Hold.{Hold}
 use Rattle.btree_descent.specs.rows_trait.declared.view.View.{View}
 use Rattle.btree_descent.specs.rows_trait.Layout.{rows_of}
 use Rattle.btree_descent.specs.rows_trait.Views.{Shape, AreApart, after_all, state, hold, holds, held_at}
 use Rattle.btree_descent.specs.rows_trait.Turns.{Ran, Stepped}
-use Rattle.btree_descent.proofs.rows_trait_lemmas.Runs.{ran_none}
+use Rattle.btree_descent.proofs.rows_trait.Runs.{ran_none}
 use Rattle.key_locks.proofs.Staying.{row_apart}
 use Rattle.btree_descent.specs.lean_proto.Purges.{IsQuiet}
 use Rattle.held_rows.specs.Rows.{Waited, Stood, HoldsOne}

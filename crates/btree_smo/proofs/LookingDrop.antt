@@ -12,8 +12,8 @@ use Rattle.btree_descent.specs.row_words.declared.given.Given.{Given}
 use Rattle.btree_descent.specs.row_words.Moments.{Moment}
 use Rattle.btree_descent.specs.row_words.Openings.{opening}
 use Rattle.btree_descent.specs.row_words.Words.{swip, swips}
-use Rattle.btree_descent.proofs.row_words_lemmas.Frames.{framed_inner, hot_swip}
-use Rattle.btree_descent.proofs.row_words_lemmas.Stays.{cases, and_true}
+use Rattle.btree_descent.proofs.row_words.Frames.{framed_inner, hot_swip}
+use Rattle.btree_descent.proofs.row_words.Stays.{cases, and_true}
 use Rattle.btree_descent.specs.rows_trait.declared.view.View.{View}
 use Rattle.btree_descent.specs.rows_trait.Views.{state}
 use Rattle.btree_descent.specs.Known.{Sound, IsSound}

@@ -1,5 +1,5 @@
 -- The drop may be published once both nodes are stored.
-use Rattle.btree_descent.proofs.row_words_lemmas.SealedLemmas.{low_tame}
+use Rattle.btree_descent.proofs.row_words.SealedLemmas.{low_tame}
 use Rattle.std.proofs.Common.{inl, inr, ℕ, List, [], ◌∷◌, refl, sym, subst, ◌∙◌}
 use Rattle.map_model.specs.Lists.{Has}
 use Rattle.page_model.specs.Page as stored
@@ -8,8 +8,8 @@ use Rattle.btree_descent.specs.rows_trait.declared.view.View.{View}
 use Rattle.btree_descent.specs.rows_trait.declared.view.Hold.{Hold}
 use Rattle.btree_descent.specs.rows_trait.Views.{state, Shape}
 use Rattle.btree_descent.specs.rows_trait.Turns.{MayPublish}
-use Rattle.btree_descent.proofs.lean_proto_lemmas.Again.{plain_drop}
-use Rattle.btree_descent.proofs.lean_proto_lemmas.Steady.{every_ready}
+use Rattle.btree_descent.proofs.lean_proto.Again.{plain_drop}
+use Rattle.btree_descent.proofs.lean_proto.Steady.{every_ready}
 use Rattle.held_rows.specs.Rows.{Waited}
 use Rattle.held_rows.specs.Publishing.{IsChanged}
 use Rattle.btree_smo.specs.Outcomes.{IsHotIn}

@@ -13,17 +13,17 @@ use Rattle.btree_descent.specs.row_words.Moments.{Moment, event_of}
 use Rattle.btree_descent.specs.row_words.Openings.{opening}
 use Rattle.btree_descent.specs.row_words.Sealed.{changes}
 use Rattle.btree_descent.specs.row_words.Words.{publishes_frame}
-use Rattle.btree_descent.proofs.row_words_lemmas.SealedLemmas.{low_tame}
-use Rattle.btree_descent.proofs.row_words_lemmas.Stays.{cases}
+use Rattle.btree_descent.proofs.row_words.SealedLemmas.{low_tame}
+use Rattle.btree_descent.proofs.row_words.Stays.{cases}
 use Rattle.btree_descent.specs.rows_trait.declared.view.Hold.{Hold}
 use Rattle.btree_descent.specs.rows_trait.declared.view.View.{View}
 use Rattle.btree_descent.specs.rows_trait.Views.{Shape, after_all, state, holds, held_at, without}
 use Rattle.btree_descent.specs.rows_trait.Turns.{Published, MayPublish}
-use Rattle.btree_descent.proofs.rows_trait_lemmas.Holds.{holds_without, holds_without_here, without_apart, holds_settle, settle_at, settled}
-use Rattle.btree_descent.proofs.rows_trait_lemmas.Runs.{ran_goes, ran_append}
-use Rattle.btree_descent.proofs.version_latch_lemmas.Keeping.{may_ran}
-use Rattle.btree_descent.proofs.lean_proto_lemmas.Again.{plain_purge}
-use Rattle.btree_descent.proofs.lean_proto_lemmas.Steady.{every_purge}
+use Rattle.btree_descent.proofs.rows_trait.Holds.{holds_without, holds_without_here, without_apart, holds_settle, settle_at, settled}
+use Rattle.btree_descent.proofs.rows_trait.Runs.{ran_goes, ran_append}
+use Rattle.btree_descent.proofs.version_latch.Keeping.{may_ran}
+use Rattle.btree_descent.proofs.lean_proto.Again.{plain_purge}
+use Rattle.btree_descent.proofs.lean_proto.Steady.{every_purge}
 use Rattle.btree_smo.specs.Outcomes.{MissedUpTo}
 use Rattle.held_rows.specs.Rows.{Waited, Wrote}
 use Rattle.held_rows.specs.Waits.{waited_then, waited_apart}

@@ -9,7 +9,7 @@ use Rattle.btree_descent.specs.core_state.States.{State}
 use Rattle.btree_descent.specs.core_state.Events as happening
 use Rattle.btree_descent.specs.core_state.Steps.{happens}
 use Rattle.btree_descent.specs.row_words.Words.{framed, framed_page}
-use Rattle.btree_descent.proofs.row_words_lemmas.Frames.{framed_leaf}
+use Rattle.btree_descent.proofs.row_words.Frames.{framed_leaf}
 use Rattle.btree_descent.specs.row_words.Openings.{opening}
 use Rattle.btree_descent.specs.rows_trait.declared.view.View.{View}
 use Rattle.btree_descent.specs.rows_trait.Views.{Shape, state, may}
@@ -44,7 +44,7 @@ pub purged_as : {z : Shape} {v : View} {worker frames leaf number page : ℕ} {n
 purged_as {z} {v} {worker} {frames} {leaf} {number} {page} {n} {m} {places} {keys} it actor sound num is short at =
     let s = (state v).core in
     let node : n.node ≡ framed s.place (s.page n.number).node = ap (λ (q : stored.Page). q.node) it.stands.page in
-    let flat : (s.page n.number).node.level ≡ 0 = sym (ap (λ (v : Node). v.level) node ∙ Rattle.btree_descent.proofs.row_words_lemmas.Frames.framed_level s.place (s.page n.number).node) ∙ it.flat in
+    let flat : (s.page n.number).node.level ≡ 0 = sym (ap (λ (v : Node). v.level) node ∙ Rattle.btree_descent.proofs.row_words.Frames.framed_level s.place (s.page n.number).node) ∙ it.flat in
     let page_is = leaf_left (opening v.given) s worker n.number keys n n.generation refl refl flat node in
     let whole : m ≡ framed_page (happens (opening v.given) s (happening.Event.Purge worker n.number keys)) n.number n.generation = is ∙ (ap (λ x. leaf_after n keys x worker) num ∙ page_is) in
     subst (λ p. IsPurged z v worker p keys frames leaf m places) (sym at) (record {

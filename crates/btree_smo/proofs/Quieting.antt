@@ -14,11 +14,11 @@ use Rattle.btree_descent.specs.rows_trait.declared.view.View.{View}
 use Rattle.btree_descent.specs.rows_trait.Views.{Shape, Knows, state, latest, hold, holds, held_at}
 use Rattle.btree_descent.specs.rows_trait.Turns.{Goes, Looked, Loaded, Taken, Ran}
 use Rattle.btree_descent.specs.rows_trait.Causes.{HasFound}
-use Rattle.btree_descent.proofs.version_latch_lemmas.Keeping.{kept_load, looked_latest}
+use Rattle.btree_descent.proofs.version_latch.Keeping.{kept_load, looked_latest}
 use Rattle.key_locks.specs.Rows.{Sized}
 use Rattle.btree_smo.proofs.Causes.{found_after, found_loads}
 use Rattle.btree_smo.specs.Outcomes.{Found}
-use Rattle.btree_descent.proofs.rows_trait_lemmas.Runs.{ran_goes, ran_append}
+use Rattle.btree_descent.proofs.rows_trait.Runs.{ran_goes, ran_append}
 use Rattle.key_locks.specs.Rows.{IsRow, IsSound}
 use Rattle.key_locks.specs.Inside.{IsAt}
 use Rattle.key_locks.proofs.Masks.{no_reader}

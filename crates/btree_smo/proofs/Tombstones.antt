@@ -6,12 +6,12 @@ use Rattle.std.proofs.lemmas.List.{length-append}
 use Rattle.page_model.specs.Pairs.{Pair, Rising, find, is_in}
 use Rattle.page_model.specs.Needs.{key_at}
 use Rattle.page_model.specs.Page.{word_at}
-use Rattle.disk_image.proofs.btree_node_lemmas.PlaceLemmas.{rising-from, ordered-rising}
+use Rattle.disk_image.proofs.btree_node.PlaceLemmas.{rising-from, ordered-rising}
 use Rattle.btree_descent.specs.core_state.Lists.{is_empty}
 use Rattle.btree_descent.specs.core_state.Openings.{Opening}
 use Rattle.btree_descent.specs.core_state.States.{State, flushed_by_all}
 use Rattle.btree_descent.specs.core_state.Needs.{is_settled, is_free}
-use Rattle.btree_descent.proofs.row_words_lemmas.Stays.{cases, and_true}
+use Rattle.btree_descent.proofs.row_words.Stays.{cases, and_true}
 use Rattle.btree_descent.specs.lean_proto.Purges.{IsQuiet}
 use Rattle.btree_smo.specs.Purges.{purgeable_keys, IsFloor}
 use Rattle.btree_descent.specs.row_words.declared.given.Given.{Given}
@@ -206,7 +206,7 @@ module _ {z : Shape} {worker frames f locks leaf : ℕ} {pairs : List Pair} {v :
 
         pub pass_taken : {u : View} {more : List ℕ} → k % locks < locks → TookPlace z frames (k % locks) f places w Taken more u → Passing z frames f locks leaf pairs (i + 1) more (keys ++ k ∷ []) v u
         pass_taken {u} {more} small (inl e) =
-            let g : Waited z.alone w (with_holds u w) = subst (λ x. Waited z.alone w (with_holds x w)) (sym e.2) (record { ran = Rattle.btree_smo.proofs.Quieting.ran_held w.held (Rattle.btree_descent.proofs.rows_trait_lemmas.Runs.ran_none z.alone w); between = []; quiet = λ t. refl; apart = tt; seen = sym (append-nil w.seen); rows = λ q. refl }) in
+            let g : Waited z.alone w (with_holds u w) = subst (λ x. Waited z.alone w (with_holds x w)) (sym e.2) (record { ran = Rattle.btree_smo.proofs.Quieting.ran_held w.held (Rattle.btree_descent.proofs.rows_trait.Runs.ran_none z.alone w); between = []; quiet = λ t. refl; apart = tt; seen = sym (append-nil w.seen); rows = λ q. refl }) in
             let h : Holding z frames f leaf places v u = subst (λ x. Holding z frames f leaf places v x) (sym e.2) p.holding in
             subst (λ ps. Passing z frames f locks leaf pairs (i + 1) ps (keys ++ k ∷ []) v u) (sym e.1) (record {
               holding = h;

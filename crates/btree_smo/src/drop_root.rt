@@ -19,13 +19,9 @@ use crate::image::image;
 use crate::latch::latch_two;
 use crate::outcome::Outcome;
 use crate::record::pairs_of;
-use btree_descent::draw_trait::draw::{Draw, Unstaged};
 use btree_descent::put::LAST_NUMBER;
-use btree_descent::rows_trait::rows::Rows;
-use btree_descent::swips::Swip;
-use btree_descent::version_latch::Hold;
-use disk_image::btree_node::Node;
-use disk_image::log_record::{Body, PageRef, Record};
+use btree_descent::{Draw, Hold, Rows, Swip, Unstaged};
+use disk_image::{Body, Node, PageRef, Record};
 use held_rows::{give_up_two, publish_two, store};
 
 // The root and its one child as they stand in their rows, and the child as it is written.

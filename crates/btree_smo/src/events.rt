@@ -1,6 +1,6 @@
 //! The events of changes of the structure.
 use crate::gathered::GoneKeys;
-use btree_descent::rows_trait::names::Names;
+use btree_descent::Names;
 
 /// The root's contents go into a new page.
 #[derive(Drop)]

@@ -8,9 +8,8 @@ ghost use Rattle.btree_smo.specs.Inside.Purging.{Holding, CanGo, TookPlace, IsLa
 use crate::gathered::{GoneKeys, Places};
 use crate::quiet::{Quiet, latch_quiet};
 use btree_descent::descent::TOMBSTONE;
-use btree_descent::rows_trait::rows::Rows;
-use btree_descent::version_latch::Hold;
-use disk_image::btree_node::Node;
+use btree_descent::{Hold, Rows};
+use disk_image::Node;
 
 // Latches the lock row of a place, if it is not held yet and nobody can need what it says.
 fn take_place<R: Rows>(

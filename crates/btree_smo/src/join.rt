@@ -20,12 +20,9 @@ use crate::latch::latch_three;
 use crate::leading::leads;
 use crate::outcome::Outcome;
 use crate::record::{pairs_of, reference};
-use btree_descent::draw_trait::draw::{Draw, Unstaged};
 use btree_descent::put::LAST_NUMBER;
-use btree_descent::rows_trait::rows::Rows;
-use btree_descent::version_latch::Hold;
-use disk_image::btree_node::Node;
-use disk_image::log_record::{Body, Record};
+use btree_descent::{Draw, Hold, Rows, Unstaged};
+use disk_image::{Body, Node, Record};
 use held_rows::{give_up_three, publish_three, store};
 
 /// The most pairs that two pages have together which are joined.

@@ -2,8 +2,8 @@
 ghost use Rattle.std.specs.Prelude.{◌↔◌, IsTrue};
 ghost use Rattle.btree_smo.specs.Inside.{Leads};
 
-use btree_descent::swips::Swip;
-use disk_image::btree_node::Node;
+use btree_descent::Swip;
+use disk_image::Node;
 
 // Whether the node leads to the page in this frame with the key.
 pub(crate) fn leads(node: &Node, key: u64, frame: u32) -> bool

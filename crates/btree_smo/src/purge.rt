@@ -22,12 +22,9 @@ use crate::latch::latch_one;
 use crate::outcome::Outcome;
 use crate::record::keys_of;
 use crate::release::{give_up_places, release_places};
-use btree_descent::draw_trait::draw::{Draw, Unstaged};
 use btree_descent::put::LAST_NUMBER;
-use btree_descent::rows_trait::rows::Rows;
-use btree_descent::version_latch::Hold;
-use disk_image::btree_node::Node;
-use disk_image::log_record::{Body, PageRef, Record};
+use btree_descent::{Draw, Hold, Rows, Unstaged};
+use disk_image::{Body, Node, PageRef, Record};
 use held_rows::store;
 
 /// What a purge did, or why it did nothing.

@@ -4,9 +4,7 @@ ghost use Rattle.btree_descent.specs.rows_trait.Layout.{rows_of, width};
 ghost use Rattle.key_locks.specs.Rows as lock_rows;
 ghost use Rattle.btree_smo.specs.Inside.Quiet.{Quietly, AreQuiet};
 
-use btree_descent::rows_trait::names::Nothing;
-use btree_descent::rows_trait::rows::Rows;
-use btree_descent::version_latch::{Glimpse, Hold, Unheld};
+use btree_descent::{Glimpse, Hold, Nothing, Rows, Unheld};
 
 // Whether a lock row was latched.
 #[derive(Clone, Copy)]

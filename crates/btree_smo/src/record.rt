@@ -5,8 +5,7 @@ ghost use Rattle.disk_image.specs.btree_node.Words.{pairs_of, pairs_in};
 ghost use Rattle.disk_image.specs.log_record.Model.{model_pair, model_pairs, model_keys};
 ghost use Rattle.disk_image.specs.log_record.Spelling.{PairFits, PairsFit, KeyFits, KeysFit, RefFits};
 
-use disk_image::btree_node::Node;
-use disk_image::log_record::{Keys, PageRef, Pair, Pairs};
+use disk_image::{Keys, Node, PageRef, Pair, Pairs};
 
 // Pairs of their words, key and word in turn.
 pub(crate) fn pairs_of(words: &[u64]) -> Pairs

@@ -5,8 +5,7 @@ ghost use Rattle.btree_smo.specs.Outcomes.{MissedUpTo};
 ghost use Rattle.btree_smo.specs.Inside.Purging.{KeepsPlaces, KeepsBeside};
 
 use crate::gathered::Places;
-use btree_descent::rows_trait::rows::Rows;
-use btree_descent::version_latch::Hold;
+use btree_descent::{Hold, Rows};
 
 // Gives up the lock rows of these places, the only rows that are held.
 pub(crate) fn release_places<R: Rows>(

@@ -4,8 +4,8 @@ use Rattle.map_model.specs.declared.call.Answer.{Answer}
 use Rattle.map_model.specs.declared.call.Call.{Call}
 use Rattle.map_model.specs.declared.call.Call.TheVariants as call
 use Rattle.lean_disk.specs.Story.{Story}
-use Rattle.paged_desks.specs.Calls.{CallDoes, OnLine}
-use Rattle.paged_desks.specs.declared.machine.PagedMachine.{PagedMachine}
+use Rattle.paged_scans.specs.paged_desks.Calls.{CallDoes, OnLine}
+use Rattle.paged_scans.specs.paged_desks.declared.machine.PagedMachine.{PagedMachine}
 use Rattle.paged_aborts.specs.Aborts.{Asked, Hindered, MayAbort}
 use Rattle.buffered_engine.specs.Inside.Asks.{IsDue}
 

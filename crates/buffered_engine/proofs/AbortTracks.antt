@@ -6,18 +6,18 @@ use Rattle.map_model.specs.Lists.{Has, any, keep}
 use Rattle.map_model.specs.Journals.{Name}
 use Rattle.map_model.proofs.ListLemmas.{upd_same}
 use Rattle.rfa_model.specs.Stamps.{need_of}
-use Rattle.rows_trait.specs.core_state.Openings.{Opening}
-use Rattle.rows_trait.specs.core_state.States.{Worker, State, start}
-use Rattle.rows_trait.specs.core_state.Events.{Event}
-use Rattle.rows_trait.specs.core_state.Needs.{may}
-use Rattle.rows_trait.specs.core_state.Steps.{finished, happens, run, AllMet, state_after}
-use Rattle.rows_trait.proofs.core_state_lemmas.Runs.{run_more, met_more}
-use Rattle.disk_runs.specs.core_commit.Rises.{EveryRise}
-use Rattle.core_calls.specs.Deeds.{Deed, Aborted, Committed}
-use Rattle.core_calls.specs.Refusals.{Limits}
-use Rattle.core_calls.specs.Fronts.{Done, front, outcomes}
-use Rattle.core_calls.specs.Steps.{is_step, is_structure, Goes, is_change}
-use Rattle.core_calls.specs.Runs.{Tells}
+use Rattle.paged_scans.specs.core_state.Openings.{Opening}
+use Rattle.paged_scans.specs.core_state.States.{Worker, State, start}
+use Rattle.paged_scans.specs.core_state.Events.{Event}
+use Rattle.paged_scans.specs.core_state.Needs.{may}
+use Rattle.paged_scans.specs.core_state.Steps.{finished, happens, run, AllMet, state_after}
+use Rattle.paged_scans.proofs.core_state.Runs.{run_more, met_more}
+use Rattle.paged_scans.specs.core_commit.Rises.{EveryRise}
+use Rattle.paged_scans.specs.core_calls.Deeds.{Deed, Aborted, Committed}
+use Rattle.paged_scans.specs.core_calls.Refusals.{Limits}
+use Rattle.paged_scans.specs.core_calls.Fronts.{Done, front, outcomes}
+use Rattle.paged_scans.specs.core_calls.Steps.{is_step, is_structure, Goes, is_change}
+use Rattle.paged_scans.specs.core_calls.Runs.{Tells}
 use Rattle.group_commit.specs.declared.receipts.Receipt.{Receipt}
 use Rattle.group_commit.specs.declared.queue.End.{End}
 use Rattle.group_commit.specs.Outcomes.{ends_by}

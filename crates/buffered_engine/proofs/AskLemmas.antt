@@ -10,25 +10,25 @@ use Rattle.map_model.specs.declared.call.Answer.TheVariants as answer
 use Rattle.map_model.specs.declared.call.Call.{Call}
 use Rattle.map_model.specs.declared.call.Call.TheVariants as call
 use Rattle.rfa_model.specs.Stamps.{need_of}
-use Rattle.disk_runs.specs.core_commit.Rises.{EveryRise}
-use Rattle.rows_trait.specs.core_state.Events.{Event}
-use Rattle.rows_trait.specs.core_state.Openings.{Opening}
-use Rattle.rows_trait.specs.core_state.States as core
-use Rattle.rows_trait.specs.core_state.Steps.{state_after}
-use Rattle.core_calls.specs.Deeds.{answered}
-use Rattle.core_calls.specs.Durables.{due}
-use Rattle.core_calls.specs.Fronts.{Done, front}
-use Rattle.core_calls.specs.Refusals.{waiting}
-use Rattle.core_calls.specs.Runs.{EachTells}
+use Rattle.paged_scans.specs.core_commit.Rises.{EveryRise}
+use Rattle.paged_scans.specs.core_state.Events.{Event}
+use Rattle.paged_scans.specs.core_state.Openings.{Opening}
+use Rattle.paged_scans.specs.core_state.States as core
+use Rattle.paged_scans.specs.core_state.Steps.{state_after}
+use Rattle.paged_scans.specs.core_calls.Deeds.{answered}
+use Rattle.paged_scans.specs.core_calls.Durables.{due}
+use Rattle.paged_scans.specs.core_calls.Fronts.{Done, front}
+use Rattle.paged_scans.specs.core_calls.Refusals.{waiting}
+use Rattle.paged_scans.specs.core_calls.Runs.{EachTells}
 use Rattle.lean_disk.specs.Story.{Story}
-use Rattle.row_opening.specs.Openings.{EveryReached}
-use Rattle.rows_trait.specs.row_words.declared.event.Event as row
-use Rattle.rows_trait.specs.row_words.declared.event.Event.TheVariants as row_event
-use Rattle.rows_trait.specs.row_words.declared.given.Given.{Given}
-use Rattle.rows_trait.specs.row_words.Moments.{event_of, events_of}
-use Rattle.rows_trait.specs.declared.view.View.{View}
-use Rattle.rows_trait.specs.Views.{state}
-use Rattle.engine_trait.specs.Limits.{limits}
+use Rattle.paged_scans.specs.row_opening.Openings.{EveryReached}
+use Rattle.paged_scans.specs.row_words.declared.event.Event as row
+use Rattle.paged_scans.specs.row_words.declared.event.Event.TheVariants as row_event
+use Rattle.paged_scans.specs.row_words.declared.given.Given.{Given}
+use Rattle.paged_scans.specs.row_words.Moments.{event_of, events_of}
+use Rattle.paged_scans.specs.rows_trait.declared.view.View.{View}
+use Rattle.paged_scans.specs.rows_trait.Views.{state}
+use Rattle.paged_scans.specs.engine_trait.Limits.{limits}
 use Rattle.engine_front.specs.Turns.{IsNext, behind_answer, is_conflict_in}
 use Rattle.engine_front.specs.declared.calls.Next.{Next}
 use Rattle.engine_front.specs.declared.calls.Next.TheVariants.{Durables}
@@ -39,14 +39,14 @@ use Rattle.group_commit.specs.Tracks.{Tracks}
 use Rattle.group_commit.specs.declared.queue.End.{End}
 use Rattle.group_commit.specs.declared.receipts.Receipt.{Receipt}
 use Rattle.group_commit.proofs.ListLemmas.{queue_set_other, queue_set_same}
-use Rattle.session_state.proofs.Moments.{events_more}
-use Rattle.session_desks.specs.Desks.{desk_of}
-use Rattle.session_desks.specs.Parts.{AreAsMany, here, shape}
-use Rattle.session_desks.specs.declared.desk.Desk.{Desk}
-use Rattle.session_desks.proofs.SeatLemmas.{turn_high, turn_low}
-use Rattle.paged_desks.specs.Calls.{DoesTied, Tied}
-use Rattle.paged_desks.specs.Machines.{IsReady, memory, view_of}
-use Rattle.paged_desks.specs.declared.machine.PagedMachine.{PagedMachine}
+use Rattle.paged_scans.proofs.session_state.Moments.{events_more}
+use Rattle.paged_scans.specs.session_desks.Desks.{desk_of}
+use Rattle.paged_scans.specs.session_desks.Parts.{AreAsMany, here, shape}
+use Rattle.paged_scans.specs.session_desks.declared.desk.Desk.{Desk}
+use Rattle.paged_scans.proofs.session_desks.SeatLemmas.{turn_high, turn_low}
+use Rattle.paged_scans.specs.paged_desks.Calls.{DoesTied, Tied}
+use Rattle.paged_scans.specs.paged_desks.Machines.{IsReady, memory, view_of}
+use Rattle.paged_scans.specs.paged_desks.declared.machine.PagedMachine.{PagedMachine}
 use Rattle.paged_scans.specs.Calls.{StandsAt}
 use Rattle.paged_scans.specs.declared.scans.Scan.{Scan}
 use Rattle.buffered_engine.specs.Calls.{MayBe}

@@ -8,17 +8,17 @@ use Rattle.map_model.specs.declared.call.Call.{Call}
 use Rattle.map_model.specs.declared.call.Call.TheVariants as call
 use Rattle.map_model.specs.declared.call.Refusal.TheVariants as refusal
 use Rattle.page_model.specs.Limits.{most_sessions, waiting_ends}
-use Rattle.disk_runs.specs.core_commit.Rises.{EveryRise}
-use Rattle.rows_trait.specs.core_state.Openings.{Opening}
-use Rattle.rows_trait.specs.core_state.Steps.{state_after}
-use Rattle.core_calls.specs.Deeds.{asked}
-use Rattle.core_calls.specs.Fronts.{Done, front, outcomes}
-use Rattle.core_calls.specs.Refusals.{waiting}
-use Rattle.engine_calls.specs.Clauses.{IsNewLine}
+use Rattle.paged_scans.specs.core_commit.Rises.{EveryRise}
+use Rattle.paged_scans.specs.core_state.Openings.{Opening}
+use Rattle.paged_scans.specs.core_state.Steps.{state_after}
+use Rattle.paged_scans.specs.core_calls.Deeds.{asked}
+use Rattle.paged_scans.specs.core_calls.Fronts.{Done, front, outcomes}
+use Rattle.paged_scans.specs.core_calls.Refusals.{waiting}
+use Rattle.paged_scans.specs.engine_calls.Clauses.{IsNewLine}
 use Rattle.lean_disk.specs.Story.{Story}
-use Rattle.row_opening.specs.Openings.{EveryReached}
-use Rattle.call_parts.specs.Deeds.{Fails}
-use Rattle.engine_trait.specs.Calls.{IsAsked}
+use Rattle.paged_scans.specs.row_opening.Openings.{EveryReached}
+use Rattle.paged_scans.specs.call_parts.Deeds.{Fails}
+use Rattle.paged_scans.specs.engine_trait.Calls.{IsAsked}
 use Rattle.engine_front.specs.Stops.{StandsNot}
 use Rattle.engine_front.specs.Turns.{IsNext, behind_answer}
 use Rattle.engine_front.specs.declared.calls.Next.{Next}
@@ -28,12 +28,12 @@ use Rattle.group_commit.specs.Laws.{EveryOutcome}
 use Rattle.group_commit.specs.Queues.{queue_of}
 use Rattle.group_commit.specs.declared.queue.End.{End}
 use Rattle.group_commit.specs.declared.receipts.Receipt.{Receipt}
-use Rattle.rows_trait.specs.declared.view.View.{View}
-use Rattle.session_desks.specs.Desks.{desk_of}
-use Rattle.session_desks.specs.Parts.{Works, here}
-use Rattle.paged_desks.specs.Calls.{AreHalf, CallDoes, Comes, DoesTied}
-use Rattle.paged_desks.specs.Machines.{memory, view_of}
-use Rattle.paged_desks.specs.declared.machine.PagedMachine.{PagedMachine}
+use Rattle.paged_scans.specs.rows_trait.declared.view.View.{View}
+use Rattle.paged_scans.specs.session_desks.Desks.{desk_of}
+use Rattle.paged_scans.specs.session_desks.Parts.{Works, here}
+use Rattle.paged_scans.specs.paged_desks.Calls.{AreHalf, CallDoes, Comes, DoesTied}
+use Rattle.paged_scans.specs.paged_desks.Machines.{memory, view_of}
+use Rattle.paged_scans.specs.paged_desks.declared.machine.PagedMachine.{PagedMachine}
 use Rattle.paged_scans.specs.Calls.{StandsAt}
 use Rattle.paged_scans.specs.declared.scans.Scan.{Scan}
 use Rattle.buffered_engine.specs.Calls.{AbortsInRuns, DoesIn, IsTo, MayBe, ScansInRuns, is_stop}

@@ -3,28 +3,28 @@ use Rattle.std.proofs.Common.{◌≡◌, ◌≤◌, inl, inr, ℕ, Bool, true, f
 use Rattle.std.proofs.lemmas.Bool.{and_from, and_parts, and_right, cases_Bool, cond-true, eqb-true, le-leb}
 use Rattle.std.proofs.lemmas.List.{append_assoc}
 use Rattle.map_model.specs.Lists.{Has, any, keep}
-use Rattle.rows_trait.specs.image_model.Entries.{Entry, is_end}
+use Rattle.paged_scans.specs.image_model.Entries.{Entry, is_end}
 use Rattle.rfa_model.specs.Reaches.{least}
-use Rattle.rows_trait.specs.core_state.Lists.{most}
-use Rattle.rows_trait.specs.core_state.Openings.{Opening}
-use Rattle.rows_trait.specs.core_state.States.{State, start, flushed_by_all}
-use Rattle.rows_trait.specs.core_state.Events.{Event}
-use Rattle.rows_trait.specs.core_state.Needs.{is_behind, may, needs}
-use Rattle.rows_trait.specs.core_state.Steps.{AllMet, happens, run, state_after, synced}
-use Rattle.rows_trait.proofs.core_state_lemmas.Runs.{met_more, run_more}
-use Rattle.disk_runs.proofs.core_commit_lemmas.Controls.{le_most}
-use Rattle.disk_runs.proofs.core_commit_lemmas.History.{Recorded}
-use Rattle.disk_runs.proofs.core_commit_lemmas.Invariants.{Inv}
-use Rattle.disk_runs.proofs.core_commit_lemmas.Lists.{Before, le_least}
-use Rattle.disk_runs.proofs.core_commit_lemmas.Runs.{good_run, good_start}
-use Rattle.core_calls.proofs.DurableLemmas.{entered}
-use Rattle.core_calls.specs.Deeds.{Begun, Deed}
-use Rattle.core_calls.specs.Fronts.{Done, front, outcomes}
-use Rattle.core_calls.specs.LogEvents.{IsSync, LogsGo, PreparesBy, is_log}
-use Rattle.core_calls.specs.Refusals.{waiting}
-use Rattle.core_calls.specs.Runs.{Tells}
-use Rattle.core_calls.specs.Steps.{Goes, is_step}
-use Rattle.engine_trait.specs.Limits.{limits}
+use Rattle.paged_scans.specs.core_state.Lists.{most}
+use Rattle.paged_scans.specs.core_state.Openings.{Opening}
+use Rattle.paged_scans.specs.core_state.States.{State, start, flushed_by_all}
+use Rattle.paged_scans.specs.core_state.Events.{Event}
+use Rattle.paged_scans.specs.core_state.Needs.{is_behind, may, needs}
+use Rattle.paged_scans.specs.core_state.Steps.{AllMet, happens, run, state_after, synced}
+use Rattle.paged_scans.proofs.core_state.Runs.{met_more, run_more}
+use Rattle.paged_scans.proofs.core_commit.Controls.{le_most}
+use Rattle.paged_scans.proofs.core_commit.History.{Recorded}
+use Rattle.paged_scans.proofs.core_commit.Invariants.{Inv}
+use Rattle.paged_scans.proofs.core_commit.Lists.{Before, le_least}
+use Rattle.paged_scans.proofs.core_commit.Runs.{good_run, good_start}
+use Rattle.paged_scans.proofs.core_calls.DurableLemmas.{entered}
+use Rattle.paged_scans.specs.core_calls.Deeds.{Begun, Deed}
+use Rattle.paged_scans.specs.core_calls.Fronts.{Done, front, outcomes}
+use Rattle.paged_scans.specs.core_calls.LogEvents.{IsSync, LogsGo, PreparesBy, is_log}
+use Rattle.paged_scans.specs.core_calls.Refusals.{waiting}
+use Rattle.paged_scans.specs.core_calls.Runs.{Tells}
+use Rattle.paged_scans.specs.core_calls.Steps.{Goes, is_step}
+use Rattle.paged_scans.specs.engine_trait.Limits.{limits}
 use Rattle.group_commit.proofs.EventLemmas.{quiet_run, same_ends}
 use Rattle.group_commit.proofs.ListLemmas.{keep_none}
 use Rattle.group_commit.proofs.OutcomeEvents.{flushed_run, no_end}

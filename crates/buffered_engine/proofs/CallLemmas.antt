@@ -8,10 +8,10 @@ use Rattle.map_model.specs.declared.call.Call.{Call}
 use Rattle.map_model.specs.declared.call.Refusal.TheVariants as refusal
 use Rattle.lean_disk.specs.Faults.{HasCause}
 use Rattle.lean_disk.specs.Story.{Story}
-use Rattle.engine_trait.specs.Calls.{HasCome}
+use Rattle.paged_scans.specs.engine_trait.Calls.{HasCome}
 use Rattle.engine_front.specs.Turns.{behind_answer}
 use Rattle.engine_front.specs.declared.calls.Unanswered.TheVariants as unanswered
-use Rattle.paged_desks.specs.Calls.{Comes}
+use Rattle.paged_scans.specs.paged_desks.Calls.{Comes}
 use Rattle.buffered_engine.specs.Calls.{AbortAnswered, AbortStopped, AbortsInRuns, Answered, Asked, AskedAbort, AskedScan, DoesInRuns, HinderedDoes, LineDoes, MayBe, ScanAnswered, ScanDoes, ScanStopped, ScansInRuns, Stopped, TellsFewer, Went, is_stop, told}
 use Rattle.buffered_engine.specs.Inside.Asks.{next_behind}
 use Rattle.buffered_engine.specs.States.{State}

@@ -8,18 +8,18 @@ use Rattle.map_model.specs.declared.call.Call.{Call}
 use Rattle.map_model.specs.declared.call.Call.TheVariants as call
 use Rattle.map_model.specs.declared.call.Refusal.{Refusal}
 use Rattle.map_model.specs.declared.call.Refusal.TheVariants as refusal
-use Rattle.rows_trait.specs.core_state.Openings.{Opening}
-use Rattle.rows_trait.specs.core_state.States.{State}
-use Rattle.rows_trait.specs.core_state.Steps.{state_after}
-use Rattle.core_calls.specs.Deeds.{Aborted, Absent, Begun, Changed, Checkpointed, Committed, Deed, Deleted, Got, Met, Outcome, Over, Paused, Refused, Synced, answered, asked}
-use Rattle.core_calls.specs.Fronts.{Done, front, outcomes}
-use Rattle.core_calls.specs.Runs.{Tells}
-use Rattle.core_calls.specs.Steps.{FollowsConflict, IsAnAbort, IsBehind, call_behind, due_call, hindered_in}
-use Rattle.disk_runs.specs.worker_log.Logs.{Log, limit, used}
-use Rattle.call_parts.specs.Deeds.{Answers}
-use Rattle.engine_trait.specs.Calls.{is_half_done}
-use Rattle.engine_trait.specs.Limits.{limits}
-use Rattle.engine_trait.specs.Refusals.{IsMetOnWay, in_transaction, log_refusal, refusal_in}
+use Rattle.paged_scans.specs.core_state.Openings.{Opening}
+use Rattle.paged_scans.specs.core_state.States.{State}
+use Rattle.paged_scans.specs.core_state.Steps.{state_after}
+use Rattle.paged_scans.specs.core_calls.Deeds.{Aborted, Absent, Begun, Changed, Checkpointed, Committed, Deed, Deleted, Got, Met, Outcome, Over, Paused, Refused, Synced, answered, asked}
+use Rattle.paged_scans.specs.core_calls.Fronts.{Done, front, outcomes}
+use Rattle.paged_scans.specs.core_calls.Runs.{Tells}
+use Rattle.paged_scans.specs.core_calls.Steps.{FollowsConflict, IsAnAbort, IsBehind, call_behind, due_call, hindered_in}
+use Rattle.paged_scans.specs.worker_log.Logs.{Log, limit, used}
+use Rattle.paged_scans.specs.call_parts.Deeds.{Answers}
+use Rattle.paged_scans.specs.engine_trait.Calls.{is_half_done}
+use Rattle.paged_scans.specs.engine_trait.Limits.{limits}
+use Rattle.paged_scans.specs.engine_trait.Refusals.{IsMetOnWay, in_transaction, log_refusal, refusal_in}
 use Rattle.engine_front.specs.Turns.{IsNext, behind_answer, behind_last, is_conflict_in}
 use Rattle.group_commit.specs.Outcomes.{ends_by}
 use Rattle.buffered_engine.specs.Calls.{MayBe}

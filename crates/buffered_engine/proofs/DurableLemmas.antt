@@ -3,22 +3,22 @@ use Rattle.std.proofs.Common.{◌≡◌, inl, inr, ◌↔◌, ◌≤◌, ◌<◌
 use Rattle.std.proofs.lemmas.Bool.{cases_Bool}
 use Rattle.std.proofs.lemmas.List.{length-take-le}
 use Rattle.map_model.specs.Journals.{Name}
-use Rattle.rows_trait.specs.core_state.Openings.{Opening}
-use Rattle.core_calls.specs.Fronts.{Done}
+use Rattle.paged_scans.specs.core_state.Openings.{Opening}
+use Rattle.paged_scans.specs.core_calls.Fronts.{Done}
 use Rattle.lean_disk.specs.Story.{Story}
-use Rattle.engine_trait.specs.Calls.{is_half_done}
+use Rattle.paged_scans.specs.engine_trait.Calls.{is_half_done}
 use Rattle.engine_front.specs.Turns.{IsTaken, behind_durables, told_with}
 use Rattle.engine_front.specs.declared.calls.Next.{Next}
 use Rattle.group_commit.specs.Laws.{EveryTake}
 use Rattle.group_commit.specs.Queues.{Takes}
 use Rattle.group_commit.specs.declared.queue.End.{End}
 use Rattle.group_commit.specs.declared.receipts.Receipt.{Receipt}
-use Rattle.rows_trait.specs.Views.{state}
-use Rattle.session_desks.specs.Desks.{desk_of}
-use Rattle.session_desks.specs.Parts.{IsSeated, Works, here, logs, shape}
-use Rattle.session_desks.proofs.SeatLemmas.{seated_of}
-use Rattle.paged_desks.specs.Machines.{memory, view_of}
-use Rattle.paged_desks.specs.declared.machine.PagedMachine.{PagedMachine}
+use Rattle.paged_scans.specs.rows_trait.Views.{state}
+use Rattle.paged_scans.specs.session_desks.Desks.{desk_of}
+use Rattle.paged_scans.specs.session_desks.Parts.{IsSeated, Works, here, logs, shape}
+use Rattle.paged_scans.proofs.session_desks.SeatLemmas.{seated_of}
+use Rattle.paged_scans.specs.paged_desks.Machines.{memory, view_of}
+use Rattle.paged_scans.specs.paged_desks.declared.machine.PagedMachine.{PagedMachine}
 use Rattle.paged_scans.specs.declared.scans.Scan.{Scan}
 use Rattle.buffered_engine.specs.Inside.Asks.{AreNumbers, durable_of}
 use Rattle.buffered_engine.specs.Inside.Parts.{IsEngine, state_by}

@@ -1,20 +1,20 @@
 -- Whether an abort is half done is told by the events.
 use Rattle.std.proofs.Common.{◌≡◌, ℕ, Bool, true, false, cond, ◌&&◌, ◌==◌, List, [], ◌∷◌, ◌++◌, refl, sym, ap, ◌∙◌, true≢false}
 use Rattle.map_model.specs.Maps.{MapAnswer}
-use Rattle.rows_trait.specs.image_model.Entries.{Entry}
+use Rattle.paged_scans.specs.image_model.Entries.{Entry}
 use Rattle.page_model.specs.Nodes.{Node}
-use Rattle.rows_trait.specs.core_state.Openings.{Opening}
-use Rattle.rows_trait.specs.core_state.States.{State}
-use Rattle.rows_trait.specs.core_state.Events.{Event}
-use Rattle.rows_trait.specs.core_state.Local.{is_of}
-use Rattle.rows_trait.specs.core_state.Needs.{are_hot, may, may_put_back, pages_of}
-use Rattle.rows_trait.specs.core_state.Steps.{AllMet, state_after, step}
-use Rattle.core_calls.specs.Deeds.{marks_by, marks_for}
-use Rattle.core_calls.specs.Fronts.{Done, front, outcomes}
-use Rattle.core_calls.specs.Marks.{Mark, back_in, is_half, mark, marks, met_in, onto}
-use Rattle.core_calls.specs.Refusals.{Limits}
-use Rattle.core_calls.specs.Runs.{EachTells}
-use Rattle.core_calls.proofs.RunLemmas.{marks_more}
+use Rattle.paged_scans.specs.core_state.Openings.{Opening}
+use Rattle.paged_scans.specs.core_state.States.{State}
+use Rattle.paged_scans.specs.core_state.Events.{Event}
+use Rattle.paged_scans.specs.core_state.Local.{is_of}
+use Rattle.paged_scans.specs.core_state.Needs.{are_hot, may, may_put_back, pages_of}
+use Rattle.paged_scans.specs.core_state.Steps.{AllMet, state_after, step}
+use Rattle.paged_scans.specs.core_calls.Deeds.{marks_by, marks_for}
+use Rattle.paged_scans.specs.core_calls.Fronts.{Done, front, outcomes}
+use Rattle.paged_scans.specs.core_calls.Marks.{Mark, back_in, is_half, mark, marks, met_in, onto}
+use Rattle.paged_scans.specs.core_calls.Refusals.{Limits}
+use Rattle.paged_scans.specs.core_calls.Runs.{EachTells}
+use Rattle.paged_scans.proofs.core_calls.RunLemmas.{marks_more}
 
 -- behind an event, if it was so or not before
 abbrev pub half_behind : ℕ → Event → Bool → Bool

@@ -2,8 +2,8 @@
 use Rattle.std.proofs.Common.{◌≡◌, List, length, refl, sym, subst}
 use Rattle.std.specs.Prelude.{IsTrue}
 use Rattle.map_model.specs.Journals.{Name}
-use Rattle.rows_trait.specs.core_state.Openings.{Opening}
-use Rattle.core_calls.specs.Fronts.{Done}
+use Rattle.paged_scans.specs.core_state.Openings.{Opening}
+use Rattle.paged_scans.specs.core_calls.Fronts.{Done}
 use Rattle.lean_disk.specs.Area.{Area}
 use Rattle.lean_disk.specs.Calls.{Noted}
 use Rattle.lean_disk.specs.Story.{Story}
@@ -11,11 +11,11 @@ use Rattle.lean_edge.specs.declared.sink.Put.{Put}
 use Rattle.lean_edge.specs.declared.sink.Put.TheVariants as put
 use Rattle.engine_front.specs.declared.calls.Next.{Next}
 use Rattle.group_commit.specs.declared.queue.End.{End}
-use Rattle.page_calls.specs.Mirrors.{HoldsLast}
-use Rattle.disk_runs.specs.page_store.Saved.{Reaches}
-use Rattle.paged_desks.specs.Machines.{IsReady, pages}
-use Rattle.paged_desks.specs.declared.machine.PagedMachine.{PagedMachine}
-use Rattle.paged_rows.specs.Paged.{IsFedIfFaithful, Paged}
+use Rattle.paged_scans.specs.page_calls.Mirrors.{HoldsLast}
+use Rattle.paged_scans.specs.page_store.Saved.{Reaches}
+use Rattle.paged_scans.specs.paged_desks.Machines.{IsReady, pages}
+use Rattle.paged_scans.specs.paged_desks.declared.machine.PagedMachine.{PagedMachine}
+use Rattle.paged_scans.specs.paged_rows.Paged.{IsFedIfFaithful, Paged}
 use Rattle.paged_scans.specs.declared.scans.Scan.{Scan}
 use Rattle.buffered_engine.specs.Inside.Parts.{IsEngine, state_by}
 use Rattle.buffered_engine.specs.States.{HasRun, InRun, State}

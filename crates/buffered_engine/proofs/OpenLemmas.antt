@@ -1,20 +1,20 @@
 -- An engine on a disk that was opened.
 use Rattle.std.proofs.Common.{◌≡◌, ℕ, Bool, false, List, [], length, refl, sym, ap, subst, arith}
-use Rattle.rows_trait.specs.core_state.Openings.{Opening}
-use Rattle.rows_trait.specs.core_state.States.{start}
-use Rattle.core_calls.specs.Refusals.{waiting}
-use Rattle.disk_runs.specs.disk_slots.declared.master.Master.{Master}
+use Rattle.paged_scans.specs.core_state.Openings.{Opening}
+use Rattle.paged_scans.specs.core_state.States.{start}
+use Rattle.paged_scans.specs.core_calls.Refusals.{waiting}
+use Rattle.paged_scans.specs.disk_slots.declared.master.Master.{Master}
 use Rattle.lean_disk.specs.Story.{Story}
 use Rattle.engine_front.specs.declared.calls.Next.TheVariants.{Line}
 use Rattle.group_commit.specs.Laws.{EveryStart}
 use Rattle.group_commit.specs.Queues.{AreNew, queue_of}
 use Rattle.group_commit.specs.declared.queue.End.{End}
-use Rattle.session_desks.specs.Desks.{desk_of}
-use Rattle.session_desks.specs.Parts.{here, shape}
-use Rattle.session_desks.proofs.SeatLemmas.{holds_of}
-use Rattle.paged_desks.specs.Calls.{Tied}
-use Rattle.paged_desks.specs.Machines.{IsReady, memory, view_of}
-use Rattle.paged_desks.specs.declared.machine.PagedMachine.{PagedMachine}
+use Rattle.paged_scans.specs.session_desks.Desks.{desk_of}
+use Rattle.paged_scans.specs.session_desks.Parts.{here, shape}
+use Rattle.paged_scans.proofs.session_desks.SeatLemmas.{holds_of}
+use Rattle.paged_scans.specs.paged_desks.Calls.{Tied}
+use Rattle.paged_scans.specs.paged_desks.Machines.{IsReady, memory, view_of}
+use Rattle.paged_scans.specs.paged_desks.declared.machine.PagedMachine.{PagedMachine}
 use Rattle.paged_engine.specs.Openings as paged
 use Rattle.paged_engine.specs.declared.opening.Size.{Size}
 use Rattle.paged_scans.specs.Calls.{IsIn}

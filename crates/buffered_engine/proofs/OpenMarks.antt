@@ -4,19 +4,19 @@ use Rattle.std.proofs.lemmas.Bool.{cases_eq, cond-true, eq-eqb, ne_eqb}
 use Rattle.map_model.specs.Histories.{Step}
 use Rattle.map_model.specs.Lists.{upd}
 use Rattle.map_model.specs.Maps.{MapAnswer}
-use Rattle.rows_trait.specs.image_model.Entries.{Entry}
-use Rattle.rows_trait.specs.core_state.Openings.{Opening}
-use Rattle.rows_trait.specs.core_state.States.{State, Worker, start}
-use Rattle.rows_trait.specs.core_state.Events.{Event}
-use Rattle.rows_trait.specs.core_state.Local.{is_of}
-use Rattle.rows_trait.specs.core_state.Needs.{may}
-use Rattle.rows_trait.specs.core_state.Steps.{AllMet, follows, happens, put_back, run, state_after, step}
-use Rattle.rows_trait.proofs.core_state_lemmas.Runs.{run_more}
-use Rattle.core_calls.specs.Deeds.{Aborted, Absent, Begun, Changed, Checkpointed, Committed, Deed, Deleted, Got, Met, Over, Paused, Refused, Synced, Unsaid, marks_for, marks_of, put_backs, reads_of}
-use Rattle.core_calls.specs.Fronts.{Done, front}
-use Rattle.core_calls.specs.Marks.{Mark, Began, Ended, back_in, mark, marks, met_in, onto}
-use Rattle.core_calls.specs.Refusals.{Limits}
-use Rattle.core_calls.specs.Runs.{Tells}
+use Rattle.paged_scans.specs.image_model.Entries.{Entry}
+use Rattle.paged_scans.specs.core_state.Openings.{Opening}
+use Rattle.paged_scans.specs.core_state.States.{State, Worker, start}
+use Rattle.paged_scans.specs.core_state.Events.{Event}
+use Rattle.paged_scans.specs.core_state.Local.{is_of}
+use Rattle.paged_scans.specs.core_state.Needs.{may}
+use Rattle.paged_scans.specs.core_state.Steps.{AllMet, follows, happens, put_back, run, state_after, step}
+use Rattle.paged_scans.proofs.core_state.Runs.{run_more}
+use Rattle.paged_scans.specs.core_calls.Deeds.{Aborted, Absent, Begun, Changed, Checkpointed, Committed, Deed, Deleted, Got, Met, Over, Paused, Refused, Synced, Unsaid, marks_for, marks_of, put_backs, reads_of}
+use Rattle.paged_scans.specs.core_calls.Fronts.{Done, front}
+use Rattle.paged_scans.specs.core_calls.Marks.{Mark, Began, Ended, back_in, mark, marks, met_in, onto}
+use Rattle.paged_scans.specs.core_calls.Refusals.{Limits}
+use Rattle.paged_scans.specs.core_calls.Runs.{Tells}
 
 -- ## Events
 

@@ -5,7 +5,7 @@ use Rattle.map_model.specs.declared.call.Answer.{Answer}
 use Rattle.map_model.specs.declared.call.Answer.TheVariants as answer
 use Rattle.map_model.specs.declared.call.Refusal.TheVariants as refusal
 use Rattle.group_commit.specs.declared.receipts.Receipt.{Receipt}
-use Rattle.rows_trait.specs.declared.view.View.{View}
+use Rattle.paged_scans.specs.rows_trait.declared.view.View.{View}
 use Rattle.buffered_engine.specs.Inside.Asks.{IsEndOf, IsEnding, is_commit_in}
 use Rattle.buffered_engine.specs.Receipts.{IsReceipt, flushed_in}
 use Rattle.buffered_engine.proofs.AskLemmas.{commit_flushed}

@@ -7,11 +7,11 @@ use Rattle.map_model.specs.declared.call.Answer.TheVariants as answer
 use Rattle.map_model.specs.declared.call.Call.{Call}
 use Rattle.map_model.specs.declared.call.Call.TheVariants as call
 use Rattle.map_model.specs.declared.call.Refusal.{Refusal}
-use Rattle.rows_trait.specs.core_state.Openings.{Opening}
-use Rattle.core_calls.specs.Deeds.{Deed, Met, Outcome, answered, asked}
-use Rattle.core_calls.specs.Fronts.{Done, outcomes}
-use Rattle.core_calls.specs.Steps.{behind_pair, hindered_in, met_last, one_pair, scan_from}
-use Rattle.engine_calls.specs.Clauses.{IsNewLine}
+use Rattle.paged_scans.specs.core_state.Openings.{Opening}
+use Rattle.paged_scans.specs.core_calls.Deeds.{Deed, Met, Outcome, answered, asked}
+use Rattle.paged_scans.specs.core_calls.Fronts.{Done, outcomes}
+use Rattle.paged_scans.specs.core_calls.Steps.{behind_pair, hindered_in, met_last, one_pair, scan_from}
+use Rattle.paged_scans.specs.engine_calls.Clauses.{IsNewLine}
 use Rattle.paged_scans.specs.Calls.{IsBehindPair, IsIn, StandsAt, step_answer, step_behind}
 use Rattle.paged_scans.specs.declared.scans.Scan.{Scan}
 use Rattle.paged_scans.specs.declared.scans.Step.{Step}

@@ -1,21 +1,21 @@
 -- What a view that is tied to a run has seen: the state of that run, and which aborts are half done.
 use Rattle.std.proofs.Common.{◌≡◌, ℕ, false, List, ◌++◌, append-nil, sym, ap, ◌∙◌}
 use Rattle.rfa_model.specs.Reaches.{least}
-use Rattle.rows_trait.specs.core_state.Openings.{Opening}
-use Rattle.rows_trait.specs.core_state.States.{State, flushed_by_all}
-use Rattle.rows_trait.specs.core_state.Events.{Event}
-use Rattle.rows_trait.specs.core_state.Steps.{state_after}
-use Rattle.core_calls.specs.Fronts.{Done, front}
-use Rattle.row_opening.specs.Openings.{EveryReached}
-use Rattle.rows_trait.specs.row_words.Moments.{events_of}
-use Rattle.rows_trait.specs.row_words.Openings.{opening}
-use Rattle.rows_trait.specs.declared.view.View.{View}
-use Rattle.rows_trait.specs.Views.{state}
-use Rattle.call_parts.specs.Memory.{Memory}
-use Rattle.engine_trait.specs.Calls.{is_half_done}
-use Rattle.engine_trait.specs.Limits.{limits}
-use Rattle.session_state.specs.Ties.{Ties}
-use Rattle.paged_desks.specs.Calls.{Tied}
+use Rattle.paged_scans.specs.core_state.Openings.{Opening}
+use Rattle.paged_scans.specs.core_state.States.{State, flushed_by_all}
+use Rattle.paged_scans.specs.core_state.Events.{Event}
+use Rattle.paged_scans.specs.core_state.Steps.{state_after}
+use Rattle.paged_scans.specs.core_calls.Fronts.{Done, front}
+use Rattle.paged_scans.specs.row_opening.Openings.{EveryReached}
+use Rattle.paged_scans.specs.row_words.Moments.{events_of}
+use Rattle.paged_scans.specs.row_words.Openings.{opening}
+use Rattle.paged_scans.specs.rows_trait.declared.view.View.{View}
+use Rattle.paged_scans.specs.rows_trait.Views.{state}
+use Rattle.paged_scans.specs.call_parts.Memory.{Memory}
+use Rattle.paged_scans.specs.engine_trait.Calls.{is_half_done}
+use Rattle.paged_scans.specs.engine_trait.Limits.{limits}
+use Rattle.paged_scans.specs.session_state.Ties.{Ties}
+use Rattle.paged_scans.specs.paged_desks.Calls.{Tied}
 use Rattle.buffered_engine.proofs.HalfMarks.{half_told, halves}
 
 module _ (g : Opening) (group : ℕ) (xs : List Done) (v : View) (m : Memory) (t : Tied g group xs v m) where

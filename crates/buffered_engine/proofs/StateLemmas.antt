@@ -6,13 +6,13 @@ use Rattle.map_model.specs.declared.call.Answer.TheVariants as answer
 use Rattle.map_model.specs.declared.call.Call.{Call}
 use Rattle.map_model.specs.declared.call.Call.TheVariants as call
 use Rattle.page_model.specs.Limits.{waiting_ends}
-use Rattle.core_calls.specs.Fronts.{Done}
-use Rattle.core_calls.specs.Steps.{is_conflict}
-use Rattle.disk_runs.specs.core_commit.Rises.{EveryRise}
-use Rattle.rows_trait.specs.core_state.Openings.{Opening}
+use Rattle.paged_scans.specs.core_calls.Fronts.{Done}
+use Rattle.paged_scans.specs.core_calls.Steps.{is_conflict}
+use Rattle.paged_scans.specs.core_commit.Rises.{EveryRise}
+use Rattle.paged_scans.specs.core_state.Openings.{Opening}
 use Rattle.lean_disk.specs.Story.{Story}
-use Rattle.row_opening.specs.Openings.{EveryReached}
-use Rattle.engine_trait.specs.Calls.{IsAsked}
+use Rattle.paged_scans.specs.row_opening.Openings.{EveryReached}
+use Rattle.paged_scans.specs.engine_trait.Calls.{IsAsked}
 use Rattle.engine_front.specs.Turns.{behind_answer, behind_last}
 use Rattle.engine_front.specs.declared.calls.Next.{Next}
 use Rattle.engine_front.specs.declared.calls.Next.TheVariants as following
@@ -20,12 +20,12 @@ use Rattle.engine_front.specs.declared.calls.Next.TheVariants.{Abort, Line}
 use Rattle.group_commit.specs.Laws.{EveryOutcome}
 use Rattle.group_commit.specs.Queues.{queue_of}
 use Rattle.group_commit.specs.declared.queue.End.{End}
-use Rattle.session_desks.specs.Desks.{desk_of}
-use Rattle.session_desks.specs.Parts.{Works, here, shape}
-use Rattle.session_desks.proofs.SeatLemmas.{turn_high, turn_low}
-use Rattle.paged_desks.specs.Calls.{CallDoes, OnLine}
-use Rattle.paged_desks.specs.Machines.{view_of}
-use Rattle.paged_desks.specs.declared.machine.PagedMachine.{PagedMachine}
+use Rattle.paged_scans.specs.session_desks.Desks.{desk_of}
+use Rattle.paged_scans.specs.session_desks.Parts.{Works, here, shape}
+use Rattle.paged_scans.proofs.session_desks.SeatLemmas.{turn_high, turn_low}
+use Rattle.paged_scans.specs.paged_desks.Calls.{CallDoes, OnLine}
+use Rattle.paged_scans.specs.paged_desks.Machines.{view_of}
+use Rattle.paged_scans.specs.paged_desks.declared.machine.PagedMachine.{PagedMachine}
 use Rattle.paged_scans.specs.Calls.{IsIn, StandsAt}
 use Rattle.paged_scans.specs.declared.scans.Scan.{Scan}
 use Rattle.buffered_engine.specs.Calls.{AbortsInRuns, Asked, AskedAbort, AskedScan, DoesInRuns, IsTo, ScansInRuns, TellsFewer}

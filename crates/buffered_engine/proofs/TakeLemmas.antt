@@ -4,14 +4,14 @@ use Rattle.std.proofs.lemmas.Bool.{cases_eq}
 use Rattle.std.proofs.lemmas.List.{get_or-take, length-drop, length-take-le}
 use Rattle.map_model.specs.Journals.{Name}
 use Rattle.rfa_model.specs.Reaches.{least}
-use Rattle.rows_trait.specs.core_state.Openings.{Opening}
-use Rattle.rows_trait.specs.core_state.States as core
-use Rattle.rows_trait.specs.core_state.Steps.{state_after}
-use Rattle.core_calls.specs.Durables.{due}
-use Rattle.core_calls.specs.Fronts.{Done, front}
-use Rattle.core_calls.specs.Refusals.{waiting}
-use Rattle.call_parts.specs.Memory.{Memory}
-use Rattle.engine_trait.specs.Calls.{is_half_done}
+use Rattle.paged_scans.specs.core_state.Openings.{Opening}
+use Rattle.paged_scans.specs.core_state.States as core
+use Rattle.paged_scans.specs.core_state.Steps.{state_after}
+use Rattle.paged_scans.specs.core_calls.Durables.{due}
+use Rattle.paged_scans.specs.core_calls.Fronts.{Done, front}
+use Rattle.paged_scans.specs.core_calls.Refusals.{waiting}
+use Rattle.paged_scans.specs.call_parts.Memory.{Memory}
+use Rattle.paged_scans.specs.engine_trait.Calls.{is_half_done}
 use Rattle.engine_front.specs.Turns.{IsNext, IsTaken, behind_durables, told_with}
 use Rattle.engine_front.specs.declared.calls.Next.{Next}
 use Rattle.engine_front.specs.declared.calls.Next.TheVariants.{Abort, Durables, Line, Scan}
@@ -22,13 +22,13 @@ use Rattle.group_commit.specs.Tracks.{AreFlushed}
 use Rattle.group_commit.specs.declared.queue.End.{End}
 use Rattle.group_commit.specs.declared.receipts.Receipt.{Receipt}
 use Rattle.group_commit.proofs.ListLemmas.{queue_set_other, queue_set_same}
-use Rattle.rows_trait.specs.declared.view.View.{View}
-use Rattle.session_desks.specs.Desks.{desk_of}
+use Rattle.paged_scans.specs.rows_trait.declared.view.View.{View}
+use Rattle.paged_scans.specs.session_desks.Desks.{desk_of}
 use Rattle.buffered_engine.specs.Inside.Asks.{AreNumbers, durable_of}
-use Rattle.paged_desks.specs.Calls.{Tied}
+use Rattle.paged_scans.specs.paged_desks.Calls.{Tied}
 use Rattle.paged_scans.specs.declared.scans.Scan as scans
 use Rattle.buffered_engine.specs.States.{GoesOnAt, HasRoom, HasRun, InRun, IsOfTurn, IsSettled, State, WhereDue, WhereScanning, memory_in}
-use Rattle.session_desks.specs.declared.desk.Desk.{Desk}
+use Rattle.paged_scans.specs.session_desks.declared.desk.Desk.{Desk}
 
 -- ## Queues get no longer
 

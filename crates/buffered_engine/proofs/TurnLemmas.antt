@@ -5,40 +5,40 @@ use Rattle.map_model.specs.declared.call.Answer.TheVariants as answer
 use Rattle.map_model.specs.declared.call.Call.{Call}
 use Rattle.map_model.specs.declared.call.Call.TheVariants as call
 use Rattle.map_model.specs.declared.call.Refusal.TheVariants as refusal
-use Rattle.rows_trait.specs.core_state.Openings.{Opening}
-use Rattle.rows_trait.specs.core_state.Steps.{state_after}
-use Rattle.core_calls.specs.Deeds.{asked}
-use Rattle.core_calls.specs.Fronts.{Done, front, outcomes}
-use Rattle.core_calls.specs.Steps.{call_behind}
-use Rattle.disk_runs.specs.Masters.{IsNoEarlier}
-use Rattle.disk_runs.specs.Stands.{Known}
-use Rattle.disk_runs.specs.disk_slots.declared.master.Master.{Master}
+use Rattle.paged_scans.specs.core_state.Openings.{Opening}
+use Rattle.paged_scans.specs.core_state.Steps.{state_after}
+use Rattle.paged_scans.specs.core_calls.Deeds.{asked}
+use Rattle.paged_scans.specs.core_calls.Fronts.{Done, front, outcomes}
+use Rattle.paged_scans.specs.core_calls.Steps.{call_behind}
+use Rattle.paged_scans.specs.disk_runs.Masters.{IsNoEarlier}
+use Rattle.paged_scans.specs.disk_runs.Stands.{Known}
+use Rattle.paged_scans.specs.disk_slots.declared.master.Master.{Master}
 use Rattle.lean_disk.specs.Faults.{HasCause}
 use Rattle.lean_disk.specs.Story.{Story}
-use Rattle.page_calls.specs.declared.slots.Slot.{Slot}
-use Rattle.page_provider.specs.Providers.{Provider}
-use Rattle.call_parts.specs.Deeds.{Answers, Does, Fails, Happens}
-use Rattle.call_parts.specs.Memory.{IsOf, IsSame, Memory}
-use Rattle.engine_trait.specs.Calls.{IsAsked, is_half_done}
-use Rattle.engine_trait.specs.Logs.{Logs}
-use Rattle.engine_trait.specs.Refusals.{IsRefusedFor, refusal_in}
+use Rattle.paged_scans.specs.page_calls.declared.slots.Slot.{Slot}
+use Rattle.paged_scans.specs.page_provider.Providers.{Provider}
+use Rattle.paged_scans.specs.call_parts.Deeds.{Answers, Does, Fails, Happens}
+use Rattle.paged_scans.specs.call_parts.Memory.{IsOf, IsSame, Memory}
+use Rattle.paged_scans.specs.engine_trait.Calls.{IsAsked, is_half_done}
+use Rattle.paged_scans.specs.engine_trait.Logs.{Logs}
+use Rattle.paged_scans.specs.engine_trait.Refusals.{IsRefusedFor, refusal_in}
 use Rattle.engine_front.specs.Stops.{StandsNot}
-use Rattle.rows_trait.specs.row_words.Openings.{opening}
-use Rattle.rows_trait.specs.declared.view.View.{View}
-use Rattle.rows_trait.specs.Views.{state}
-use Rattle.disk_runs.specs.worker_log.Logs.{Log}
-use Rattle.session_desks.specs.Machines.{IsLogged}
-use Rattle.session_desks.proofs.SeatLemmas.{holds_of}
-use Rattle.session_state.specs.Holds.{Holds}
-use Rattle.session_desks.specs.Parts.{IsSound, Works, here, shape}
-use Rattle.session_desks.specs.Syncs.{HasOpening}
-use Rattle.session_state.specs.declared.session.Session.{Session}
-use Rattle.paged_desks.specs.Calls.{AreHalf, CallDoes, DoesTied, OnLine, Tied}
-use Rattle.paged_desks.specs.Machines.{IsNobodyInside, IsReady, memory, view_of}
-use Rattle.paged_desks.specs.declared.machine.PagedMachine.{PagedMachine}
-use Rattle.paged_rows.specs.Paged.{IsFedIfFaithful, paged}
-use Rattle.paged_desks.proofs.Moments.{IsFlushed, flushed_none}
-use Rattle.paged_desks.proofs.Syncing.{keeps_on}
+use Rattle.paged_scans.specs.row_words.Openings.{opening}
+use Rattle.paged_scans.specs.rows_trait.declared.view.View.{View}
+use Rattle.paged_scans.specs.rows_trait.Views.{state}
+use Rattle.paged_scans.specs.worker_log.Logs.{Log}
+use Rattle.paged_scans.specs.session_desks.Machines.{IsLogged}
+use Rattle.paged_scans.proofs.session_desks.SeatLemmas.{holds_of}
+use Rattle.paged_scans.specs.session_state.Holds.{Holds}
+use Rattle.paged_scans.specs.session_desks.Parts.{IsSound, Works, here, shape}
+use Rattle.paged_scans.specs.session_desks.Syncs.{HasOpening}
+use Rattle.paged_scans.specs.session_state.declared.session.Session.{Session}
+use Rattle.paged_scans.specs.paged_desks.Calls.{AreHalf, CallDoes, DoesTied, OnLine, Tied}
+use Rattle.paged_scans.specs.paged_desks.Machines.{IsNobodyInside, IsReady, memory, view_of}
+use Rattle.paged_scans.specs.paged_desks.declared.machine.PagedMachine.{PagedMachine}
+use Rattle.paged_scans.specs.paged_rows.Paged.{IsFedIfFaithful, paged}
+use Rattle.paged_scans.proofs.paged_desks.Moments.{IsFlushed, flushed_none}
+use Rattle.paged_scans.proofs.paged_desks.Syncing.{keeps_on}
 use Rattle.buffered_engine.specs.Calls.{MayBe}
 use Rattle.buffered_engine.specs.Inside.Asks.{IsEndOf, OnAsked}
 use Rattle.buffered_engine.specs.Inside.Parts.{IsTurned, MachineWent}

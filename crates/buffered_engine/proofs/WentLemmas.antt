@@ -8,24 +8,24 @@ use Rattle.map_model.specs.declared.call.Call.{Call}
 use Rattle.map_model.specs.declared.call.Refusal.{Refusal}
 use Rattle.map_model.specs.declared.call.Refusal.TheVariants as refusal
 use Rattle.rfa_model.specs.Stamps.{need_of}
-use Rattle.rows_trait.specs.core_state.Openings.{Opening}
-use Rattle.core_calls.specs.Fronts.{Done}
+use Rattle.paged_scans.specs.core_state.Openings.{Opening}
+use Rattle.paged_scans.specs.core_calls.Fronts.{Done}
 use Rattle.lean_disk.specs.Faults.{HasCause}
 use Rattle.lean_disk.specs.Story.{Story}
-use Rattle.engine_trait.specs.Calls.{MayCome}
+use Rattle.paged_scans.specs.engine_trait.Calls.{MayCome}
 use Rattle.group_commit.specs.declared.receipts.Receipt.{Receipt}
-use Rattle.row_ends.specs.Ends.{gives}
-use Rattle.row_ends.specs.Receipts.{IsEnded}
-use Rattle.row_ends.specs.declared.ending.Ended.{Ended}
-use Rattle.rows_trait.specs.row_words.declared.event.Event.{Event}
-use Rattle.rows_trait.specs.row_words.declared.event.Event.TheVariants.{End}
-use Rattle.rows_trait.specs.declared.view.View.{View}
-use Rattle.session_desks.specs.Parts.{AreAsMany, SeatFits, Works, here, shape}
-use Rattle.session_desks.proofs.SeatLemmas.{holds_of}
-use Rattle.paged_desks.specs.Calls.{CallDoes, EndsWork, ends_work, works_behind}
-use Rattle.paged_desks.specs.Machines.{IsReady, view_of}
-use Rattle.paged_desks.specs.declared.machine.PagedMachine.{PagedMachine}
-use Rattle.paged_calls.specs.Calls.{del_answer, get_answer, put_answer}
+use Rattle.paged_scans.specs.row_ends.Ends.{gives}
+use Rattle.paged_scans.specs.row_ends.Receipts.{IsEnded}
+use Rattle.paged_scans.specs.row_ends.declared.ending.Ended.{Ended}
+use Rattle.paged_scans.specs.row_words.declared.event.Event.{Event}
+use Rattle.paged_scans.specs.row_words.declared.event.Event.TheVariants.{End}
+use Rattle.paged_scans.specs.rows_trait.declared.view.View.{View}
+use Rattle.paged_scans.specs.session_desks.Parts.{AreAsMany, SeatFits, Works, here, shape}
+use Rattle.paged_scans.proofs.session_desks.SeatLemmas.{holds_of}
+use Rattle.paged_scans.specs.paged_desks.Calls.{CallDoes, EndsWork, ends_work, works_behind}
+use Rattle.paged_scans.specs.paged_desks.Machines.{IsReady, view_of}
+use Rattle.paged_scans.specs.paged_desks.declared.machine.PagedMachine.{PagedMachine}
+use Rattle.paged_scans.specs.paged_calls.Calls.{del_answer, get_answer, put_answer}
 use Rattle.paged_ends.specs.Ends.{begin_answer, commit_answer, sync_answer}
 use Rattle.paged_scans.specs.Calls.{step_answer}
 use Rattle.paged_scans.specs.declared.scans.Step.{Step}

@@ -7,14 +7,14 @@ use Rattle.map_model.specs.declared.call.Call.{Call}
 use Rattle.map_model.specs.declared.call.Call.TheVariants as call
 use Rattle.map_model.specs.declared.call.Refusal.{Refusal}
 use Rattle.map_model.specs.declared.call.Refusal.TheVariants as refusal
-use Rattle.rows_trait.specs.core_state.Openings.{Opening}
-use Rattle.core_calls.specs.Deeds.{asked}
-use Rattle.core_calls.specs.Fronts.{Done}
-use Rattle.core_calls.specs.Steps.{hindered_in}
+use Rattle.paged_scans.specs.core_state.Openings.{Opening}
+use Rattle.paged_scans.specs.core_calls.Deeds.{asked}
+use Rattle.paged_scans.specs.core_calls.Fronts.{Done}
+use Rattle.paged_scans.specs.core_calls.Steps.{hindered_in}
 use Rattle.lean_disk.specs.Faults.{HasCause}
 use Rattle.lean_disk.specs.Story.{Story}
-use Rattle.engine_trait.specs.Calls.{HasCome}
-use Rattle.call_parts.specs.Deeds.{Does, Fails}
+use Rattle.paged_scans.specs.engine_trait.Calls.{HasCome}
+use Rattle.paged_scans.specs.call_parts.Deeds.{Does, Fails}
 use Rattle.engine_front.specs.Stops.{StandsNot, StopsBy}
 use Rattle.engine_front.specs.Turns.{IsTaken, behind_answer, behind_durables, told_with}
 use Rattle.engine_front.specs.declared.calls.Durable.{Durable}
@@ -23,7 +23,7 @@ use Rattle.engine_front.specs.declared.calls.Unanswered.{Unanswered}
 use Rattle.engine_front.specs.declared.calls.Unanswered.TheVariants as unanswered
 use Rattle.group_commit.specs.Queues.{queued}
 use Rattle.group_commit.specs.declared.receipts.Receipt.{Receipt}
-use Rattle.paged_desks.specs.Calls.{Comes, ends_work}
+use Rattle.paged_scans.specs.paged_desks.Calls.{Comes, ends_work}
 use Rattle.buffered_engine.specs.States.{InRun, State, memory_in, pairs_left}
 use Rattle.buffered_engine.specs.declared.calls.Aborted.{Aborted}
 use Rattle.buffered_engine.specs.declared.calls.Began.{Began}

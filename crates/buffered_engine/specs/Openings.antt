@@ -1,8 +1,8 @@
 -- What the opening of a disk gives to an engine's run.
 use Rattle.std.specs.Prelude.{◌≡◌, ◌≤◌, ◌<◌, ◌%◌, ℕ, true, [], length}
-use Rattle.rows_trait.specs.core_state.Openings.{Opening}
-use Rattle.disk_runs.specs.disk_image.Shown.{IsCleanDisk}
-use Rattle.disk_runs.specs.disk_slots.declared.master.Master.{Master}
+use Rattle.paged_scans.specs.core_state.Openings.{Opening}
+use Rattle.paged_scans.specs.disk_image.Shown.{IsCleanDisk}
+use Rattle.paged_scans.specs.disk_slots.declared.master.Master.{Master}
 use Rattle.lean_disk.specs.Story.{Story, areas_of}
 use Rattle.recovery.specs.Telling.{TellsAll}
 use Rattle.recovery.specs.declared.opening.Recovered.{Recovered}

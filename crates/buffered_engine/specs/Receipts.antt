@@ -1,10 +1,10 @@
 -- Receipts of ends, and when a commit is durable.
 use Rattle.std.specs.Prelude.{◌≡◌, ◌<◌, ◌≤◌, ℕ, List, length}
 use Rattle.rfa_model.specs.Stamps.{need_of}
-use Rattle.rows_trait.specs.core_state.States.{flushed_by_all}
-use Rattle.rows_trait.specs.row_words.Openings.{opening}
-use Rattle.rows_trait.specs.Views.{state}
-use Rattle.rows_trait.specs.declared.view.View.{View}
+use Rattle.paged_scans.specs.core_state.States.{flushed_by_all}
+use Rattle.paged_scans.specs.row_words.Openings.{opening}
+use Rattle.paged_scans.specs.rows_trait.Views.{state}
+use Rattle.paged_scans.specs.rows_trait.declared.view.View.{View}
 use Rattle.group_commit.specs.Ripeness.{flushed_of, ripeness_of}
 use Rattle.group_commit.specs.declared.receipts.Receipt.{Receipt}
 use Rattle.group_commit.specs.declared.receipts.Ripeness.{Ripeness}

@@ -3,25 +3,25 @@ use Rattle.std.specs.Prelude.{◌≡◌, ◌⊎◌, ◌≤◌, ◌<◌, ◌-◌,
 use Rattle.page_model.specs.Limits.{waiting_ends}
 use Rattle.map_model.specs.Journals.{Name}
 use Rattle.map_model.specs.declared.call.Call.TheVariants as call
-use Rattle.rows_trait.specs.core_state.Openings.{Opening}
-use Rattle.rows_trait.specs.core_state.Steps.{state_after}
-use Rattle.core_calls.specs.Durables.{due}
-use Rattle.core_calls.specs.Fronts.{Done, front, outcomes}
-use Rattle.core_calls.specs.Refusals.{waiting}
-use Rattle.disk_runs.specs.disk_slots.declared.master.Master.{Master}
-use Rattle.page_calls.specs.declared.slots.Slot.{Slot}
-use Rattle.engine_trait.specs.Calls.{is_half_done}
-use Rattle.call_parts.specs.Memory.{Memory}
+use Rattle.paged_scans.specs.core_state.Openings.{Opening}
+use Rattle.paged_scans.specs.core_state.Steps.{state_after}
+use Rattle.paged_scans.specs.core_calls.Durables.{due}
+use Rattle.paged_scans.specs.core_calls.Fronts.{Done, front, outcomes}
+use Rattle.paged_scans.specs.core_calls.Refusals.{waiting}
+use Rattle.paged_scans.specs.disk_slots.declared.master.Master.{Master}
+use Rattle.paged_scans.specs.page_calls.declared.slots.Slot.{Slot}
+use Rattle.paged_scans.specs.engine_trait.Calls.{is_half_done}
+use Rattle.paged_scans.specs.call_parts.Memory.{Memory}
 use Rattle.engine_front.specs.Turns.{IsNext}
 use Rattle.engine_front.specs.declared.calls.Next.{Next}
 use Rattle.engine_front.specs.declared.calls.Next.TheVariants.{Abort, Durables, Line, Scan}
 use Rattle.group_commit.specs.Queues.{queue_of}
 use Rattle.group_commit.specs.Tracks.{Tracks}
 use Rattle.group_commit.specs.declared.queue.End.{End}
-use Rattle.rows_trait.specs.declared.view.View.{View}
-use Rattle.session_desks.specs.Desks.{desk_of, log_of}
-use Rattle.session_desks.specs.declared.desk.Desk.{Desk}
-use Rattle.paged_desks.specs.Calls.{Tied}
+use Rattle.paged_scans.specs.rows_trait.declared.view.View.{View}
+use Rattle.paged_scans.specs.session_desks.Desks.{desk_of, log_of}
+use Rattle.paged_scans.specs.session_desks.declared.desk.Desk.{Desk}
+use Rattle.paged_scans.specs.paged_desks.Calls.{Tied}
 use Rattle.paged_scans.specs.Calls.{IsBehindPair, StandsAt}
 use Rattle.paged_scans.specs.declared.scans.Scan as scans
 use Rattle.paged_scans.specs.declared.scans.TheConstants.{PAIRS}

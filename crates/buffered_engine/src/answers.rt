@@ -1,7 +1,7 @@
 // What a line is answered.
 ghost use Rattle.std.specs.Prelude.{◌≡◌, IfOk, true};
 ghost use Rattle.map_model.specs.Pairings.{is_last};
-ghost use Rattle.engine_trait.specs.Calls.{IsAsked};
+ghost use Rattle.paged_scans.specs.engine_trait.Calls.{IsAsked};
 ghost use Rattle.engine_front.specs.declared.calls.Next.{Next};
 ghost use Rattle.buffered_engine.specs.Calls.{DurableDoes, HinderedDoes, LineDoes, ScanDoes, TellsFewer, told};
 
@@ -10,7 +10,7 @@ use engine_front::calls::{Calls, Durable, Unanswered};
 use lean_disk::MemDisk;
 use lean_edge::{Put, Sink};
 use map_model::{Answer, Call, Refusal};
-use session_state::Stages;
+use paged_scans::Stages;
 
 // The answer, or why there is none.
 fn told(answer: Answer) -> Result<Answer, Unanswered>

@@ -8,10 +8,10 @@ ghost use Rattle.page_model.specs.Limits.{waiting_ends};
 ghost use Rattle.group_commit.specs.Queues.{queue_of};
 ghost use Rattle.group_commit.specs.declared.queue.TheConstants.{ROOM};
 ghost use Rattle.lean_disk.specs.Faults.{HasCause};
-ghost use Rattle.engine_trait.specs.Calls.{IsAsked};
+ghost use Rattle.paged_scans.specs.engine_trait.Calls.{IsAsked};
 ghost use Rattle.engine_front.specs.declared.calls.Next.{Next};
-ghost use Rattle.session_desks.specs.Parts.{Works};
-ghost use Rattle.paged_desks.specs.Machines.{IsReady};
+ghost use Rattle.paged_scans.specs.session_desks.Parts.{Works};
+ghost use Rattle.paged_scans.specs.paged_desks.Machines.{IsReady};
 ghost use Rattle.paged_scans.specs.Calls.{IsIn};
 ghost use Rattle.buffered_engine.specs.Calls.{Asked, AskedAbort, AskedScan, IsStep, IsTo, MayBe, TellsFewer};
 ghost use Rattle.buffered_engine.specs.Inside.Asks.{IsEndOf, OnAsked, next_behind, put_ends};
@@ -22,14 +22,11 @@ ghost use Rattle.buffered_engine.specs.Inside.Scans.{scan_behind, scan_of};
 use crate::ends::Response;
 use crate::engine::Engine;
 use crate::machine::{abort, begin, row_call, scan_step, sync, turn_to};
-use disk_runs::core_commit;
 use engine_front::calls::Next;
 use group_commit::{LOGS, Receipt, Unripe};
 use map_model::{Answer, Call, Refusal};
 use page_model::limits::WAITING_ENDS;
-use paged_desks::PagedMachine;
-use paged_scans::Scan;
-use session_state::Stages;
+use paged_scans::{PagedMachine, Scan, Stages};
 
 // So many ends of the session wait that its begin makes a sync first.
 fn is_long(unripe: &Unripe, session: u32, call: &Call) -> bool
@@ -129,9 +126,9 @@ impl<D: Stages> Engine<D> {
         if !self.machine.machine.work.session.works {
             return Response::only(Answer::Refused(Refusal::Broken));
         }
-        row_opening::every_reached();
+        paged_scans::every_reached();
         group_commit::every_outcome();
-        core_commit::every_rise();
+        paged_scans::every_rise();
         let is_long = is_long(&self.unripe, session, call);
         let response = ask(&mut self.machine, &mut self.scan, session, call, is_long);
         put_end(&mut self.unripe, response);
@@ -156,9 +153,9 @@ impl<D: Stages> Engine<D> {
         if !self.machine.machine.work.session.works {
             return Answer::Refused(Refusal::Broken);
         }
-        row_opening::every_reached();
+        paged_scans::every_reached();
         group_commit::every_outcome();
-        core_commit::every_rise();
+        paged_scans::every_rise();
         let response = abort(&mut self.machine);
         put_end(&mut self.unripe, response);
         end_calm(&mut self.calm, &response.receipt);
@@ -182,9 +179,9 @@ impl<D: Stages> Engine<D> {
         if !self.machine.machine.work.session.works {
             return Answer::Refused(Refusal::Broken);
         }
-        row_opening::every_reached();
+        paged_scans::every_reached();
         group_commit::every_outcome();
-        core_commit::every_rise();
+        paged_scans::every_rise();
         let response = scan_step(&mut self.machine, &mut self.scan);
         self.next = next_behind(
             self.machine.machine.work.session.works,

@@ -3,7 +3,7 @@ ghost use Rattle.std.specs.Prelude.{◌≡◌, ◌↔◌, ◌<◌, Err, IfOk, fa
 ghost use Rattle.map_model.specs.declared.call.Call.TheVariants as calls;
 ghost use Rattle.map_model.specs.declared.call.Refusal.{Refusal};
 ghost use Rattle.lean_disk.specs.Faults.{HasCause};
-ghost use Rattle.engine_trait.specs.Calls.{IsAsked};
+ghost use Rattle.paged_scans.specs.engine_trait.Calls.{IsAsked};
 ghost use Rattle.engine_front.specs.declared.calls.Next.{Next};
 ghost use Rattle.paged_scans.specs.Calls.{step_answer};
 ghost use Rattle.buffered_engine.specs.Calls.{Asked, AskedScan, IsStep, TellsFewer, aborted_answer, began_answer, receipt_answer, synced_answer, value_answer, was_answer};
@@ -12,8 +12,7 @@ ghost use Rattle.buffered_engine.specs.Receipts.{IsReceipt, flushed_in};
 use crate::engine::Engine;
 use group_commit::Receipt;
 use map_model::{Answer, Call, Refusal};
-use paged_scans::Step;
-use session_state::Stages;
+use paged_scans::{Stages, Step};
 
 /// A transaction has begun, with this number.
 #[derive(Clone, Copy, Debug, PartialEq, Eq)]

@@ -2,15 +2,15 @@
 ghost use Rattle.std.specs.Prelude.{◌≡◌, ◌↔◌, ◌≤◌, ◌<◌, IsErr, IfOk, List, Some, true, false};
 ghost use Rattle.map_model.specs.Journals.{Name};
 ghost use Rattle.page_model.specs.Limits.{most_sessions};
-ghost use Rattle.rows_trait.specs.core_state.Openings.{Opening};
-ghost use Rattle.core_calls.specs.Fronts.{Done};
-ghost use Rattle.engine_trait.specs.Calls.{is_half_done};
+ghost use Rattle.paged_scans.specs.core_state.Openings.{Opening};
+ghost use Rattle.paged_scans.specs.core_calls.Fronts.{Done};
+ghost use Rattle.paged_scans.specs.engine_trait.Calls.{is_half_done};
 ghost use Rattle.engine_front.specs.Turns.{behind_durables};
 ghost use Rattle.buffered_engine.specs.Calls.{DurableDoes};
-ghost use Rattle.session_desks.specs.Desks.{desk_of, place_of};
+ghost use Rattle.paged_scans.specs.session_desks.Desks.{desk_of, place_of};
 ghost use Rattle.buffered_engine.specs.Inside.Asks.{AreNumbers};
 ghost use Rattle.buffered_engine.specs.Inside.Calm.{AreStill, IsStill};
-ghost use Rattle.session_desks.specs.Parts.{IsSeated, here, logs};
+ghost use Rattle.paged_scans.specs.session_desks.Parts.{IsSeated, here, logs};
 ghost use Rattle.buffered_engine.specs.Receipts.{IsRipeness};
 ghost use Rattle.buffered_engine.specs.States.{InRun, memory_in};
 
@@ -18,7 +18,7 @@ use crate::engine::Engine;
 use engine_front::calls::{Durable, Next};
 use group_commit::{LOGS, Receipt, Ripeness, ripe};
 use lean_disk::Disk;
-use session_desks::Machine;
+use paged_scans::Machine;
 
 /// An earlier call met a fault of the disk. Nothing is answered any more.
 #[derive(Clone, Copy, Debug, PartialEq, Eq)]

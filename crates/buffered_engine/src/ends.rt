@@ -1,6 +1,6 @@
 // What a call came to, and the end that it may be.
 ghost use Rattle.std.specs.Prelude.{◌≡◌, None};
-ghost use Rattle.paged_calls.specs.Calls.{del_answer, get_answer, put_answer};
+ghost use Rattle.paged_scans.specs.paged_calls.Calls.{del_answer, get_answer, put_answer};
 ghost use Rattle.paged_ends.specs.Ends.{begin_answer, commit_answer, sync_answer};
 ghost use Rattle.paged_aborts.specs.Aborts.{abort_answer};
 ghost use Rattle.paged_scans.specs.Calls.{step_answer};
@@ -8,8 +8,7 @@ ghost use Rattle.buffered_engine.specs.Inside.Asks.{receipt_in};
 
 use group_commit::Receipt;
 use map_model::{Answer, Refusal};
-use paged_scans::Step;
-use row_ends::Ended;
+use paged_scans::{Ended, Step};
 
 /// What a call came to: its answer, and the receipt of the end, if it ended a transaction.
 #[derive(Clone, Copy)]

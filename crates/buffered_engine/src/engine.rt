@@ -10,12 +10,9 @@ ghost use Rattle.buffered_engine.specs.Openings.{HasOpened};
 use engine_front::calls::Next;
 use group_commit::{LOGS, Unripe};
 use lean_disk::Disk;
-use paged_desks::PagedMachine;
 use paged_engine::{Size, Unopened};
-use paged_scans::Scan;
+use paged_scans::{Machine, PagedMachine, Scan, Work};
 use recovery::Unrecovered;
-use session_desks::Machine;
-use session_state::Work;
 use std::alloc::Global;
 use std::marker::Model;
 

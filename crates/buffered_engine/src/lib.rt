@@ -17,6 +17,16 @@ pub use engine::{Engine, Opened};
 pub use engine_front::calls::{Durable, Next, Unanswered};
 pub use group_commit::{Receipt, Ripeness};
 pub use paged_engine::{Size, Unopened};
-pub use paged_scans::Step;
-pub use session_desks::Desk;
-pub use session_state::{Stages, stage_end};
+pub use paged_scans::{Desk, Stages, Step, stage_end};
+
+// Passed on to the crates above.
+pub use engine_front::calls::Calls as EngineFrontCalls;
+pub use lean_edge::{MemSink, MemSource, Put, Sink, Source, StdSink, StdSource};
+pub use paged_scans::{
+    Body, DiskFault, Heads, Master, MasterStoreDiskFault, Node, PageRef, Record, Staging, Unread,
+    WorkerLog, block_bytes, choose, every_agreement, every_block_in, every_kept, every_line_count,
+    every_master_in, every_met, every_prefix, every_printed, every_rise, every_run_crash,
+    every_sealed, every_shown, every_told, every_undone, every_version, fetch, master_bytes,
+    page_bytes, save, spare, stage_end as session_state_stage_end, write_next,
+};
+pub use recovery::{Recovered, Unrecovered, every_own, recover};

@@ -2,9 +2,9 @@
 ghost use Rattle.std.specs.Prelude.{◌≡◌, ◌<◌, ◌≤◌, None, true};
 ghost use Rattle.map_model.specs.declared.call.Call.{Call};
 ghost use Rattle.map_model.specs.declared.call.Call.TheVariants as call;
-ghost use Rattle.session_desks.specs.Parts.{Works};
-ghost use Rattle.paged_desks.specs.Calls.{CallDoes, OnLine};
-ghost use Rattle.paged_desks.specs.Machines.{IsReady};
+ghost use Rattle.paged_scans.specs.session_desks.Parts.{Works};
+ghost use Rattle.paged_scans.specs.paged_desks.Calls.{CallDoes, OnLine};
+ghost use Rattle.paged_scans.specs.paged_desks.Machines.{IsReady};
 ghost use Rattle.paged_ends.specs.Ends.{OnBegin};
 ghost use Rattle.paged_scans.specs.Calls.{IsIn, StandsAt};
 ghost use Rattle.buffered_engine.specs.Inside.Asks.{IsDue, IsRowCall};
@@ -13,9 +13,7 @@ ghost use Rattle.buffered_engine.specs.Inside.Parts.{IsTurned, MachineWent};
 
 use crate::ends::Response;
 use map_model::Call;
-use paged_desks::PagedMachine;
-use paged_scans::{Scan, scan_on};
-use session_state::Stages;
+use paged_scans::{PagedMachine, Scan, Stages, scan_on};
 
 /// The turn goes to this session.
 #[inline(always)]
@@ -54,9 +52,9 @@ pub(crate) fn row_call<D: Stages>(machine: &mut PagedMachine<D>, call: &Call) ->
 {
     let own = machine.machine.work.session.own;
     match *call {
-        Call::Get { key } => Response::value(paged_calls::get(machine, key)),
-        Call::Put { key, value } => Response::was(paged_calls::put(machine, key, value)),
-        Call::Del { key } => Response::was(paged_calls::del(machine, key)),
+        Call::Get { key } => Response::value(paged_scans::get(machine, key)),
+        Call::Put { key, value } => Response::was(paged_scans::put(machine, key, value)),
+        Call::Del { key } => Response::was(paged_scans::del(machine, key)),
         _ => Response::committed(own, paged_ends::commit(machine)),
     }
 }

@@ -6,7 +6,7 @@ use Rattle.lean_disk.proofs.MomentLemmas.{weaker}
 use Rattle.lean_disk.specs.Area.{Area, Leaves}
 use Rattle.lean_disk.specs.Moments.{AsAt, CrashIn, Framed, LeavesOnly, OnlyReads}
 use Rattle.lean_disk.specs.Story.{Crash, Story}
-use Rattle.log_calls.specs.Calls.{Anything}
+use Rattle.session_state.specs.log_calls.Calls.{Anything}
 use Rattle.call_parts.specs.Areas.{Apart, Around, Beside, IsAside}
 use Rattle.call_parts.specs.Laws.{EveryArea}
 

@@ -1,7 +1,7 @@
 -- A lock and a read, joined.
 use Rattle.std.proofs.Common.{refl, [], ◌∷◌}
 use Rattle.lean_disk.specs.Story.{Story}
-use Rattle.rows_trait.specs.row_words.declared.event.Event.TheVariants.{Lock, Read}
+use Rattle.session_state.specs.row_words.declared.event.Event.TheVariants.{Lock, Read}
 use Rattle.call_parts.specs.ByHand.{Worked}
 use Rattle.call_parts.specs.Laws.{EveryJoin, EveryStep}
 

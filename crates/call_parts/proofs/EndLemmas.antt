@@ -5,30 +5,30 @@ use Rattle.map_model.specs.Lists.{any}
 use Rattle.map_model.specs.declared.call.Answer.{Answer}
 use Rattle.map_model.specs.declared.call.Call.{Call}
 use Rattle.map_model.specs.declared.call.Call.TheVariants as call
-use Rattle.rows_trait.specs.core_state.Openings.{Opening}
-use Rattle.rows_trait.specs.core_state.Events as happening
-use Rattle.rows_trait.specs.core_state.Local.{is_sync}
-use Rattle.rows_trait.specs.core_state.Steps.{state_after}
-use Rattle.core_calls.specs.Deeds.{answered, asked}
-use Rattle.core_calls.specs.Fronts.{Done, front, outcomes}
-use Rattle.core_calls.specs.Runs.{Tells}
-use Rattle.core_calls.specs.Steps.{call_behind}
-use Rattle.disk_runs.specs.Masters.{IsNoEarlier}
-use Rattle.disk_runs.specs.Moments.{LeavesSome}
-use Rattle.disk_runs.specs.Stands.{Known, Stands}
-use Rattle.disk_runs.proofs.MomentLemmas.{both, some_laws}
+use Rattle.session_state.specs.core_state.Openings.{Opening}
+use Rattle.session_state.specs.core_state.Events as happening
+use Rattle.session_state.specs.core_state.Local.{is_sync}
+use Rattle.session_state.specs.core_state.Steps.{state_after}
+use Rattle.session_state.specs.core_calls.Deeds.{answered, asked}
+use Rattle.session_state.specs.core_calls.Fronts.{Done, front, outcomes}
+use Rattle.session_state.specs.core_calls.Runs.{Tells}
+use Rattle.session_state.specs.core_calls.Steps.{call_behind}
+use Rattle.session_state.specs.disk_runs.Masters.{IsNoEarlier}
+use Rattle.session_state.specs.disk_runs.Moments.{LeavesSome}
+use Rattle.session_state.specs.disk_runs.Stands.{Known, Stands}
+use Rattle.session_state.proofs.disk_runs.MomentLemmas.{both, some_laws}
 use Rattle.lean_disk.proofs.MomentLemmas.{weaker}
 use Rattle.lean_disk.specs.Moments.{LeavesOnly}
 use Rattle.lean_disk.specs.Story.{Crash, Story}
-use Rattle.run_crashes.specs.Lines.{CallLeaves}
-use Rattle.rows_trait.specs.row_words.declared.event.Event.{Event}
-use Rattle.rows_trait.specs.row_words.Moments.{events_of}
-use Rattle.rows_trait.specs.declared.view.View.{View}
-use Rattle.engine_calls.specs.Clauses.{Between}
-use Rattle.engine_calls.specs.Parts.{Passes}
-use Rattle.engine_trait.specs.Calls.{is_half_done}
-use Rattle.engine_trait.specs.Limits.{limits}
-use Rattle.engine_trait.specs.Logs.{Logs}
+use Rattle.session_state.specs.run_crashes.Lines.{CallLeaves}
+use Rattle.session_state.specs.row_words.declared.event.Event.{Event}
+use Rattle.session_state.specs.row_words.Moments.{events_of}
+use Rattle.session_state.specs.rows_trait.declared.view.View.{View}
+use Rattle.session_state.specs.engine_calls.Clauses.{Between}
+use Rattle.session_state.specs.engine_calls.Parts.{Passes}
+use Rattle.session_state.specs.engine_trait.Calls.{is_half_done}
+use Rattle.session_state.specs.engine_trait.Limits.{limits}
+use Rattle.session_state.specs.engine_trait.Logs.{Logs}
 use Rattle.session_state.specs.Ties.{Behind, Ties}
 use Rattle.call_parts.specs.Areas.{Around, Beside, is_save}
 use Rattle.call_parts.specs.Deeds.{Answers, Does, Fails, Keeps, Stops}

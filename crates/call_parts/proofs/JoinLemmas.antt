@@ -1,24 +1,24 @@
 -- A part of a call behind a part is one.
 use Rattle.std.proofs.Common.{◌≡◌, ◌++◌, ◌||◌, ℕ, Bool, false, List, sym, ap, ◌∙◌, subst, append_assoc}
 use Rattle.map_model.specs.Lists.{any}
-use Rattle.rows_trait.specs.core_state.Openings.{Opening}
-use Rattle.rows_trait.specs.core_state.Events as happening
-use Rattle.rows_trait.specs.core_state.Local.{is_sync}
-use Rattle.rows_trait.specs.core_state.States.{State}
-use Rattle.rows_trait.specs.core_state.Steps as core
-use Rattle.rows_trait.specs.core_state.Steps.{AllMet}
-use Rattle.core_calls.specs.Fronts.{Done, front}
-use Rattle.disk_runs.specs.Masters.{IsNoEarlier}
-use Rattle.disk_runs.specs.Stands.{Known, Stands}
-use Rattle.disk_runs.proofs.LineLemmas.{further}
+use Rattle.session_state.specs.core_state.Openings.{Opening}
+use Rattle.session_state.specs.core_state.Events as happening
+use Rattle.session_state.specs.core_state.Local.{is_sync}
+use Rattle.session_state.specs.core_state.States.{State}
+use Rattle.session_state.specs.core_state.Steps as core
+use Rattle.session_state.specs.core_state.Steps.{AllMet}
+use Rattle.session_state.specs.core_calls.Fronts.{Done, front}
+use Rattle.session_state.specs.disk_runs.Masters.{IsNoEarlier}
+use Rattle.session_state.specs.disk_runs.Stands.{Known, Stands}
+use Rattle.session_state.proofs.disk_runs.LineLemmas.{further}
 use Rattle.lean_disk.specs.Moments.{LeavesOnly}
 use Rattle.lean_disk.specs.Story.{Crash, IsLawful, Story}
-use Rattle.rows_trait.specs.row_words.declared.event.Event.{Event}
-use Rattle.rows_trait.specs.row_words.Moments.{events_of}
-use Rattle.rows_trait.specs.declared.view.View.{View}
-use Rattle.engine_calls.specs.Moves.{EveryMove}
-use Rattle.engine_calls.specs.Parts.{behind_first}
-use Rattle.engine_calls.proofs.MoveLemmas.{passes_join}
+use Rattle.session_state.specs.row_words.declared.event.Event.{Event}
+use Rattle.session_state.specs.row_words.Moments.{events_of}
+use Rattle.session_state.specs.rows_trait.declared.view.View.{View}
+use Rattle.session_state.specs.engine_calls.Moves.{EveryMove}
+use Rattle.session_state.specs.engine_calls.Parts.{behind_first}
+use Rattle.session_state.proofs.engine_calls.MoveLemmas.{passes_join}
 use Rattle.session_state.specs.Ties.{Behind}
 use Rattle.session_state.proofs.Moments.{events_more}
 use Rattle.call_parts.specs.Areas.{Around, Beside, is_save}

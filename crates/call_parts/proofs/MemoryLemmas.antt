@@ -1,22 +1,22 @@
 -- A part is one however its memory is written.
 use Rattle.std.proofs.Common.{◌≡◌, ℕ, Bool, List, Some, sym, ◌∙◌, subst, arith}
 use Rattle.std.specs.Prelude.{slice_get}
-use Rattle.rows_trait.specs.core_state.Openings.{Opening}
-use Rattle.rows_trait.specs.core_state.Events as happening
-use Rattle.rows_trait.specs.core_state.States.{State}
-use Rattle.core_calls.specs.Fronts.{Done}
-use Rattle.disk_runs.specs.Masters.{IsNoEarlier}
-use Rattle.disk_runs.specs.Stands.{Known}
-use Rattle.disk_runs.specs.disk_slots.declared.master.Master.{Master}
+use Rattle.session_state.specs.core_state.Openings.{Opening}
+use Rattle.session_state.specs.core_state.Events as happening
+use Rattle.session_state.specs.core_state.States.{State}
+use Rattle.session_state.specs.core_calls.Fronts.{Done}
+use Rattle.session_state.specs.disk_runs.Masters.{IsNoEarlier}
+use Rattle.session_state.specs.disk_runs.Stands.{Known}
+use Rattle.session_state.specs.disk_slots.declared.master.Master.{Master}
 use Rattle.lean_disk.specs.Story.{Story}
 use Rattle.page_calls.specs.declared.slots.Slot.{Slot}
-use Rattle.rows_trait.specs.row_words.declared.event.Event.{Event}
-use Rattle.rows_trait.specs.row_words.Moments.{events_of}
-use Rattle.rows_trait.specs.row_words.Openings.{opening}
-use Rattle.rows_trait.specs.declared.view.View.{View}
-use Rattle.disk_runs.specs.worker_log.Logs.{Log}
-use Rattle.engine_calls.specs.Parts.{behind_first}
-use Rattle.engine_trait.specs.Logs.{Logs}
+use Rattle.session_state.specs.row_words.declared.event.Event.{Event}
+use Rattle.session_state.specs.row_words.Moments.{events_of}
+use Rattle.session_state.specs.row_words.Openings.{opening}
+use Rattle.session_state.specs.rows_trait.declared.view.View.{View}
+use Rattle.session_state.specs.worker_log.Logs.{Log}
+use Rattle.session_state.specs.engine_calls.Parts.{behind_first}
+use Rattle.session_state.specs.engine_trait.Logs.{Logs}
 use Rattle.session_state.specs.Ties.{Behind}
 use Rattle.call_parts.specs.Laws.{EveryMemory}
 use Rattle.call_parts.specs.Memory.{IsOf, IsSame, Memory}

@@ -3,42 +3,42 @@ use Rattle.std.proofs.Common.{◌≡◌, ◌⊎◌, inl, inr, ◌≤◌, ◌<◌
 use Rattle.std.proofs.lemmas.Bool.{cases_eq, eqb-true}
 use Rattle.map_model.specs.Lists.{any, upd}
 use Rattle.map_model.proofs.ListLemmas.{upd_other, upd_same}
-use Rattle.rows_trait.specs.image_model.Entries.{Entry, is_record}
-use Rattle.rows_trait.specs.core_state.Openings.{Opening}
-use Rattle.rows_trait.specs.core_state.Events as happening
-use Rattle.rows_trait.specs.core_state.Local.{is_sync}
-use Rattle.rows_trait.specs.core_state.Needs.{may}
-use Rattle.rows_trait.specs.core_state.States.{State}
-use Rattle.rows_trait.specs.core_state.Steps as core
-use Rattle.rows_trait.specs.core_state.Steps.{AllMet, happens, put_back, state_after}
-use Rattle.disk_runs.specs.core_disk.Versions.{is_cut, then}
-use Rattle.core_calls.specs.Fronts.{Done, front}
-use Rattle.disk_runs.specs.disk_image.Records.{entry_of}
-use Rattle.disk_runs.specs.Laws.{with_log}
-use Rattle.disk_runs.specs.Logs as logs
-use Rattle.disk_runs.specs.Logs.{Records}
-use Rattle.disk_runs.specs.Masters.{IsNoEarlier}
-use Rattle.disk_runs.specs.Moments.{LeavesSome}
-use Rattle.disk_runs.specs.Stands.{Known, LeavesRun, Stands}
-use Rattle.disk_runs.proofs.LineLemmas.{same}
-use Rattle.disk_runs.proofs.MomentLemmas.{some_laws}
+use Rattle.session_state.specs.image_model.Entries.{Entry, is_record}
+use Rattle.session_state.specs.core_state.Openings.{Opening}
+use Rattle.session_state.specs.core_state.Events as happening
+use Rattle.session_state.specs.core_state.Local.{is_sync}
+use Rattle.session_state.specs.core_state.Needs.{may}
+use Rattle.session_state.specs.core_state.States.{State}
+use Rattle.session_state.specs.core_state.Steps as core
+use Rattle.session_state.specs.core_state.Steps.{AllMet, happens, put_back, state_after}
+use Rattle.session_state.specs.core_disk.Versions.{is_cut, then}
+use Rattle.session_state.specs.core_calls.Fronts.{Done, front}
+use Rattle.session_state.specs.disk_image.Records.{entry_of}
+use Rattle.session_state.specs.disk_runs.Laws.{with_log}
+use Rattle.session_state.specs.disk_runs.Logs as logs
+use Rattle.session_state.specs.disk_runs.Logs.{Records}
+use Rattle.session_state.specs.disk_runs.Masters.{IsNoEarlier}
+use Rattle.session_state.specs.disk_runs.Moments.{LeavesSome}
+use Rattle.session_state.specs.disk_runs.Stands.{Known, LeavesRun, Stands}
+use Rattle.session_state.proofs.disk_runs.LineLemmas.{same}
+use Rattle.session_state.proofs.disk_runs.MomentLemmas.{some_laws}
 use Rattle.lean_disk.proofs.MomentLemmas.{weaker}
 use Rattle.lean_disk.specs.Moments.{LeavesOnly}
 use Rattle.lean_disk.specs.Story.{Crash, Story}
-use Rattle.log_calls.specs.Calls.{IsLog}
-use Rattle.log_calls.specs.Wholes.{EndsInRecord, FlushesWhole, IsWhole, flush_of}
-use Rattle.rows_trait.specs.row_words.declared.event.Event.{Event}
-use Rattle.rows_trait.specs.row_words.declared.event.Event.TheVariants as told
-use Rattle.rows_trait.specs.row_words.Moments.{event_of, events_of}
-use Rattle.rows_trait.specs.row_words.Openings.{opening}
-use Rattle.row_opening.specs.Openings.{EveryNeed, EveryReached}
-use Rattle.rows_trait.specs.declared.view.View.{View}
-use Rattle.rows_trait.specs.Views.{state}
-use Rattle.disk_runs.specs.worker_log.Calls.{flushed_log}
-use Rattle.disk_runs.specs.worker_log.Kept.{flushed}
-use Rattle.disk_runs.specs.worker_log.Logs.{Log}
-use Rattle.engine_calls.specs.Parts.{Passes, behind_first}
-use Rattle.engine_trait.specs.Logs.{Logs, LogsEntry, LogsOne, OnOwn}
+use Rattle.session_state.specs.log_calls.Calls.{IsLog}
+use Rattle.session_state.specs.log_calls.Wholes.{EndsInRecord, FlushesWhole, IsWhole, flush_of}
+use Rattle.session_state.specs.row_words.declared.event.Event.{Event}
+use Rattle.session_state.specs.row_words.declared.event.Event.TheVariants as told
+use Rattle.session_state.specs.row_words.Moments.{event_of, events_of}
+use Rattle.session_state.specs.row_words.Openings.{opening}
+use Rattle.session_state.specs.row_opening.Openings.{EveryNeed, EveryReached}
+use Rattle.session_state.specs.rows_trait.declared.view.View.{View}
+use Rattle.session_state.specs.rows_trait.Views.{state}
+use Rattle.session_state.specs.worker_log.Calls.{flushed_log}
+use Rattle.session_state.specs.worker_log.Kept.{flushed}
+use Rattle.session_state.specs.worker_log.Logs.{Log}
+use Rattle.session_state.specs.engine_calls.Parts.{Passes, behind_first}
+use Rattle.session_state.specs.engine_trait.Logs.{Logs, LogsEntry, LogsOne, OnOwn}
 use Rattle.session_state.specs.Staging.{KeepsLog}
 use Rattle.session_state.specs.Syncs.{FlushesOwn, flushed_of, flushes_of}
 use Rattle.session_state.specs.Ties.{Behind}

@@ -2,26 +2,26 @@
 use Rattle.std.proofs.Common.{◌≡◌, ◌++◌, ◌||◌, ◌&&◌, ℕ, Bool, true, false, cond, List, [], ◌∷◌, refl, sym, ap, ◌∙◌, subst, true≢false}
 use Rattle.std.proofs.lemmas.List.{append_assoc}
 use Rattle.map_model.specs.Lists.{all, any}
-use Rattle.rows_trait.specs.core_state.Openings.{Opening}
-use Rattle.rows_trait.specs.core_state.Events as happening
-use Rattle.rows_trait.specs.core_state.Needs.{may}
-use Rattle.rows_trait.specs.core_state.States.{State, start}
-use Rattle.rows_trait.specs.core_state.Steps as core
-use Rattle.rows_trait.specs.core_state.Steps.{AllMet, happens, state_after}
-use Rattle.rows_trait.proofs.core_state_lemmas.Runs.{run_more}
-use Rattle.core_calls.specs.Fronts.{Done, front}
-use Rattle.rows_trait.specs.row_words.declared.event.Event.{Event}
-use Rattle.rows_trait.specs.row_words.declared.given.Given.{Given}
-use Rattle.rows_trait.specs.row_words.Moments.{Moment, event_of, events_of}
-use Rattle.rows_trait.specs.row_words.Openings.{opening}
-use Rattle.rows_trait.specs.row_words.Sealed.{begun, run, stepped}
-use Rattle.rows_trait.proofs.row_words_lemmas.SealedLemmas.{run_append}
-use Rattle.row_opening.specs.Openings.{EveryNeed, EveryReached, Opens}
-use Rattle.rows_trait.specs.declared.view.View.{View}
-use Rattle.rows_trait.specs.Views.{after_all, state}
-use Rattle.disk_runs.specs.worker_log.Logs.{Log}
-use Rattle.engine_calls.specs.Parts.{behind_first}
-use Rattle.engine_trait.specs.Logs.{Logs}
+use Rattle.session_state.specs.core_state.Openings.{Opening}
+use Rattle.session_state.specs.core_state.Events as happening
+use Rattle.session_state.specs.core_state.Needs.{may}
+use Rattle.session_state.specs.core_state.States.{State, start}
+use Rattle.session_state.specs.core_state.Steps as core
+use Rattle.session_state.specs.core_state.Steps.{AllMet, happens, state_after}
+use Rattle.session_state.proofs.core_state.Runs.{run_more}
+use Rattle.session_state.specs.core_calls.Fronts.{Done, front}
+use Rattle.session_state.specs.row_words.declared.event.Event.{Event}
+use Rattle.session_state.specs.row_words.declared.given.Given.{Given}
+use Rattle.session_state.specs.row_words.Moments.{Moment, event_of, events_of}
+use Rattle.session_state.specs.row_words.Openings.{opening}
+use Rattle.session_state.specs.row_words.Sealed.{begun, run, stepped}
+use Rattle.session_state.proofs.row_words.SealedLemmas.{run_append}
+use Rattle.session_state.specs.row_opening.Openings.{EveryNeed, EveryReached, Opens}
+use Rattle.session_state.specs.rows_trait.declared.view.View.{View}
+use Rattle.session_state.specs.rows_trait.Views.{after_all, state}
+use Rattle.session_state.specs.worker_log.Logs.{Log}
+use Rattle.session_state.specs.engine_calls.Parts.{behind_first}
+use Rattle.session_state.specs.engine_trait.Logs.{Logs}
 use Rattle.session_state.specs.Ties.{Behind}
 use Rattle.session_state.proofs.Moments.{events_more}
 

@@ -1,16 +1,16 @@
 -- Events that are seen one after another, and the records that they enter.
 use Rattle.std.proofs.Common.{◌≡◌, ◌++◌, List, [], ◌∷◌, refl, sym, ap, ◌∙◌, subst, append_assoc}
 use Rattle.std.proofs.lemmas.Bool.{eq-eqb}
-use Rattle.rows_trait.specs.image_model.Entries.{Entry}
-use Rattle.rows_trait.specs.core_state.Steps as core
-use Rattle.rows_trait.specs.core_state.Steps.{AllMet, at_pages}
-use Rattle.disk_runs.specs.disk_image.Records.{entry_of}
-use Rattle.rows_trait.specs.row_words.declared.event.Event.{Event}
-use Rattle.rows_trait.specs.row_words.Moments.{events_of}
-use Rattle.rows_trait.specs.row_words.Openings.{opening}
-use Rattle.rows_trait.specs.declared.view.View.{View}
-use Rattle.rows_trait.specs.Views.{state}
-use Rattle.engine_calls.specs.Entries.{EveryEntry}
+use Rattle.session_state.specs.image_model.Entries.{Entry}
+use Rattle.session_state.specs.core_state.Steps as core
+use Rattle.session_state.specs.core_state.Steps.{AllMet, at_pages}
+use Rattle.session_state.specs.disk_image.Records.{entry_of}
+use Rattle.session_state.specs.row_words.declared.event.Event.{Event}
+use Rattle.session_state.specs.row_words.Moments.{events_of}
+use Rattle.session_state.specs.row_words.Openings.{opening}
+use Rattle.session_state.specs.rows_trait.declared.view.View.{View}
+use Rattle.session_state.specs.rows_trait.Views.{state}
+use Rattle.session_state.specs.engine_calls.Entries.{EveryEntry}
 use Rattle.session_state.proofs.Moments.{events_more, seen_state}
 use Rattle.call_parts.specs.Laws.{EveryEnter, EverySight}
 use Rattle.call_parts.specs.Steps.{Sees, SeesBetween}

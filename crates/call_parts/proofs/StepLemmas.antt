@@ -2,37 +2,37 @@
 use Rattle.std.proofs.Common.{◌≡◌, ◌++◌, ℕ, suc, true, false, List, [], ◌∷◌, length, refl, sym, ap, ◌∙◌, subst, arith, append_assoc, true≢false}
 use Rattle.std.proofs.lemmas.List.{append-nil}
 use Rattle.map_model.specs.Lists.{all, any}
-use Rattle.rows_trait.specs.core_state.Openings.{Opening}
-use Rattle.rows_trait.specs.core_state.Events as happening
-use Rattle.rows_trait.specs.core_state.Local.{is_sync}
-use Rattle.rows_trait.specs.core_state.States.{State}
-use Rattle.rows_trait.specs.core_state.Steps as core
-use Rattle.disk_runs.specs.core_disk.Versions.{EveryVersion}
-use Rattle.core_calls.specs.Fronts.{Done, front}
-use Rattle.disk_runs.specs.disk_image.Laws.{EverySealed}
-use Rattle.disk_runs.specs.Masters.{IsNoEarlier}
-use Rattle.disk_runs.specs.Moments.{LeavesSome}
-use Rattle.disk_runs.specs.Quiet.{is_quiet}
-use Rattle.disk_runs.specs.Stands.{Known, LeavesRun, Stands}
-use Rattle.disk_runs.proofs.LineLemmas.{same}
-use Rattle.disk_runs.proofs.MomentLemmas.{some_laws}
-use Rattle.disk_runs.proofs.StandLemmas.{every_same, log_part, master_part, page_part}
-use Rattle.disk_runs.specs.disk_slots.declared.master.Master.{Master}
+use Rattle.session_state.specs.core_state.Openings.{Opening}
+use Rattle.session_state.specs.core_state.Events as happening
+use Rattle.session_state.specs.core_state.Local.{is_sync}
+use Rattle.session_state.specs.core_state.States.{State}
+use Rattle.session_state.specs.core_state.Steps as core
+use Rattle.session_state.specs.core_disk.Versions.{EveryVersion}
+use Rattle.session_state.specs.core_calls.Fronts.{Done, front}
+use Rattle.session_state.specs.disk_image.Laws.{EverySealed}
+use Rattle.session_state.specs.disk_runs.Masters.{IsNoEarlier}
+use Rattle.session_state.specs.disk_runs.Moments.{LeavesSome}
+use Rattle.session_state.specs.disk_runs.Quiet.{is_quiet}
+use Rattle.session_state.specs.disk_runs.Stands.{Known, LeavesRun, Stands}
+use Rattle.session_state.proofs.disk_runs.LineLemmas.{same}
+use Rattle.session_state.proofs.disk_runs.MomentLemmas.{some_laws}
+use Rattle.session_state.proofs.disk_runs.StandLemmas.{every_same, log_part, master_part, page_part}
+use Rattle.session_state.specs.disk_slots.declared.master.Master.{Master}
 use Rattle.lean_disk.proofs.MomentLemmas.{reads_none, weaker}
 use Rattle.lean_disk.specs.Moments.{AsAt, LeavesOnly, OnlyReads}
 use Rattle.lean_disk.specs.Story.{Crash, IsLawful, Story}
 use Rattle.page_calls.specs.Calls.{IsOn}
 use Rattle.page_calls.specs.declared.slots.Slot.{Slot}
-use Rattle.rows_trait.specs.row_words.declared.event.Event.{Event}
-use Rattle.rows_trait.specs.row_words.Moments.{events_of}
-use Rattle.row_opening.specs.Openings.{EveryNeed, EveryReached}
-use Rattle.rows_trait.specs.declared.view.View.{View}
-use Rattle.disk_runs.specs.worker_log.Laws.{EveryKept, EveryPrefix}
-use Rattle.disk_runs.specs.worker_log.Logs.{Log}
-use Rattle.engine_calls.specs.Moves.{Moved}
-use Rattle.engine_calls.specs.Parts.{behind_first}
-use Rattle.engine_calls.proofs.PartLemmas.{quiet_all}
-use Rattle.engine_trait.specs.Logs.{Logs}
+use Rattle.session_state.specs.row_words.declared.event.Event.{Event}
+use Rattle.session_state.specs.row_words.Moments.{events_of}
+use Rattle.session_state.specs.row_opening.Openings.{EveryNeed, EveryReached}
+use Rattle.session_state.specs.rows_trait.declared.view.View.{View}
+use Rattle.session_state.specs.worker_log.Laws.{EveryKept, EveryPrefix}
+use Rattle.session_state.specs.worker_log.Logs.{Log}
+use Rattle.session_state.specs.engine_calls.Moves.{Moved}
+use Rattle.session_state.specs.engine_calls.Parts.{behind_first}
+use Rattle.session_state.proofs.engine_calls.PartLemmas.{quiet_all}
+use Rattle.session_state.specs.engine_trait.Logs.{Logs}
 use Rattle.session_state.specs.Ties.{Behind}
 use Rattle.call_parts.specs.Areas.{Around, Beside, is_save}
 use Rattle.call_parts.specs.Laws.{EveryStep}

@@ -1,23 +1,23 @@
 -- What touches no page is a part of a call.
 use Rattle.std.proofs.Common.{◌≡◌, inl, inr, ◌++◌, ℕ, Bool, false, List, sym, ap, ◌∙◌, subst}
 use Rattle.map_model.specs.Lists.{any}
-use Rattle.rows_trait.specs.core_state.Openings.{Opening}
-use Rattle.rows_trait.specs.core_state.Events as happening
-use Rattle.rows_trait.specs.core_state.Local.{is_sync}
-use Rattle.rows_trait.specs.core_state.Steps.{state_after}
-use Rattle.core_calls.specs.Fronts.{Done, front}
-use Rattle.disk_runs.specs.Stands.{Known, Stands}
+use Rattle.session_state.specs.core_state.Openings.{Opening}
+use Rattle.session_state.specs.core_state.Events as happening
+use Rattle.session_state.specs.core_state.Local.{is_sync}
+use Rattle.session_state.specs.core_state.Steps.{state_after}
+use Rattle.session_state.specs.core_calls.Fronts.{Done, front}
+use Rattle.session_state.specs.disk_runs.Stands.{Known, Stands}
 use Rattle.lean_disk.proofs.MomentLemmas.{weaker}
 use Rattle.lean_disk.specs.Moments.{LeavesOnly}
 use Rattle.lean_disk.specs.Story.{Crash, Story}
 use Rattle.page_calls.specs.Slots.{is_some}
-use Rattle.rows_trait.specs.row_words.declared.event.Event.{Event}
-use Rattle.rows_trait.specs.row_words.Moments.{events_of}
-use Rattle.rows_trait.specs.row_words.Openings.{opening}
-use Rattle.rows_trait.specs.declared.view.View.{View}
-use Rattle.engine_calls.specs.Parts.{behind_first}
-use Rattle.engine_trait.specs.Areas as areas
-use Rattle.engine_trait.specs.Calls as resident
+use Rattle.session_state.specs.row_words.declared.event.Event.{Event}
+use Rattle.session_state.specs.row_words.Moments.{events_of}
+use Rattle.session_state.specs.row_words.Openings.{opening}
+use Rattle.session_state.specs.rows_trait.declared.view.View.{View}
+use Rattle.session_state.specs.engine_calls.Parts.{behind_first}
+use Rattle.session_state.specs.engine_trait.Areas as areas
+use Rattle.session_state.specs.engine_trait.Calls as resident
 use Rattle.session_state.specs.Ties.{Behind}
 use Rattle.call_parts.specs.Areas.{Around, Beside, IsAside}
 use Rattle.call_parts.specs.Laws.{EveryStill}

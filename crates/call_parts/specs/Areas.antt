@@ -1,6 +1,6 @@
 -- In which areas of its disk a call works: in those of the logs; where it saves a page in that of the pages; and where it makes a sync in that of the masters.
 use Rattle.std.specs.Prelude.{◌≡◌, ◌⊎◌, ◌≤◌, ◌<◌, ℕ, suc, Bool, true, false}
-use Rattle.rows_trait.specs.core_state.Events.{Event}
+use Rattle.session_state.specs.core_state.Events.{Event}
 use Rattle.lean_disk.specs.Area.{Leaves}
 use Rattle.lean_disk.specs.Moments.{LeavesOnly}
 use Rattle.lean_disk.specs.Story.{Crash, Story, Tells}

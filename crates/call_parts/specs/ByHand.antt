@@ -1,9 +1,9 @@
 -- A part of a call by hand: what a get does where its pages are hot.
 use Rattle.std.specs.Prelude.{ℕ, [], ◌∷◌, Option}
 use Rattle.lean_disk.specs.Story.{Story}
-use Rattle.rows_trait.specs.row_words.declared.event.Event.TheVariants.{Lock, Read}
-use Rattle.rows_trait.specs.row_words.declared.event.Mode.{Mode}
-use Rattle.rows_trait.specs.declared.view.View.{View}
+use Rattle.session_state.specs.row_words.declared.event.Event.TheVariants.{Lock, Read}
+use Rattle.session_state.specs.row_words.declared.event.Mode.{Mode}
+use Rattle.session_state.specs.rows_trait.declared.view.View.{View}
 use Rattle.call_parts.specs.Memory.{Memory}
 use Rattle.call_parts.specs.Parts.{Part}
 use Rattle.call_parts.specs.Steps.{Sees}

@@ -7,26 +7,26 @@ use Rattle.map_model.specs.declared.call.Answer.TheVariants as answer
 use Rattle.map_model.specs.declared.call.Call.{Call}
 use Rattle.map_model.specs.declared.call.Refusal.{Refusal}
 use Rattle.map_model.specs.declared.call.Refusal.TheVariants as refusal
-use Rattle.rows_trait.specs.core_state.Openings.{Opening}
-use Rattle.rows_trait.specs.core_state.Events.{Event}
-use Rattle.rows_trait.specs.core_state.Local.{is_sync}
-use Rattle.rows_trait.specs.core_state.Steps.{state_after}
-use Rattle.core_calls.specs.Deeds.{answered, asked}
-use Rattle.core_calls.specs.Fronts.{Done, front, outcomes}
-use Rattle.core_calls.specs.Runs.{Tells}
-use Rattle.core_calls.specs.Steps.{call_behind, is_structure}
-use Rattle.disk_runs.specs.Masters.{IsNoEarlier}
-use Rattle.disk_runs.specs.Stands.{Known}
+use Rattle.session_state.specs.core_state.Openings.{Opening}
+use Rattle.session_state.specs.core_state.Events.{Event}
+use Rattle.session_state.specs.core_state.Local.{is_sync}
+use Rattle.session_state.specs.core_state.Steps.{state_after}
+use Rattle.session_state.specs.core_calls.Deeds.{answered, asked}
+use Rattle.session_state.specs.core_calls.Fronts.{Done, front, outcomes}
+use Rattle.session_state.specs.core_calls.Runs.{Tells}
+use Rattle.session_state.specs.core_calls.Steps.{call_behind, is_structure}
+use Rattle.session_state.specs.disk_runs.Masters.{IsNoEarlier}
+use Rattle.session_state.specs.disk_runs.Stands.{Known}
 use Rattle.lean_disk.specs.Moments.{LeavesOnly}
 use Rattle.lean_disk.specs.Story.{Crash, Story}
-use Rattle.run_crashes.specs.Lines.{CallLeaves}
-use Rattle.disk_runs.specs.worker_log.Logs.{Log}
-use Rattle.engine_calls.specs.Clauses.{Between, CallAnswers}
-use Rattle.engine_trait.specs.Calls.{is_half_done}
-use Rattle.engine_trait.specs.Limits.{limits}
-use Rattle.engine_trait.specs.Logs.{Logs}
-use Rattle.engine_trait.specs.Refusals.{IsRefusedFor, refusal_in}
-use Rattle.engine_trait.specs.Rooms.{MakesItsRoom}
+use Rattle.session_state.specs.run_crashes.Lines.{CallLeaves}
+use Rattle.session_state.specs.worker_log.Logs.{Log}
+use Rattle.session_state.specs.engine_calls.Clauses.{Between, CallAnswers}
+use Rattle.session_state.specs.engine_trait.Calls.{is_half_done}
+use Rattle.session_state.specs.engine_trait.Limits.{limits}
+use Rattle.session_state.specs.engine_trait.Logs.{Logs}
+use Rattle.session_state.specs.engine_trait.Refusals.{IsRefusedFor, refusal_in}
+use Rattle.session_state.specs.engine_trait.Rooms.{MakesItsRoom}
 use Rattle.call_parts.specs.Areas.{Around, Beside, is_save}
 use Rattle.call_parts.specs.Memory.{IsOf, Memory}
 use Rattle.call_parts.specs.Rooms.{IsRoomFor, may_save, may_sync, most_of}

@@ -3,32 +3,32 @@ use Rattle.std.specs.Prelude.{◌≡◌, ◌≤◌, ◌<◌, ◌++◌, ◌||◌,
 use Rattle.map_model.specs.Lists.{all, any}
 use Rattle.map_model.specs.declared.call.Answer.{Answer}
 use Rattle.map_model.specs.declared.call.Call.{Call}
-use Rattle.rows_trait.specs.core_state.Openings.{Opening}
-use Rattle.rows_trait.specs.core_state.Events as happening
-use Rattle.rows_trait.specs.core_state.Local.{is_sync}
-use Rattle.rows_trait.specs.core_state.Steps.{at_pages}
-use Rattle.core_calls.specs.Deeds.{answered, asked}
-use Rattle.core_calls.specs.Fronts.{Done, outcomes}
-use Rattle.core_calls.specs.Runs.{Tells}
-use Rattle.core_calls.specs.Steps.{call_behind}
-use Rattle.disk_runs.specs.Quiet.{is_quiet}
+use Rattle.session_state.specs.core_state.Openings.{Opening}
+use Rattle.session_state.specs.core_state.Events as happening
+use Rattle.session_state.specs.core_state.Local.{is_sync}
+use Rattle.session_state.specs.core_state.Steps.{at_pages}
+use Rattle.session_state.specs.core_calls.Deeds.{answered, asked}
+use Rattle.session_state.specs.core_calls.Fronts.{Done, outcomes}
+use Rattle.session_state.specs.core_calls.Runs.{Tells}
+use Rattle.session_state.specs.core_calls.Steps.{call_behind}
+use Rattle.session_state.specs.disk_runs.Quiet.{is_quiet}
 use Rattle.lean_disk.specs.Moments.{CrashIn, Framed, LeavesOnly, OnlyReads}
 use Rattle.lean_disk.specs.Story.{Story}
-use Rattle.log_calls.specs.Calls.{Anything}
-use Rattle.log_calls.specs.Wholes.{EndsInRecord}
-use Rattle.disk_runs.specs.log_record.declared.record.Record.{Record}
+use Rattle.session_state.specs.log_calls.Calls.{Anything}
+use Rattle.session_state.specs.log_calls.Wholes.{EndsInRecord}
+use Rattle.session_state.specs.log_record.declared.record.Record.{Record}
 use Rattle.page_calls.specs.declared.slots.Slot.{Slot}
-use Rattle.rows_trait.specs.row_words.declared.event.Event.{Event}
-use Rattle.rows_trait.specs.row_words.declared.event.Event.TheVariants as told
-use Rattle.rows_trait.specs.row_words.Moments.{events_of}
-use Rattle.rows_trait.specs.row_words.Openings.{opening}
-use Rattle.rows_trait.specs.declared.view.View.{View}
-use Rattle.rows_trait.specs.Views.{state}
-use Rattle.disk_runs.specs.worker_log.Logs.{Log}
-use Rattle.engine_calls.specs.Entries.{abort_record, change_record, commit_record}
-use Rattle.engine_trait.specs.Calls as resident
-use Rattle.engine_trait.specs.Calls.{is_half_done}
-use Rattle.engine_trait.specs.Limits.{limits}
+use Rattle.session_state.specs.row_words.declared.event.Event.{Event}
+use Rattle.session_state.specs.row_words.declared.event.Event.TheVariants as told
+use Rattle.session_state.specs.row_words.Moments.{events_of}
+use Rattle.session_state.specs.row_words.Openings.{opening}
+use Rattle.session_state.specs.rows_trait.declared.view.View.{View}
+use Rattle.session_state.specs.rows_trait.Views.{state}
+use Rattle.session_state.specs.worker_log.Logs.{Log}
+use Rattle.session_state.specs.engine_calls.Entries.{abort_record, change_record, commit_record}
+use Rattle.session_state.specs.engine_trait.Calls as resident
+use Rattle.session_state.specs.engine_trait.Calls.{is_half_done}
+use Rattle.session_state.specs.engine_trait.Limits.{limits}
 use Rattle.session_state.specs.Staging.{KeepsLog}
 use Rattle.session_state.specs.Syncs.{FlushesOwn, flushes_of}
 use Rattle.session_state.specs.Ties.{Behind, Ties}

@@ -1,12 +1,12 @@
 -- What an engine has in memory of its disk.
 use Rattle.std.specs.Prelude.{◌≡◌, ◌≤◌, ◌<◌, ℕ, List, Some, slice_get}
 use Rattle.map_model.specs.Lists.{upd}
-use Rattle.rows_trait.specs.core_state.Openings.{Opening}
-use Rattle.disk_runs.specs.Stands.{Known}
-use Rattle.disk_runs.specs.disk_slots.declared.master.Master.{Master}
+use Rattle.session_state.specs.core_state.Openings.{Opening}
+use Rattle.session_state.specs.disk_runs.Stands.{Known}
+use Rattle.session_state.specs.disk_slots.declared.master.Master.{Master}
 use Rattle.page_calls.specs.Slots.{is_some, number_of}
 use Rattle.page_calls.specs.declared.slots.Slot.{Slot}
-use Rattle.disk_runs.specs.worker_log.Logs.{Log}
+use Rattle.session_state.specs.worker_log.Logs.{Log}
 
 -- the log of each session, the master that counts, and the slots of the pages, of none where no page is ever saved
 pub record Memory : Type 0 where

@@ -1,22 +1,22 @@
 -- A part of a call: it goes on from wherever the call has come to, so that a call is one part behind another.
 use Rattle.std.specs.Prelude.{◌≡◌, ◌≤◌, ◌<◌, ◌++◌, ℕ, Bool, false, List}
 use Rattle.map_model.specs.Lists.{any}
-use Rattle.rows_trait.specs.core_state.Openings.{Opening}
-use Rattle.rows_trait.specs.core_state.Events as happening
-use Rattle.rows_trait.specs.core_state.Local.{is_sync}
-use Rattle.rows_trait.specs.core_state.States.{State}
-use Rattle.rows_trait.specs.core_state.Steps.{AllMet}
-use Rattle.core_calls.specs.Fronts.{Done, front}
-use Rattle.disk_runs.specs.Masters.{IsNoEarlier}
-use Rattle.disk_runs.specs.Stands.{Known, Stands}
+use Rattle.session_state.specs.core_state.Openings.{Opening}
+use Rattle.session_state.specs.core_state.Events as happening
+use Rattle.session_state.specs.core_state.Local.{is_sync}
+use Rattle.session_state.specs.core_state.States.{State}
+use Rattle.session_state.specs.core_state.Steps.{AllMet}
+use Rattle.session_state.specs.core_calls.Fronts.{Done, front}
+use Rattle.session_state.specs.disk_runs.Masters.{IsNoEarlier}
+use Rattle.session_state.specs.disk_runs.Stands.{Known, Stands}
 use Rattle.lean_disk.specs.Moments.{LeavesOnly}
 use Rattle.lean_disk.specs.Story.{Crash, Story}
-use Rattle.rows_trait.specs.row_words.declared.event.Event.{Event}
-use Rattle.rows_trait.specs.row_words.Moments.{events_of}
-use Rattle.rows_trait.specs.declared.view.View.{View}
-use Rattle.engine_calls.specs.Moves.{Moved}
-use Rattle.engine_calls.specs.Parts.{Passes, behind_first}
-use Rattle.engine_trait.specs.Logs.{Logs}
+use Rattle.session_state.specs.row_words.declared.event.Event.{Event}
+use Rattle.session_state.specs.row_words.Moments.{events_of}
+use Rattle.session_state.specs.rows_trait.declared.view.View.{View}
+use Rattle.session_state.specs.engine_calls.Moves.{Moved}
+use Rattle.session_state.specs.engine_calls.Parts.{Passes, behind_first}
+use Rattle.session_state.specs.engine_trait.Logs.{Logs}
 use Rattle.session_state.specs.Ties.{Behind}
 use Rattle.call_parts.specs.Areas.{Around, Beside, is_save}
 use Rattle.call_parts.specs.Memory.{IsOf, Memory}

@@ -4,12 +4,12 @@ use Rattle.map_model.specs.Lists.{all, any}
 use Rattle.map_model.specs.declared.call.Call.{Call}
 use Rattle.map_model.specs.declared.call.Call.TheVariants as call
 use Rattle.map_model.specs.Maps.{MapAnswer}
-use Rattle.rows_trait.specs.core_state.Openings.{Opening}
-use Rattle.rows_trait.specs.core_state.Events.{Event, Mode}
-use Rattle.rows_trait.specs.core_state.Steps.{state_after}
-use Rattle.core_calls.specs.Fronts.{Done, front, outcomes}
-use Rattle.core_calls.specs.Steps.{call_behind, is_structure}
-use Rattle.engine_trait.specs.Rooms.{MakesRoom, needs_sync}
+use Rattle.session_state.specs.core_state.Openings.{Opening}
+use Rattle.session_state.specs.core_state.Events.{Event, Mode}
+use Rattle.session_state.specs.core_state.Steps.{state_after}
+use Rattle.session_state.specs.core_calls.Fronts.{Done, front, outcomes}
+use Rattle.session_state.specs.core_calls.Steps.{call_behind, is_structure}
+use Rattle.session_state.specs.engine_trait.Rooms.{MakesRoom, needs_sync}
 use Rattle.call_parts.specs.Steps.{moves_page}
 
 -- ## Which events

@@ -1,38 +1,38 @@
 -- What a step of a call shows, of itself alone, to be a part of the call.
 use Rattle.std.specs.Prelude.{◌≡◌, ◌≤◌, ◌<◌, ◌++◌, ◌==◌, ℕ, Bool, true, false, List, [], ◌∷◌}
 use Rattle.map_model.specs.Lists.{all, any}
-use Rattle.rows_trait.specs.core_state.Openings.{Opening}
-use Rattle.rows_trait.specs.core_state.Events as happening
-use Rattle.rows_trait.specs.core_state.Local.{is_sync}
-use Rattle.rows_trait.specs.core_state.States.{State}
-use Rattle.rows_trait.specs.core_state.Steps.{AllMet, happens}
-use Rattle.disk_runs.specs.disk_image.Records.{entry_of}
-use Rattle.disk_runs.specs.Moments.{LeavesSome}
-use Rattle.core_calls.specs.Fronts.{Done, front}
-use Rattle.disk_runs.specs.Masters.{IsNoEarlier}
-use Rattle.disk_runs.specs.Stands.{Known, Stands}
+use Rattle.session_state.specs.core_state.Openings.{Opening}
+use Rattle.session_state.specs.core_state.Events as happening
+use Rattle.session_state.specs.core_state.Local.{is_sync}
+use Rattle.session_state.specs.core_state.States.{State}
+use Rattle.session_state.specs.core_state.Steps.{AllMet, happens}
+use Rattle.session_state.specs.disk_image.Records.{entry_of}
+use Rattle.session_state.specs.disk_runs.Moments.{LeavesSome}
+use Rattle.session_state.specs.core_calls.Fronts.{Done, front}
+use Rattle.session_state.specs.disk_runs.Masters.{IsNoEarlier}
+use Rattle.session_state.specs.disk_runs.Stands.{Known, Stands}
 use Rattle.lean_disk.specs.Moments.{LeavesOnly}
 use Rattle.lean_disk.specs.Story.{Crash, Story}
-use Rattle.log_calls.specs.Calls.{FlushesOn, StagesOn}
-use Rattle.disk_runs.specs.log_record.declared.record.Record.{Record}
+use Rattle.session_state.specs.log_calls.Calls.{FlushesOn, StagesOn}
+use Rattle.session_state.specs.log_record.declared.record.Record.{Record}
 use Rattle.page_calls.specs.Calls.{IsOn}
 use Rattle.page_calls.specs.declared.slots.Slot.{Slot}
-use Rattle.row_opening.specs.Openings.{Opens}
-use Rattle.rows_trait.specs.row_words.declared.event.Event.{Event}
-use Rattle.rows_trait.specs.row_words.declared.event.Event.TheVariants as told
-use Rattle.rows_trait.specs.row_words.Moments.{event_of, events_of}
-use Rattle.rows_trait.specs.row_words.Openings.{opening}
-use Rattle.rows_trait.specs.declared.view.View.{View}
-use Rattle.rows_trait.specs.Views.{state}
-use Rattle.engine_calls.specs.Moves.{Moved}
-use Rattle.engine_calls.specs.Parts.{Passes}
-use Rattle.engine_trait.specs.Areas as areas
-use Rattle.engine_trait.specs.Calls as resident
-use Rattle.engine_trait.specs.Logs.{Logs}
+use Rattle.session_state.specs.row_opening.Openings.{Opens}
+use Rattle.session_state.specs.row_words.declared.event.Event.{Event}
+use Rattle.session_state.specs.row_words.declared.event.Event.TheVariants as told
+use Rattle.session_state.specs.row_words.Moments.{event_of, events_of}
+use Rattle.session_state.specs.row_words.Openings.{opening}
+use Rattle.session_state.specs.rows_trait.declared.view.View.{View}
+use Rattle.session_state.specs.rows_trait.Views.{state}
+use Rattle.session_state.specs.engine_calls.Moves.{Moved}
+use Rattle.session_state.specs.engine_calls.Parts.{Passes}
+use Rattle.session_state.specs.engine_trait.Areas as areas
+use Rattle.session_state.specs.engine_trait.Calls as resident
+use Rattle.session_state.specs.engine_trait.Logs.{Logs}
 use Rattle.session_state.specs.Staging.{KeepsLog}
 use Rattle.session_state.specs.Ties.{Behind}
-use Rattle.disk_runs.specs.worker_log.Calls.{After, flushed_log}
-use Rattle.disk_runs.specs.worker_log.Logs.{Log}
+use Rattle.session_state.specs.worker_log.Calls.{After, flushed_log}
+use Rattle.session_state.specs.worker_log.Logs.{Log}
 use Rattle.call_parts.specs.Areas.{Apart, is_save}
 use Rattle.call_parts.specs.Memory.{Memory}
 

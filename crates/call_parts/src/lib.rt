@@ -4,15 +4,28 @@
 //! behind them.
 #![tactic(auto)]
 
-ghost use Rattle.disk_runs.specs.core_disk.Versions.{EveryVersion};
-ghost use Rattle.disk_runs.specs.disk_image.Laws.{EverySealed};
-ghost use Rattle.row_opening.specs.Openings.{EveryNeed, EveryReached};
-ghost use Rattle.disk_runs.specs.worker_log.Laws.{EveryKept, EveryPrefix};
+ghost use Rattle.session_state.specs.core_disk.Versions.{EveryVersion};
+ghost use Rattle.session_state.specs.disk_image.Laws.{EverySealed};
+ghost use Rattle.session_state.specs.row_opening.Openings.{EveryNeed, EveryReached};
+ghost use Rattle.session_state.specs.worker_log.Laws.{EveryKept, EveryPrefix};
 ghost use Rattle.call_parts.specs.ByHand.{Worked};
 ghost use Rattle.call_parts.specs.Laws.{EveryArea, EveryEnd, EveryEnter, EveryJoin, EveryMemory, EveryOwn, EverySight, EveryStep, EveryStill};
 
-use disk_runs::{core_disk, disk_image, worker_log};
 use lean_disk::Disk;
+
+// Passed on to the crates above.
+pub use session_state::{
+    Body, Clock, DEEPEST, DiskFault, FreePages, Heads, HeldRows, Latches, Master,
+    MasterStoreDiskFault, Mode, Node, PageRef, Path, Record, Rows, Session, Staged, Stages,
+    Staging, UndoList, Undone, Unread, Way, Work, WorkerLog, block_bytes, choose,
+    disk_runs_every_opened, every_agreement, every_answer, every_begun, every_block_in,
+    every_coming, every_entry, every_flush, every_kept, every_line_count, every_low,
+    every_master_in, every_met, every_need, every_opened, every_other, every_prefix, every_printed,
+    every_reached, every_reserve, every_residence, every_rise, every_room, every_run_crash,
+    every_sealed, every_shown, every_sound, every_told, every_undone, every_version, every_warm,
+    every_where, fetch, further_session, master_bytes, page_bytes, reach, save, spare, stage_end,
+    write_next,
+};
 
 /// The laws of versions, logs, seals and openings, on which those below stand.
 pub fn laws()
@@ -23,12 +36,12 @@ pub fn laws()
     ensures reached { EveryReached }
     ensures needs { EveryNeed }
 {
-    core_disk::every_version();
-    worker_log::every_kept();
-    worker_log::every_prefix();
-    disk_image::every_sealed();
-    row_opening::every_reached();
-    row_opening::every_need();
+    session_state::every_version();
+    session_state::every_kept();
+    session_state::every_prefix();
+    session_state::every_sealed();
+    session_state::every_reached();
+    session_state::every_need();
 }
 
 /// Events are seen one after another.
@@ -40,7 +53,7 @@ pub fn every_sight()
 pub fn every_enter()
     ensures { EveryEnter }
 {
-    engine_calls::every_entry();
+    session_state::every_entry();
 }
 
 /// Events that no log has are a part of a call, and so are pages that are moved; and what is left where that failed.
@@ -72,7 +85,7 @@ pub fn every_join<D: Disk>(old: &D, mid: &D, new: &D)
     ensures { EveryJoin (D.story old.now) (D.story mid.now) (D.story new.now) }
 {
     laws();
-    engine_calls::every_move(old, mid, new);
+    session_state::every_move(old, mid, new);
 }
 
 /// A part is one however its memory is written.

@@ -5,13 +5,13 @@ use Rattle.std.proofs.lemmas.List.{append-nil}
 use Rattle.map_model.specs.Lists.{all, upd}
 use Rattle.disk_runs.specs.image_model.Entries.{Contents}
 use Rattle.map_model.proofs.ListLemmas.{upd_same}
-use Rattle.disk_runs.proofs.core_commit_lemmas.Copies.{at_place}
+use Rattle.disk_runs.proofs.core_commit.Copies.{at_place}
 use Rattle.disk_runs.specs.core_state.Openings.{Opening}
 use Rattle.disk_runs.specs.core_state.States.{Place, State, flushed_by_all, in_frame, start}
 use Rattle.disk_runs.specs.core_state.Events.{Event}
 use Rattle.disk_runs.specs.core_state.Needs.{is_dirty, may}
 use Rattle.disk_runs.specs.core_state.Steps.{AllMet, happens, run, state_after, step}
-use Rattle.disk_runs.proofs.core_state_lemmas.Runs.{run_more}
+use Rattle.disk_runs.proofs.core_state.Runs.{run_more}
 use Rattle.disk_runs.specs.core_paging.Paging.{EveryResidence}
 use Rattle.disk_runs.specs.disk_image.Laws.{EverySealed}
 use Rattle.disk_runs.specs.worker_log.Laws.{EveryKept, EveryPrefix}

@@ -12,9 +12,7 @@ ghost use Rattle.checkpointer.specs.Numbers.{IsNumber};
 
 use crate::number::cut_number;
 use crate::rings::Rings;
-use disk_runs::disk_slots::{Heads, Master};
-use disk_runs::worker_log::DiskFault;
-use disk_runs::{core_disk, disk_image, worker_log};
+use disk_runs::{DiskFault, Heads, Master};
 use lean_disk::{Did, Disk};
 use log_calls::cut_master;
 
@@ -112,11 +110,11 @@ pub fn cut<D: Disk, L: Rings>(
 
     ensures cause { HasCause (D.faults disk.old) (D.faults disk.new) (IsErr result) }
 {
-    core_disk::every_version();
-    worker_log::every_passed();
-    worker_log::every_kept();
-    worker_log::every_prefix();
-    disk_image::every_sealed();
+    disk_runs::every_version();
+    disk_runs::every_passed();
+    disk_runs::every_kept();
+    disk_runs::every_prefix();
+    disk_runs::every_sealed();
     let number = cut_number(covers, floor, first);
     let heads = next_heads(rings, number);
     if are_heads(&heads, master) {

@@ -9,8 +9,7 @@ ghost use Rattle.checkpointer.specs.Inside.{Above, AreLow, Going, Looked};
 ghost use Rattle.checkpointer.specs.Increments.{IncrementFails, Increments, IsAgain, IsSomeAbove, TellsAgain};
 
 use crate::saver::{Dirty, Saver};
-use disk_runs::worker_log::DiskFault;
-use disk_runs::{core_disk, core_paging, disk_image, worker_log};
+use disk_runs::DiskFault;
 use lean_disk::Disk;
 
 /// How many shards there are; a frame is of the shard of its number modulo this.
@@ -35,7 +34,7 @@ fn above_in<D: Disk, S: Saver<D>>(
     ensures answer { Above (state_after (S.opening saver.old) (S.front saver.old)) shard floor (λ f. f ≡ frame) result }
     ensures looked { Looked (S.opening saver.old) (S.opening saver.new) (S.front saver.old) (S.front saver.new) (S.knows saver.old) (S.knows saver.new) }
 {
-    core_paging::every_residence();
+    disk_runs::every_residence();
     if frame % SHARDS != shard {
         return None;
     }
@@ -55,7 +54,7 @@ fn above<D: Disk, S: Saver<D>>(saver: &mut S, shard: u32, floor: u64) -> Option<
     ensures answer { Above (state_after (S.opening saver.old) (S.front saver.old)) shard floor (λ _. Unit {0}) result }
     ensures looked { Looked (S.opening saver.old) (S.opening saver.new) (S.front saver.old) (S.front saver.new) (S.knows saver.old) (S.knows saver.new) }
 {
-    core_paging::every_residence();
+    disk_runs::every_residence();
     for frame in 0..saver.frames() {
         if let Some(found) = above_in(saver, frame, shard, floor) {
             return Some(found);
@@ -82,10 +81,10 @@ fn save_in<D: Disk, S: Saver<D>>(
 
     ensures cause { HasCause (D.faults disk.old) (D.faults disk.new) (IsErr result) }
 {
-    worker_log::every_kept();
-    worker_log::every_prefix();
-    disk_image::every_sealed();
-    core_paging::every_residence();
+    disk_runs::every_kept();
+    disk_runs::every_prefix();
+    disk_runs::every_sealed();
+    disk_runs::every_residence();
     if frame % SHARDS != shard {
         return Ok(());
     }
@@ -111,10 +110,10 @@ fn save_shard<D: Disk, S: Saver<D>>(
 
     ensures cause { HasCause (D.faults disk.old) (D.faults disk.new) (IsErr result) }
 {
-    core_paging::every_residence();
-    worker_log::every_kept();
-    worker_log::every_prefix();
-    disk_image::every_sealed();
+    disk_runs::every_residence();
+    disk_runs::every_kept();
+    disk_runs::every_prefix();
+    disk_runs::every_sealed();
     for frame in 0..saver.frames() {
         save_in(saver, disk, frame, shard, floor)?;
     }
@@ -141,8 +140,8 @@ pub fn increment<D: Disk, S: Saver<D>>(
     ensures cause_again { IsErrAnd result IsAgain ↔ IsSomeAbove (state_after (S.opening saver.old) (S.front saver.old)) shard floor }
     ensures cause_disk_fault { HasCause (D.faults disk.old) (D.faults disk.new) (result ≡ Err Unsaved.DiskFault) }
 {
-    core_disk::every_version();
-    core_paging::every_residence();
+    disk_runs::every_version();
+    disk_runs::every_residence();
     core_covers::every_change();
     core_covers::every_cover();
     if let Some(found) = above(saver, shard, floor) {

@@ -8,7 +8,7 @@ ghost use Rattle.lean_disk.specs.Faults.{HasCause};
 ghost use Rattle.lean_disk.specs.Moments.{Framed};
 ghost use Rattle.checkpointer.specs.Savers.{IsFound, KeepsRun, MaySave, Saves, Settles};
 
-use disk_runs::worker_log::DiskFault;
+use disk_runs::DiskFault;
 use lean_disk::Disk;
 
 /// A page that is not on the disk as it stands in its frame, and its number.

@@ -15,13 +15,13 @@ use Rattle.core_crash.specs.core_state.States.{State, start, flushed_by_all}
 use Rattle.core_crash.specs.core_state.Events.{Event}
 use Rattle.core_crash.specs.core_state.Needs.{pages_of, are_hot, needs, may}
 use Rattle.core_crash.specs.core_state.Steps.{happens, step, run}
-use Rattle.core_crash.proofs.core_state_lemmas.Runs.{run_more}
+use Rattle.core_crash.proofs.core_state.Runs.{run_more}
 use Rattle.core_crash.specs.core_commit.Debts.{Stamp, stamps_of, touched, Touched, EveryNeed}
 use Rattle.core_crash.specs.core_commit.Holders.{EveryHolder}
 use Rattle.core_crash.specs.core_commit.Rises.{EveryRise}
 use Rattle.core_crash.specs.core_commit.Floors.{EveryFloor}
-use Rattle.core_crash.proofs.core_commit_lemmas.History.{IsRecorded, page_at}
-use Rattle.core_crash.proofs.core_commit_lemmas.Runs.{good_run, good_start}
+use Rattle.core_crash.proofs.core_commit.History.{IsRecorded, page_at}
+use Rattle.core_crash.proofs.core_commit.Runs.{good_run, good_start}
 use Rattle.core_crash.proofs.Ends.{one_end}
 use Rattle.core_crash.proofs.Journal.{commit_is_end}
 use Rattle.core_calls.specs.Marks.{Mark, Ended, back_in, mark, marks}

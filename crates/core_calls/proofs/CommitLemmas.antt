@@ -16,11 +16,11 @@ use Rattle.core_crash.specs.core_state.Events.{Event}
 use Rattle.core_crash.specs.core_state.Local.{is_of}
 use Rattle.core_crash.specs.core_state.Needs.{pages_of, are_hot, needs, may}
 use Rattle.core_crash.specs.core_state.Steps.{happens, run, AllMet, state_after}
-use Rattle.core_crash.proofs.core_state_lemmas.Runs.{run_more, met_more}
+use Rattle.core_crash.proofs.core_state.Runs.{run_more, met_more}
 use Rattle.core_crash.specs.core_commit.Rises.{EveryRise}
-use Rattle.core_crash.proofs.core_commit_lemmas.History.{IsRecorded}
-use Rattle.core_crash.proofs.core_commit_lemmas.Invariants.{Inv}
-use Rattle.core_crash.proofs.core_commit_lemmas.Runs.{Good, good_event, good_start}
+use Rattle.core_crash.proofs.core_commit.History.{IsRecorded}
+use Rattle.core_crash.proofs.core_commit.Invariants.{Inv}
+use Rattle.core_crash.proofs.core_commit.Runs.{Good, good_event, good_start}
 use Rattle.core_crash.proofs.Ends.{one_end}
 use Rattle.core_calls.specs.Marks.{Mark, Ended, mark, onto, marks}
 use Rattle.core_calls.specs.Deeds.{Deed, Committed, Synced, Unsaid, answered, reads_of, marks_of, marks_for, marks_by}

@@ -11,9 +11,9 @@ use Rattle.core_crash.specs.core_state.Events.{Event}
 use Rattle.core_crash.specs.core_state.Local.{is_of}
 use Rattle.core_crash.specs.core_state.Needs.{pages_of, are_hot, needs, may}
 use Rattle.core_crash.specs.core_state.Steps.{happens, run}
-use Rattle.core_crash.proofs.core_commit_lemmas.Invariants.{Inv}
-use Rattle.core_crash.proofs.core_commit_lemmas.Runs.{Good, good_event, good_start}
-use Rattle.core_crash.proofs.core_commit_lemmas.Says.{said_live, said_dead}
+use Rattle.core_crash.proofs.core_commit.Invariants.{Inv}
+use Rattle.core_crash.proofs.core_commit.Runs.{Good, good_event, good_start}
+use Rattle.core_crash.proofs.core_commit.Says.{said_live, said_dead}
 use Rattle.core_calls.specs.Marks.{Mark, Began, Called, Back, Ended, mark, onto, marks}
 use Rattle.core_calls.specs.Deeds.{marks_by}
 use Rattle.core_calls.specs.Counts.{begun_in, IsAbove, Undo, undo_onto, without_first, undo_in, value_call, UndoesNewest, AreOrdered, EveryOrdered}

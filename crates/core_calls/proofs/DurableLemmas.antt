@@ -16,14 +16,14 @@ use Rattle.core_crash.specs.core_state.States.{State, start, flushed_by_all}
 use Rattle.core_crash.specs.core_state.Events.{Event}
 use Rattle.core_crash.specs.core_state.Needs.{pages_of, are_hot, is_behind, needs, may}
 use Rattle.core_crash.specs.core_state.Steps.{happens, synced, step, run}
-use Rattle.core_crash.proofs.core_state_lemmas.Runs.{run_more}
+use Rattle.core_crash.proofs.core_state.Runs.{run_more}
 use Rattle.core_crash.specs.core_commit.Rises.{EveryRise}
 use Rattle.map_model.proofs.ListLemmas.{any_has, has_any, insert_has, order_has, has_order, has_keep, keep_has, has_cases, has_left, has_right}
-use Rattle.core_crash.proofs.core_commit_lemmas.Lists.{Before, has_before, each_at, le_least}
-use Rattle.core_crash.proofs.core_commit_lemmas.Controls.{le_most}
-use Rattle.core_crash.proofs.core_commit_lemmas.History.{Recorded, IsRecorded}
-use Rattle.core_crash.proofs.core_commit_lemmas.Invariants.{Inv}
-use Rattle.core_crash.proofs.core_commit_lemmas.Runs.{good_run, good_start}
+use Rattle.core_crash.proofs.core_commit.Lists.{Before, has_before, each_at, le_least}
+use Rattle.core_crash.proofs.core_commit.Controls.{le_most}
+use Rattle.core_crash.proofs.core_commit.History.{Recorded, IsRecorded}
+use Rattle.core_crash.proofs.core_commit.Invariants.{Inv}
+use Rattle.core_crash.proofs.core_commit.Runs.{good_run, good_start}
 use Rattle.core_crash.specs.Crashes.{Leaves, image_of, journal_in, IsRipe}
 use Rattle.core_calls.specs.Deeds.{Outcome, Answers, transcript}
 use Rattle.core_calls.specs.Told.{SameTxn, ByThen, kept_of, ToldLaws, EveryTold}

@@ -18,7 +18,7 @@ use Rattle.core_crash.specs.core_state.Events.{Event}
 use Rattle.core_crash.specs.core_state.Local.{is_of}
 use Rattle.core_crash.specs.core_state.Needs.{is_held_by, holds_row, is_value, is_following, following, holds_answer, is_leaf_of, value_in, may_read, may_put, may_put_back, may_split, may_lift, may_join, may_drop, may_purge, is_settled, needs}
 use Rattle.core_crash.specs.core_state.Steps.{at_pages, at_row, begun, finished, read_entry, write_entry, end_entry, page_entry, moves, put_back, follows, happens, step, run}
-use Rattle.core_crash.proofs.core_commit_lemmas.Says.{said_word}
+use Rattle.core_crash.proofs.core_commit.Says.{said_word}
 use Rattle.core_calls.specs.Marks.{Mark, Began, Called, Back, Ended, found_in, back_in, mark, onto}
 
 -- ## What entries say

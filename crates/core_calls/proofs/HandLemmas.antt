@@ -5,7 +5,7 @@ use Rattle.core_crash.specs.core_state.Openings.{Opening, first_map}
 use Rattle.core_crash.specs.core_state.States.{Row, State, start}
 use Rattle.core_crash.specs.core_state.Events.{Event}
 use Rattle.core_crash.specs.core_state.Local.{publishes_row, is_of}
-use Rattle.core_crash.proofs.core_state_lemmas.Locality.{every_local}
+use Rattle.core_crash.proofs.core_state.Locality.{every_local}
 use Rattle.core_crash.specs.core_state.Needs.{holds_row, may}
 use Rattle.std.proofs.lemmas.Bool.{cases_eq, ne_eqb}
 use Rattle.map_model.specs.Lists.{Has, all}

@@ -13,7 +13,7 @@ use Rattle.core_crash.specs.image_model.Histories as histories
 use Rattle.core_crash.specs.image_model.Histories.{said, write_call, steps_of, step_onto}
 use Rattle.core_crash.specs.core_state.Openings.{Opening}
 use Rattle.core_crash.specs.core_state.Steps.{claims}
-use Rattle.core_crash.proofs.core_commit_lemmas.History.{IsRecorded}
+use Rattle.core_crash.proofs.core_commit.History.{IsRecorded}
 use Rattle.core_calls.specs.Marks.{Mark, Began, Called, Back, Ended}
 use Rattle.core_calls.specs.Told.{Pairwise, Covers, SameCall, Same, Absent, Met, IsRead}
 use Rattle.core_calls.proofs.PairLemmas.{pair_of, pair_for, covers_of, covers_join, pairs_keep, pairs_join, SameKey, falls_pair, apart_keep, apart_pairs, of_session, apart_from}

@@ -9,7 +9,7 @@ use Rattle.core_crash.specs.core_state.Events.{Event, Mode}
 use Rattle.core_crash.specs.core_state.Local.{publishes_row}
 use Rattle.core_crash.specs.core_state.Needs.{holds_row, is_held_by, is_reader, may}
 use Rattle.core_crash.specs.core_state.Steps.{AllMet, happens, locked, state_after, step}
-use Rattle.core_crash.proofs.core_state_lemmas.Locality.{every_local}
+use Rattle.core_crash.proofs.core_state.Locality.{every_local}
 use Rattle.core_calls.specs.Deeds.{Deed, Met, Over}
 use Rattle.core_calls.specs.Fronts.{front, outcomes}
 use Rattle.core_calls.specs.Runs.{EveryMet}

@@ -9,7 +9,7 @@ use Rattle.core_crash.specs.image_model.Entries.{Entry, is_commit, earlier}
 use Rattle.core_crash.specs.core_state.Openings.{Opening}
 use Rattle.core_crash.specs.core_state.States.{start, flushed_by_all}
 use Rattle.core_crash.specs.core_state.Steps.{run}
-use Rattle.core_crash.proofs.core_commit_lemmas.History.{IsRecorded}
+use Rattle.core_crash.proofs.core_commit.History.{IsRecorded}
 use Rattle.core_calls.specs.Durables.{is_ripe, is_told, place_of, EveryDue}
 use Rattle.core_calls.proofs.DurableLemmas.{recorded_of, passes, ripe_to}
 

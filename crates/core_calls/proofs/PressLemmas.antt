@@ -12,9 +12,9 @@ use Rattle.core_crash.specs.core_state.Lists.{all_below}
 use Rattle.core_crash.specs.core_state.Needs.{has_hot_child, has_hot_parent, is_dirty, is_empty_frame, is_inside, may, may_have}
 use Rattle.core_crash.specs.core_state.States.{Place, State, flushed_by_all, frame_of, in_frame, is_cold, is_cooling, is_hot, start, waits_for}
 use Rattle.core_crash.specs.core_state.Steps.{AllMet, happens, run, state_after, step, with_pairs}
-use Rattle.core_crash.proofs.core_state_lemmas.Runs.{run_more}
+use Rattle.core_crash.proofs.core_state.Runs.{run_more}
 use Rattle.core_crash.specs.core_paging.Paging.{EveryResidence, EverySaved, Residence}
-use Rattle.core_crash.proofs.core_paging_lemmas.Places.{below}
+use Rattle.core_crash.proofs.core_paging.Places.{below}
 use Rattle.core_calls.specs.LogEvents.{IsTaken, IsTight}
 use Rattle.core_calls.specs.Presses.{EveryPress, IsLoose, KeepsWay, is_load, is_move}
 

@@ -10,8 +10,8 @@ use Rattle.core_crash.specs.core_state.Events.{Event, Mode}
 use Rattle.core_crash.specs.core_state.Local.{publishes_row, is_of}
 use Rattle.core_crash.specs.core_state.Needs.{is_held_by, is_reader, holds_row, may_hold, pages_of, are_hot, needs, may}
 use Rattle.core_crash.specs.core_state.Steps.{locked, unlocked, happens, run, state_after}
-use Rattle.core_crash.proofs.core_state_lemmas.Locality.{every_local}
-use Rattle.core_crash.proofs.core_state_lemmas.Runs.{run_more}
+use Rattle.core_crash.proofs.core_state.Locality.{every_local}
+use Rattle.core_crash.proofs.core_state.Runs.{run_more}
 use Rattle.core_calls.specs.Marks.{Mark, Began, Called, Back, Ended, mark, onto, marks}
 use Rattle.core_calls.specs.Deeds.{Deed, Begun, Got, Changed, Deleted, Absent, Met, Paused, Over, Committed, Aborted, Refused, Synced, Checkpointed, put_backs, marks_of, Unsaid, reads_of, marks_for}
 use Rattle.core_calls.specs.Fronts.{front}

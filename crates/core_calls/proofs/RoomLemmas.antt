@@ -15,7 +15,7 @@ use Rattle.core_crash.specs.core_state.States.{State, Worker, nodes_of, gsns_of}
 use Rattle.core_crash.specs.core_state.Events.{Event}
 use Rattle.core_crash.specs.core_state.Needs.{may, may_split, may_lift, needs, are_hot}
 use Rattle.core_crash.specs.core_state.Steps.{at_pages, page_entry, write_entry, records_in, happens}
-use Rattle.core_crash.proofs.core_commit_lemmas.Events.{names_to}
+use Rattle.core_crash.proofs.core_commit.Events.{names_to}
 use Rattle.core_calls.specs.Room.{is_full_at, full_from, full_run, frees_from, free_list, IsWay, EveryRoom}
 
 -- ## The nodes of the way

@@ -13,7 +13,7 @@ use Rattle.core_crash.specs.core_state.States.{State, start}
 use Rattle.core_crash.specs.core_state.Events.{Event}
 use Rattle.core_crash.specs.core_state.Needs.{may}
 use Rattle.core_crash.specs.core_state.Steps.{happens, synced, run}
-use Rattle.core_crash.proofs.core_state_lemmas.Runs.{run_more}
+use Rattle.core_crash.proofs.core_state.Runs.{run_more}
 use Rattle.core_crash.specs.core_commit.Rises.{EveryRise}
 use Rattle.core_crash.specs.Crashes.{image_of, journal_in, IsRipe}
 use Rattle.map_model.proofs.ListLemmas.{order_has}

@@ -12,8 +12,8 @@ use Rattle.core_crash.specs.core_state.Openings.{Opening, first_map}
 use Rattle.core_crash.specs.core_state.States.{State, start, flushed_by_all}
 use Rattle.core_crash.specs.core_state.Events.{Event}
 use Rattle.core_crash.specs.core_state.Steps.{run}
-use Rattle.core_crash.proofs.core_commit_lemmas.Runs.{good_run, good_start}
-use Rattle.core_crash.proofs.core_commit_lemmas.History.{IsRecorded}
+use Rattle.core_crash.proofs.core_commit.Runs.{good_run, good_start}
+use Rattle.core_crash.proofs.core_commit.History.{IsRecorded}
 use Rattle.core_crash.specs.Crashes.{Recovers, image_of, journal_in, IsRipe, EveryCrash, EverySerial}
 use Rattle.core_calls.specs.Marks.{Mark, Ended, Began, Called, Back}
 use Rattle.core_calls.specs.Deeds.{Outcome, marks_by, commits, Answers, transcript}

@@ -19,8 +19,6 @@ ghost use Rattle.core_calls.specs.Rows.{Rows, WorkedRoom};
 ghost use Rattle.core_calls.specs.Told.{EveryTold};
 ghost use Rattle.core_calls.specs.Warms.{EveryWarm};
 
-use core_crash::{core_commit, core_paging};
-
 /// The journal that the outcomes of lines tell is the core's: it is serial, and what an image keeps of it is closed and
 /// holds each ripe one.
 pub fn every_told()
@@ -42,7 +40,7 @@ pub fn every_run()
 pub fn every_durable()
     ensures { EveryDurable }
 {
-    core_commit::every_rise();
+    core_crash::every_rise();
     every_told();
 }
 
@@ -51,7 +49,7 @@ pub fn every_durable()
 pub fn every_commit()
     ensures { EveryCommit }
 {
-    core_commit::every_rise();
+    core_crash::every_rise();
 }
 
 /// Scripts by hand, each line with its events.
@@ -124,7 +122,7 @@ pub fn every_finish()
 pub fn every_round_synced()
     ensures { EveryRoundSynced }
 {
-    core_commit::every_rise();
+    core_crash::every_rise();
     every_told();
 }
 
@@ -171,8 +169,8 @@ pub fn every_where()
 pub fn every_press()
     ensures { EveryPress }
 {
-    core_paging::every_residence();
-    core_paging::every_saved();
+    core_crash::every_residence();
+    core_crash::every_saved();
 }
 
 /// A put by hand that finds no frame: where the sync stands, where it may not, and that nothing helps without it.
@@ -218,10 +216,10 @@ pub fn every_released()
 pub fn every_alone()
     ensures { EveryAlone }
 {
-    core_commit::every_need();
-    core_commit::every_holder();
-    core_commit::every_floor();
-    core_commit::every_rise();
+    core_crash::every_need();
+    core_crash::every_holder();
+    core_crash::every_floor();
+    core_crash::every_rise();
     every_durable();
     every_commit();
 }

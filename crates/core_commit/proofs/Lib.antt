@@ -15,5 +15,5 @@ pub mod RiseLemmas
 pub mod FloorLemmas
 pub mod HolderLemmas
 -- Passed on to the crates above.
-pub use Rattle.core_state.proofs as core_state_lemmas
-pub use Rattle.core_state.proofs.image_model_lemmas as image_model_lemmas
+pub use Rattle.core_state.proofs as core_state
+pub use Rattle.core_state.proofs.image_model as image_model

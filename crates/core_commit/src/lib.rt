@@ -10,7 +10,7 @@ ghost use Rattle.core_commit.specs.Floors.{EveryFloor};
 ghost use Rattle.core_commit.specs.Holders.{EveryHolder};
 
 // Passed on to the crates above.
-pub use core_state::image_model;
+pub use core_state::every_undone;
 
 /// An end needs the greatest number of another log that its worker ever touched, was remote then, and is above what the
 /// worker found flushed everywhere; and nothing where there is none.

@@ -11,12 +11,12 @@ use Rattle.core_paging.specs.core_state.States.{State, Worker, flushed_by_all, g
 use Rattle.core_paging.specs.core_state.Events.{Event}
 use Rattle.core_paging.specs.core_state.Needs.{is_held_by}
 use Rattle.core_paging.specs.core_state.Steps.{at_pages, end_entry, follows, happens, moves, page_entry, put_back, read_entry, state_after, step, reads, refs_of, write_entry, writes}
-use Rattle.core_paging.proofs.core_state_lemmas.Runs.{run_more}
+use Rattle.core_paging.proofs.core_state.Runs.{run_more}
 use Rattle.core_paging.specs.core_commit.Rises.{EveryRise}
-use Rattle.core_paging.proofs.core_commit_lemmas.History.{Recorded, IsRecorded, number_le_gsn}
-use Rattle.core_paging.proofs.core_commit_lemmas.Invariants.{Inv}
-use Rattle.core_paging.proofs.core_commit_lemmas.Lists.{Within, each_at, has_before, least_le}
-use Rattle.core_paging.proofs.core_commit_lemmas.Runs.{Good, good_run, good_start, good_step, step_keeps}
+use Rattle.core_paging.proofs.core_commit.History.{Recorded, IsRecorded, number_le_gsn}
+use Rattle.core_paging.proofs.core_commit.Invariants.{Inv}
+use Rattle.core_paging.proofs.core_commit.Lists.{Within, each_at, has_before, least_le}
+use Rattle.core_paging.proofs.core_commit.Runs.{Good, good_run, good_start, good_step, step_keeps}
 use Rattle.core_paging.specs.Paging.{EveryResidence}
 use Rattle.core_covers.specs.Changes.{EveryChange, HasChanges}
 use Rattle.core_covers.specs.Highs.{written_in}

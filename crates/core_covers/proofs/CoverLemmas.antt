@@ -12,9 +12,9 @@ use Rattle.core_paging.specs.core_state.Events.{Event}
 use Rattle.core_paging.specs.core_state.Needs.{are_hot, is_inside, needs, pages_of}
 use Rattle.core_paging.specs.core_state.Steps.{follows, happens, put_back, state_after, step, with_pairs}
 use Rattle.core_paging.specs.core_commit.Rises.{EveryRise}
-use Rattle.core_paging.proofs.core_commit_lemmas.Copies.{at_place}
-use Rattle.core_paging.proofs.core_commit_lemmas.Lists.{le_least}
-use Rattle.core_paging.proofs.core_commit_lemmas.Runs.{load_cold, step_keeps}
+use Rattle.core_paging.proofs.core_commit.Copies.{at_place}
+use Rattle.core_paging.proofs.core_commit.Lists.{le_least}
+use Rattle.core_paging.proofs.core_commit.Runs.{load_cold, step_keeps}
 use Rattle.core_covers.specs.Changes.{EveryChange, HasChanges}
 use Rattle.core_covers.specs.Covers.{AreCovers, EveryBaseCover, EveryCover, IsCovered, IsSettled, IsShardSaved, shard_of}
 use Rattle.core_covers.proofs.ChangeLemmas.{has_more, state_then}

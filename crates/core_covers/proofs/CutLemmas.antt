@@ -10,9 +10,9 @@ use Rattle.core_paging.specs.core_state.States.{State, flushed_by_all}
 use Rattle.core_paging.specs.core_state.Events.{Event}
 use Rattle.core_paging.specs.core_state.Needs.{is_ripe_end, is_ripe_up_to, is_saved_up_to}
 use Rattle.core_paging.specs.core_state.Steps.{state_after}
-use Rattle.core_paging.proofs.core_commit_lemmas.History.{EndOf, ref_touch, same_from, same_to}
-use Rattle.core_paging.proofs.core_commit_lemmas.Invariants.{Inv}
-use Rattle.core_paging.proofs.core_commit_lemmas.Lists.{Within, least_le}
+use Rattle.core_paging.proofs.core_commit.History.{EndOf, ref_touch, same_from, same_to}
+use Rattle.core_paging.proofs.core_commit.Invariants.{Inv}
+use Rattle.core_paging.proofs.core_commit.Lists.{Within, least_le}
 use Rattle.core_covers.specs.Changes.{EveryChange, HasChanges}
 use Rattle.core_covers.specs.Cuts.{EveryCutMet, EveryCutNumber}
 use Rattle.core_covers.specs.Lows.{IsAllFlushed}

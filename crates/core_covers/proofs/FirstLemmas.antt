@@ -9,8 +9,8 @@ use Rattle.core_paging.specs.core_state.States.{State, Worker, flushed_by_all}
 use Rattle.core_paging.specs.core_state.Events.{Event}
 use Rattle.core_paging.specs.core_state.Needs.{may}
 use Rattle.core_paging.specs.core_state.Steps.{begun, finished, happens, state_after}
-use Rattle.core_paging.proofs.core_commit_lemmas.History.{IsRecorded}
-use Rattle.core_paging.proofs.core_commit_lemmas.Invariants.{Inv}
+use Rattle.core_paging.proofs.core_commit.History.{IsRecorded}
+use Rattle.core_paging.proofs.core_commit.Invariants.{Inv}
 use Rattle.core_covers.proofs.ChangeLemmas.{good, state_then}
 use Rattle.core_covers.specs.Firsts.{EveryFirst, EveryFirstStep, IsNotBeforeFirst, first_of, is_own, oldest, or_else}
 

@@ -9,9 +9,9 @@ use Rattle.core_paging.specs.core_state.States.{State, flushed_by_all}
 use Rattle.core_paging.specs.core_state.Events.{Event}
 use Rattle.core_paging.specs.core_state.Steps.{state_after, step}
 use Rattle.core_paging.specs.core_commit.Rises.{EveryRise}
-use Rattle.core_paging.proofs.core_commit_lemmas.Events.{touch_has}
-use Rattle.core_paging.proofs.core_commit_lemmas.History.{page_at, page_miss}
-use Rattle.core_paging.proofs.core_commit_lemmas.Runs.{Good, good_step}
+use Rattle.core_paging.proofs.core_commit.Events.{touch_has}
+use Rattle.core_paging.proofs.core_commit.History.{page_at, page_miss}
+use Rattle.core_paging.proofs.core_commit.Runs.{Good, good_step}
 use Rattle.core_covers.specs.Highs.{EveryHigh, is_above, pages_above, written_in, writes}
 use Rattle.core_covers.specs.Lows.{EveryLow, IsAllFlushed}
 use Rattle.core_covers.proofs.ChangeLemmas.{Enters, enters_step, good, state_then}

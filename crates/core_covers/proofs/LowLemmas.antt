@@ -11,12 +11,12 @@ use Rattle.core_paging.specs.core_state.Events.{Event}
 use Rattle.core_paging.specs.core_state.Needs.{is_behind, may}
 use Rattle.core_paging.specs.core_state.Steps.{begun, happens, state_after}
 use Rattle.core_paging.specs.core_commit.Rises.{EveryRise}
-use Rattle.core_paging.proofs.core_commit_lemmas.Controls.{le_most}
-use Rattle.core_paging.proofs.core_commit_lemmas.Copies.{at_place}
-use Rattle.core_paging.proofs.core_commit_lemmas.History.{page_at}
-use Rattle.core_paging.proofs.core_commit_lemmas.Invariants.{Inv, base_flushed}
-use Rattle.core_paging.proofs.core_commit_lemmas.Lists.{le_least}
-use Rattle.core_paging.proofs.core_commit_lemmas.Runs.{step_keeps}
+use Rattle.core_paging.proofs.core_commit.Controls.{le_most}
+use Rattle.core_paging.proofs.core_commit.Copies.{at_place}
+use Rattle.core_paging.proofs.core_commit.History.{page_at}
+use Rattle.core_paging.proofs.core_commit.Invariants.{Inv, base_flushed}
+use Rattle.core_paging.proofs.core_commit.Lists.{le_least}
+use Rattle.core_paging.proofs.core_commit.Runs.{step_keeps}
 use Rattle.core_covers.specs.Lows.{EveryLow, EverySync, IsAllFlushed, raises_clock}
 use Rattle.core_covers.proofs.ChangeLemmas.{good, recorded, state_then}
 

@@ -7,8 +7,8 @@ use Rattle.core_paging.specs.core_state.States.{Place, State, in_frame, start}
 use Rattle.core_paging.specs.core_state.Events.{Event}
 use Rattle.core_paging.specs.core_state.Needs.{is_dirty, may}
 use Rattle.core_paging.specs.core_state.Steps.{AllMet, happens, run, state_after, step}
-use Rattle.core_paging.proofs.core_state_lemmas.Runs.{run_more}
-use Rattle.core_paging.proofs.core_commit_lemmas.Copies.{at_place}
+use Rattle.core_paging.proofs.core_state.Runs.{run_more}
+use Rattle.core_paging.proofs.core_commit.Copies.{at_place}
 use Rattle.core_covers.specs.Changes.{EveryChange}
 use Rattle.core_covers.specs.Covers.{EveryIncrement, saves}
 

@@ -11,14 +11,12 @@ ghost use Rattle.core_covers.specs.Firsts.{EveryFirst, EveryFirstStep};
 ghost use Rattle.core_covers.specs.Highs.{EveryHigh};
 ghost use Rattle.core_covers.specs.Lows.{EveryLow, EverySync};
 
-use core_paging::core_commit;
-
 /// Which contents of a page have its changes up to a number, and that they have them from then on.
 pub fn every_change()
     ensures { EveryChange }
 {
     core_paging::every_residence();
-    core_commit::every_rise();
+    core_paging::every_rise();
 }
 
 /// Covers last, and rise where a shard was saved and the pages were synced.
@@ -26,7 +24,7 @@ pub fn every_cover()
     ensures { EveryCover }
 {
     every_change();
-    core_commit::every_rise();
+    core_paging::every_rise();
 }
 
 /// Where a run begins, each cover is the base number.
@@ -75,7 +73,7 @@ pub fn every_sync()
     ensures { EverySync }
 {
     every_low();
-    core_commit::every_rise();
+    core_paging::every_rise();
 }
 
 /// No page is above what is flushed everywhere behind a sync, and no more come than are written in.
@@ -83,5 +81,5 @@ pub fn every_high()
     ensures { EveryHigh }
 {
     every_low();
-    core_commit::every_rise();
+    core_paging::every_rise();
 }

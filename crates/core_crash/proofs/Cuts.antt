@@ -10,13 +10,13 @@ use Rattle.core_paging.specs.image_model.Redo.{passes, Redone, redo_one, redo}
 use Rattle.core_crash.proofs.Words.{Tested, tested, found, is_cut, there, recovered, Done, committed, done_earlier, journal, after, wins, kept, IsClosed, Stands}
 use Rattle.map_model.specs.Lists.{in_order}
 use Rattle.core_paging.specs.image_model.Ends.{greatest, reach, ends, ended}
-use Rattle.core_paging.proofs.core_commit_lemmas.KindFacts.{end_is_record, write_is_no_end}
+use Rattle.core_paging.proofs.core_commit.KindFacts.{end_is_record, write_is_no_end}
 use Rattle.page_model.specs.Nodes.{Node}
 use Rattle.page_model.specs.Tree.{IsTree}
 use Rattle.core_paging.specs.core_state.Openings.{Opening, first}
-use Rattle.core_paging.proofs.core_commit_lemmas.Lists.{has_before, before_has, each_at, le_least}
+use Rattle.core_paging.proofs.core_commit.Lists.{has_before, before_has, each_at, le_least}
 use Rattle.map_model.proofs.ListLemmas.{any_has, has_any, keep_has, has_keep, order_has}
-use Rattle.core_paging.proofs.core_commit_lemmas.History.{EndOf, SameTxn, same_to, Recorded, IsRecorded, IsHistory, records_of, nodes}
+use Rattle.core_paging.proofs.core_commit.History.{EndOf, SameTxn, same_to, Recorded, IsRecorded, IsHistory, records_of, nodes}
 use Rattle.core_crash.proofs.Ends.{Cut, is_ended, ended_from, behind_end, one_end}
 use Rattle.core_crash.proofs.Redo.{CountsAre, counts_are, entry_left, Had, Placed, placed_before, redo_passes, redoes, virtual, virtual_parted, redone, redone_found, redone_lost, at_prev_no, redo_stays, counts_here, counts_else}
 use Rattle.core_crash.proofs.Undo.{redo_sorted, tested_sorted, tested_done, stands_local, redo_local, redo_off, undo_keep_found, undo_keep_lost, recovered_unsorted}

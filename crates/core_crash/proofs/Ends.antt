@@ -8,11 +8,11 @@ use Rattle.core_paging.specs.image_model.Entries.{Entry, touches, is_call, is_wr
 use Rattle.core_paging.specs.core_state.Steps.{claims}
 use Rattle.core_paging.specs.core_state.Openings.{Opening}
 use Rattle.core_crash.proofs.Words.{found}
-use Rattle.core_paging.proofs.core_commit_lemmas.KindFacts.{write_claims, end_is_record, write_is_record, write_is_no_end, call_is_no_end}
+use Rattle.core_paging.proofs.core_commit.KindFacts.{write_claims, end_is_record, write_is_record, write_is_no_end, call_is_no_end}
 use Rattle.core_paging.specs.image_model.Ends.{greatest, reach, ends, ended}
-use Rattle.core_paging.proofs.core_commit_lemmas.Lists.{Within, Before, has_before, before_has, behind_has, least_le, le_least, each_at}
+use Rattle.core_paging.proofs.core_commit.Lists.{Within, Before, has_before, before_has, behind_has, least_le, le_least, each_at}
 use Rattle.map_model.proofs.ListLemmas.{any_has, has_any, keep_has, has_keep, all_of}
-use Rattle.core_paging.proofs.core_commit_lemmas.History.{SameTxn, same_from, same_to, Covered, EndOf, Closes, Recorded, IsRecorded, compare, PagesCovered, page_at, page_hit, page_miss, ref_touch, each_behind}
+use Rattle.core_paging.proofs.core_commit.History.{SameTxn, same_from, same_to, Covered, EndOf, Closes, Recorded, IsRecorded, compare, PagesCovered, page_at, page_hit, page_miss, ref_touch, each_behind}
 
 -- What is known of a crash: F and the reach R, and that all records up to the reach are there.
 pub record Cut (g : Opening) (F R : ℕ) (up_to : ℕ → ℕ) (h : List Entry) : Type 0 where

@@ -17,13 +17,13 @@ use Rattle.core_paging.specs.core_state.Events.{Event}
 use Rattle.core_paging.specs.core_state.Steps.{run}
 use Rattle.core_crash.specs.Crashes.{log_of, IsPrefix, Leaves, from_head}
 use Rattle.core_paging.specs.image_model.Images.{gathered}
-use Rattle.core_paging.proofs.core_commit_lemmas.Lists.{Within, Each, has_before, each_at}
+use Rattle.core_paging.proofs.core_commit.Lists.{Within, Each, has_before, each_at}
 use Rattle.map_model.proofs.ListLemmas.{any_has, has_any, keep_has, has_keep, insert_has, order_has, has_order, has_cases, has_left, has_right}
-use Rattle.core_paging.proofs.core_commit_lemmas.History.{Recorded, IsRecorded}
+use Rattle.core_paging.proofs.core_commit.History.{Recorded, IsRecorded}
 use Rattle.core_crash.proofs.Ends.{le_greatest, found_from, found_to}
 use Rattle.core_crash.proofs.Cuts.{keep_same, same_bool}
-use Rattle.core_paging.proofs.core_commit_lemmas.Invariants.{Inv}
-use Rattle.core_paging.proofs.core_commit_lemmas.Runs.{good_run, good_start}
+use Rattle.core_paging.proofs.core_commit.Invariants.{Inv}
+use Rattle.core_paging.proofs.core_commit.Runs.{good_run, good_start}
 use Rattle.core_crash.proofs.Main.{every_crash}
 use mathlib.Core.Path.{fun_ext}
 

@@ -5,14 +5,14 @@ use Rattle.map_model.specs.Lists.{upd, keep, any, Has}
 use Rattle.core_paging.specs.image_model.Entries.{Entry, Kind, is_write, is_end, is_commit, same_txn}
 use Rattle.core_paging.specs.core_state.Openings.{first, Opening}
 use Rattle.core_crash.proofs.Words.{found, Done, calls_of, committed, write_all, after, wins}
-use Rattle.core_paging.proofs.core_commit_lemmas.KindFacts.{write_claims, write_is_call, write_is_record, write_is_no_end}
+use Rattle.core_paging.proofs.core_commit.KindFacts.{write_claims, write_is_call, write_is_record, write_is_no_end}
 use Rattle.core_paging.specs.image_model.Entries.Kind.{Change, Put_back, Split, Lift, Join, Drop, Purge, Read, Commit, Abort}
-use Rattle.core_paging.proofs.core_commit_lemmas.Lists.{Before, has_before, before_has, behind_has, each_at, pick, Newest, NoneOf, newest, newest_before, newest_holds, newest_first, newest_from, pick_newest, pick_none}
+use Rattle.core_paging.proofs.core_commit.Lists.{Before, has_before, before_has, behind_has, each_at, pick, Newest, NoneOf, newest, newest_before, newest_holds, newest_first, newest_from, pick_newest, pick_none}
 use Rattle.map_model.proofs.ListLemmas.{any_has, has_any, keep_has, has_keep, upd_same, upd_other}
 use Rattle.core_crash.proofs.Order.{fold_up}
-use Rattle.core_paging.proofs.core_commit_lemmas.History.{SameTxn, same_to, same_from, EndOf, Closes, Recorded, Entered, IsHistory, history_pick, history_value, not_by, without, before_trans, each_behind}
+use Rattle.core_paging.proofs.core_commit.History.{SameTxn, same_to, same_from, EndOf, Closes, Recorded, Entered, IsHistory, history_pick, history_value, not_by, without, before_trans, each_behind}
 use Rattle.core_crash.proofs.Ends.{Cut, Ended, is_ended, ended_to, ended_from, ended_rows, behind_end, one_end}
-use Rattle.core_paging.proofs.core_commit_lemmas.Nodes.{key_parts, on_key}
+use Rattle.core_paging.proofs.core_commit.Nodes.{key_parts, on_key}
 use Rattle.core_crash.proofs.Undo.{stays, lasting}
 
 pub commit_is_end : (k : Kind) → is_commit k ≡ true → is_end k ≡ true

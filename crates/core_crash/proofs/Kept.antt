@@ -3,17 +3,17 @@ use Rattle.std.proofs.Common.{◌≡◌, ℕ, ◌≤◌, ◌<◌, Bool, true, fa
 use Rattle.std.proofs.lemmas.Bool.{cases_Bool, cases_eq, eq-eqb, ne_eqb, or_cases}
 use Rattle.core_crash.proofs.Words.{recovered, found, Done, calls_of, committed, done_earlier, journal, write_all, after, wins, IsClosed}
 use Rattle.core_paging.specs.image_model.Ends.{reach}
-use Rattle.core_paging.proofs.core_commit_lemmas.KindFacts.{write_claims, end_is_record, write_is_call}
-use Rattle.core_paging.proofs.core_commit_lemmas.Nodes.{key_parts}
+use Rattle.core_paging.proofs.core_commit.KindFacts.{write_claims, end_is_record, write_is_call}
+use Rattle.core_paging.proofs.core_commit.Nodes.{key_parts}
 use Rattle.core_paging.specs.image_model.Entries.{Contents, earlier, Entry, is_call, is_write, is_commit, same_txn}
 use Rattle.map_model.specs.Lists.{upd, keep, any, Has}
 use Rattle.core_paging.specs.core_state.Steps.{claims}
 use Rattle.core_paging.specs.core_state.Openings.{first, Opening}
-use Rattle.core_paging.proofs.core_commit_lemmas.Lists.{Before, before_has, behind_has}
+use Rattle.core_paging.proofs.core_commit.Lists.{Before, before_has, behind_has}
 use Rattle.map_model.proofs.ListLemmas.{any_has, keep_has, has_keep, order_has}
 use Rattle.core_crash.proofs.Order.{Swaps, Apart, fold_up_order}
-use Rattle.core_paging.proofs.core_commit_lemmas.History.{SameTxn, same_to, IsHistory, compare}
-use Rattle.core_paging.proofs.core_commit_lemmas.Nodes.{on_key}
+use Rattle.core_paging.proofs.core_commit.History.{SameTxn, same_to, IsHistory, compare}
+use Rattle.core_paging.proofs.core_commit.Nodes.{on_key}
 use Rattle.core_crash.proofs.Ends.{Cut, is_ended, ended_to, ended_from, ended_rows, one_end, found_from}
 use Rattle.core_crash.proofs.Redo.{Had}
 use Rattle.core_crash.proofs.Undo.{earlier_le, lasting, recovered_lasting}

@@ -14,7 +14,6 @@ pub mod Recovery
 pub mod ByHand
 pub mod Reopening
 -- Passed on to the crates above.
-pub use Rattle.core_paging.proofs as core_paging_lemmas
-pub use Rattle.core_paging.proofs.core_commit_lemmas as core_commit_lemmas
-pub use Rattle.core_paging.proofs.core_state_lemmas as core_state_lemmas
-pub use Rattle.core_paging.proofs.image_model_lemmas as image_model_lemmas
+pub use Rattle.core_paging.proofs as core_paging
+pub use Rattle.core_paging.proofs.core_commit as core_commit
+pub use Rattle.core_paging.proofs.core_state as core_state

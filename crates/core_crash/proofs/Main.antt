@@ -10,17 +10,17 @@ use Rattle.core_paging.specs.core_state.Events.{Event}
 use Rattle.core_paging.specs.core_state.Steps.{follows, happens, step, run, put_back}
 use Rattle.core_crash.proofs.Words.{found, is_cut, EveryCrash, Done, committed, done_earlier, journal, IsRipe}
 use Rattle.core_paging.specs.image_model.Ends.{reach}
-use Rattle.core_paging.proofs.core_commit_lemmas.KindFacts.{end_is_record}
-use Rattle.core_paging.proofs.core_commit_lemmas.Lists.{Within, has_before, before_has, each_at}
+use Rattle.core_paging.proofs.core_commit.KindFacts.{end_is_record}
+use Rattle.core_paging.proofs.core_commit.Lists.{Within, has_before, before_has, each_at}
 use Rattle.core_paging.specs.core_state.Steps.{HasBeen}
 use Rattle.map_model.proofs.ListLemmas.{order_has}
-use Rattle.core_paging.proofs.core_commit_lemmas.History.{Recorded, page_at}
+use Rattle.core_paging.proofs.core_commit.History.{Recorded, page_at}
 use Rattle.core_crash.proofs.Ends.{Cut, reach_all, F_reach, ended_from, found_from}
 use Rattle.core_crash.proofs.Redo.{Had}
 use Rattle.core_crash.proofs.Journal.{stood}
 use Rattle.core_crash.proofs.Cuts.{CutOff, stands_for, ripe_kept}
-use Rattle.core_paging.proofs.core_commit_lemmas.Invariants.{Inv}
-use Rattle.core_paging.proofs.core_commit_lemmas.Runs.{Good, step_keeps, good_step, good_run, good_start}
+use Rattle.core_paging.proofs.core_commit.Invariants.{Inv}
+use Rattle.core_paging.proofs.core_commit.Runs.{Good, step_keeps, good_step, good_run, good_start}
 
 had_now : (g : Opening) (h : List Entry) (p : ℕ) → Had g h p (page_at g h p)
 had_now g [] p = refl

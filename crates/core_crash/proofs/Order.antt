@@ -2,7 +2,7 @@
 use Rattle.std.proofs.Common.{◌≡◌, Bool, true, false, cond, List, [], ◌∷◌, refl, sym, ap, ◌∙◌, inl, inr}
 use Rattle.map_model.specs.Lists.{Has}
 use Rattle.map_model.specs.Lists.{insert_by, in_order}
-use Rattle.core_paging.proofs.core_commit_lemmas.Lists.{Each}
+use Rattle.core_paging.proofs.core_commit.Lists.{Each}
 use Rattle.map_model.proofs.ListLemmas.{order_has}
 
 -- the last of the list first

@@ -11,12 +11,12 @@ use Rattle.page_model.specs.Nodes.{Format}
 use Rattle.core_paging.specs.core_state.States.{State, start, flushed_by_all}
 use Rattle.core_paging.specs.core_state.Openings.{first, first_map}
 use Rattle.core_paging.specs.core_state.Steps.{run}
-use Rattle.core_paging.proofs.core_commit_lemmas.Lists.{has_before, before_has}
+use Rattle.core_paging.proofs.core_commit.Lists.{has_before, before_has}
 use Rattle.map_model.proofs.ListLemmas.{keep_has, has_keep, order_has}
-use Rattle.core_paging.proofs.core_commit_lemmas.History.{SameTxn, same_from}
-use Rattle.core_paging.proofs.core_commit_lemmas.KindFacts.{write_claims, claims_call, call_is_no_end}
-use Rattle.core_paging.proofs.core_commit_lemmas.Invariants.{Inv}
-use Rattle.core_paging.proofs.core_commit_lemmas.Runs.{good_run, good_start}
+use Rattle.core_paging.proofs.core_commit.History.{SameTxn, same_from}
+use Rattle.core_paging.proofs.core_commit.KindFacts.{write_claims, claims_call, call_is_no_end}
+use Rattle.core_paging.proofs.core_commit.Invariants.{Inv}
+use Rattle.core_paging.proofs.core_commit.Runs.{good_run, good_start}
 use Rattle.core_crash.specs.Crashes.{Follows, from_head, image_of, journal_in, kept_in, IsRipe, EveryCrash, EveryStored, EverySerial}
 use Rattle.core_paging.proofs.Laws.{every_saved}
 use Rattle.core_crash.proofs.Words as words

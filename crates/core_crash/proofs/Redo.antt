@@ -15,10 +15,10 @@ use Rattle.page_model.specs.Records.{Ref, Record}
 use Rattle.core_paging.specs.core_state.Openings.{Opening, start_page}
 use Rattle.page_model.specs.Nodes.{Format, Node}
 use Rattle.page_model.specs.Tree.{lookup, IsTree}
-use Rattle.core_paging.proofs.core_commit_lemmas.Lists.{Before, before_has, Each, each_map_has}
+use Rattle.core_paging.proofs.core_commit.Lists.{Before, before_has, Each, each_map_has}
 use Rattle.map_model.proofs.ListLemmas.{any_has, has_any, upd_same, upd_other, all_to, all_of, all_same}
-use Rattle.core_paging.proofs.core_commit_lemmas.Nodes.{fits_entry, entry_stays, on_key, Fits, moved_on, fits_local, fits_parted, fits_on, fits_off, fits_before}
-use Rattle.core_paging.proofs.core_commit_lemmas.History.{EndOf, Recorded, IsRecorded, Entered, IsHistory, records_of, page_at, page_hit, page_miss, gsn_rises, nodes, touch_ref, ref_touch, history_parted}
+use Rattle.core_paging.proofs.core_commit.Nodes.{fits_entry, entry_stays, on_key, Fits, moved_on, fits_local, fits_parted, fits_on, fits_off, fits_before}
+use Rattle.core_paging.proofs.core_commit.History.{EndOf, Recorded, IsRecorded, Entered, IsHistory, records_of, page_at, page_hit, page_miss, gsn_rises, nodes, touch_ref, ref_touch, history_parted}
 use Rattle.core_crash.proofs.Ends.{whole, counting, whole_hit, whole_miss, whole_low}
 use mathlib.Core.Path.{fun_ext}
 

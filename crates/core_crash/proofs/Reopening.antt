@@ -6,16 +6,16 @@ use Rattle.page_model.proofs.Needs as page_needs
 use Rattle.core_paging.specs.image_model.Entries.{Kind, Entry, is_write, is_page, is_record, page_kind}
 use Rattle.core_paging.specs.image_model.Redo.{is_sayable_as}
 use Rattle.core_paging.specs.image_model.Images.{Image, found, sorted, recovered_page}
-use Rattle.core_paging.proofs.image_model_lemmas.UndoLemmas.{every_undone}
+use Rattle.core_paging.proofs.image_model.UndoLemmas.{every_undone}
 use Rattle.core_paging.specs.image_model.Laws.{UndoneLaws}
 use Rattle.core_paging.specs.core_state.States.{State, start, flushed_by_all}
 use Rattle.core_paging.specs.core_state.Openings.{Opening}
 use Rattle.core_paging.specs.core_state.Steps.{run}
-use Rattle.core_paging.proofs.core_commit_lemmas.Lists.{has_before, each_at}
+use Rattle.core_paging.proofs.core_commit.Lists.{has_before, each_at}
 use Rattle.map_model.proofs.ListLemmas.{keep_has, order_has, has_right}
-use Rattle.core_paging.proofs.core_commit_lemmas.History.{Entered, IsHistory, page_at, nodes, history_parted, each_behind}
-use Rattle.core_paging.proofs.core_commit_lemmas.Invariants.{Inv}
-use Rattle.core_paging.proofs.core_commit_lemmas.Runs.{good_run, good_start}
+use Rattle.core_paging.proofs.core_commit.History.{Entered, IsHistory, page_at, nodes, history_parted, each_behind}
+use Rattle.core_paging.proofs.core_commit.Invariants.{Inv}
+use Rattle.core_paging.proofs.core_commit.Runs.{good_run, good_start}
 use Rattle.core_crash.specs.Crashes.{from_head, image_of, EveryReopening}
 use Rattle.core_crash.proofs.Redo.{sayable}
 use Rattle.core_crash.proofs.Images.{gathered_has}

@@ -5,23 +5,23 @@ use Rattle.map_model.specs.Lists.{any, keep, Has}
 use Rattle.core_paging.specs.image_model.Entries.{earlier, Entry, is_call, is_write, is_end, is_commit, same_txn}
 use Rattle.map_model.specs.Lists.{in_order, insert_by}
 use Rattle.core_crash.proofs.Words.{found, Lawful, Serial, Done, calls_of, committed, done_earlier, write_all, after, wins, EverySerial, EveryLegal}
-use Rattle.core_paging.proofs.core_commit_lemmas.History.{answer, history_pick}
-use Rattle.core_paging.proofs.core_commit_lemmas.KindFacts.{write_claims, write_is_record, write_is_call, end_is_record}
-use Rattle.core_paging.proofs.core_commit_lemmas.Nodes.{key_parts}
+use Rattle.core_paging.proofs.core_commit.History.{answer, history_pick}
+use Rattle.core_paging.proofs.core_commit.KindFacts.{write_claims, write_is_record, write_is_call, end_is_record}
+use Rattle.core_paging.proofs.core_commit.Nodes.{key_parts}
 use Rattle.core_paging.specs.core_state.States.{State, start, flushed_by_all}
 use Rattle.core_paging.specs.core_state.Openings.{Opening, first}
 use Rattle.core_paging.specs.core_state.Steps.{run}
-use Rattle.core_paging.proofs.core_commit_lemmas.Lists.{pick, Each, Before, has_before, before_has, behind_has, each_at, Newest, NoneOf, newest, newest_before, newest_holds, newest_first, newest_from, pick_newest, pick_none}
+use Rattle.core_paging.proofs.core_commit.Lists.{pick, Each, Before, has_before, before_has, behind_has, each_at, Newest, NoneOf, newest, newest_before, newest_holds, newest_first, newest_from, pick_newest, pick_none}
 use Rattle.map_model.proofs.ListLemmas.{any_has, has_any, keep_has, order_has}
 use Rattle.core_crash.proofs.Order.{fold_up, Swaps, Apart, fold_up_insert, fold_up_order}
-use Rattle.core_paging.proofs.core_commit_lemmas.Nodes.{on_key}
-use Rattle.core_paging.proofs.core_commit_lemmas.History.{SameTxn, same_to, same_from, EndOf, Recorded, IsRecorded, Entered, IsHistory, records_of, history_value, before_trans}
+use Rattle.core_paging.proofs.core_commit.Nodes.{on_key}
+use Rattle.core_paging.proofs.core_commit.History.{SameTxn, same_to, same_from, EndOf, Recorded, IsRecorded, Entered, IsHistory, records_of, history_value, before_trans}
 use Rattle.core_crash.proofs.Ends.{Cut, is_ended, ended_to, ended_from, one_end, found_from}
 use Rattle.core_crash.proofs.Undo.{earlier_le, lasting, stays}
 use Rattle.core_crash.proofs.Journal.{key_from, same_row, flip, chain, write_pick, apply_one, stood, Stood, commit_is_end, won, lasting_settled, settled_applied, history_newest}
 use Rattle.core_crash.proofs.Kept.{hits, write_miss, write_hit, apply_swaps}
-use Rattle.core_paging.proofs.core_commit_lemmas.Invariants.{Inv}
-use Rattle.core_paging.proofs.core_commit_lemmas.Runs.{good_run, good_start}
+use Rattle.core_paging.proofs.core_commit.Invariants.{Inv}
+use Rattle.core_paging.proofs.core_commit.Runs.{good_run, good_start}
 
 -- ## Transactions that use no key that the other writes
 
@@ -196,7 +196,7 @@ module _ (g : Opening) (F : ℕ) (b : List Entry) (hist : IsHistory g F b) where
 
         -- a write that stays stands behind r
         behind : (x : Entry) (bx : List Entry) → Before x bx b → stays N (λ _. N) b r.key x bx ≡ true → Before x bx c
-        behind x bx px s = where_is (Rattle.core_paging.proofs.core_commit_lemmas.History.compare b x bx r c px pr)
+        behind x bx px s = where_is (Rattle.core_paging.proofs.core_commit.History.compare b x bx r c px pr)
           where
             sp : (on_key r.key x ≡ true) × (is_ended N (λ _. N) b x ≡ true)
             sp = and_parts (on_key r.key x) (is_ended N (λ _. N) b x) s

@@ -13,8 +13,8 @@ use Rattle.page_model.specs.Nodes.{Format}
 use Rattle.page_model.specs.Tree.{entry}
 use Rattle.core_paging.specs.core_state.Openings.{Opening, first, first_map}
 use Rattle.map_model.proofs.ListLemmas.{upd_same, upd_other}
-use Rattle.core_paging.proofs.core_commit_lemmas.History.{answer}
-use Rattle.core_paging.proofs.core_commit_lemmas.Says.{said_word, write_here, write_else}
+use Rattle.core_paging.proofs.core_commit.History.{answer}
+use Rattle.core_paging.proofs.core_commit.Says.{said_word, write_here, write_else}
 use Rattle.core_crash.proofs.Words.{Done, calls_of, committed, done_earlier, journal, write_all, after, kept, wins, Lawful, Serial}
 use Rattle.core_crash.proofs.Cuts.{keep_same}
 use Rattle.std.proofs.Common.{◌≡◌, ℕ, Bool, true, false, cond, ◌&&◌, ◌||◌, leb, ltb, ◌==◌, List, [], ◌∷◌, ◌⊎◌, Option, refl, sym, ap, ap₂, ◌∙◌, inl, inr, true≢false}

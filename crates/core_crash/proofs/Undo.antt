@@ -10,13 +10,13 @@ use Rattle.core_crash.proofs.Words.{Tested, test_one, tested, found, recovered}
 use Rattle.map_model.specs.Lists.{in_order}
 use Rattle.core_paging.specs.image_model.Ends.{reach, ended}
 use Rattle.core_paging.specs.image_model.Undo.{undo_one, undo, values, is_lost}
-use Rattle.core_paging.proofs.core_commit_lemmas.KindFacts.{write_is_call, end_is_record, write_is_record, write_is_no_end}
+use Rattle.core_paging.proofs.core_commit.KindFacts.{write_is_call, end_is_record, write_is_record, write_is_no_end}
 use Rattle.core_paging.specs.core_state.Openings.{Opening, first}
-use Rattle.core_paging.proofs.core_commit_lemmas.Lists.{each_at, has_before, before_has, Each, Before, upd_comm, pick}
+use Rattle.core_paging.proofs.core_commit.Lists.{each_at, has_before, before_has, Each, Before, upd_comm, pick}
 use Rattle.map_model.proofs.ListLemmas.{keep_has, upd_same, upd_other, all_same}
 use Rattle.core_crash.proofs.Order.{fold_up, fold_down, Swaps, Apart, fold_up_order, fold_down_order}
-use Rattle.core_paging.proofs.core_commit_lemmas.Nodes.{on_key}
-use Rattle.core_paging.proofs.core_commit_lemmas.History.{EndOf, Recorded, IsRecorded, IsHistory, number_le_gsn, ref_touch}
+use Rattle.core_paging.proofs.core_commit.Nodes.{on_key}
+use Rattle.core_paging.proofs.core_commit.History.{EndOf, Recorded, IsRecorded, IsHistory, number_le_gsn, ref_touch}
 use Rattle.core_crash.proofs.Ends.{behind_end, Cut, is_ended, ended_found, ended_counts, ended_before, counting, whole}
 use Rattle.core_crash.proofs.Redo.{redo_stays, at_prev_off, counts_here, counts_else, value, value_on, value_cut, value_key_off, value_before, redo_value, CountsAre, counts_are, Had}
 use mathlib.Core.Path.{fun_ext}

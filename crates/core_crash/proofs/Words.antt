@@ -11,8 +11,8 @@ use Rattle.core_paging.specs.core_state.Openings.{Opening, first}
 use Rattle.core_paging.specs.core_state.Events.{Event}
 use Rattle.core_paging.specs.core_state.Steps.{claims, run}
 use Rattle.core_paging.specs.core_state.Steps.{HasBeen}
-use Rattle.core_paging.proofs.core_commit_lemmas.Lists.{Within}
-use Rattle.core_paging.proofs.core_commit_lemmas.History.{answer}
+use Rattle.core_paging.proofs.core_commit.Lists.{Within}
+use Rattle.core_paging.proofs.core_commit.History.{answer}
 use Rattle.std.proofs.Common.{◌≡◌, ◌≤◌, ℕ, Bool, true, false, ◌&&◌, ◌||◌, not, leb, List, [], ◌∷◌, None, if◌then◌else◌}
 
 -- ## A crash

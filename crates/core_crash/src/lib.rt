@@ -7,8 +7,9 @@ ghost use Rattle.core_crash.specs.Crashes.{EveryCrash, EveryStored, EveryReopeni
 ghost use Rattle.core_crash.specs.Example.{WorkedExample};
 
 // Passed on to the crates above.
-pub use core_paging;
-pub use core_paging::core_commit;
+pub use core_paging::{
+    every_floor, every_holder, every_need, every_residence, every_rise, every_saved,
+};
 
 /// Whatever happens and wherever a crash falls, no rule of an image is broken, and recovery gives the map after a closed
 /// set of committed transactions that holds each ripe one.

@@ -20,12 +20,12 @@ use Rattle.core_crash.specs.core_state.Events.{Event}
 use Rattle.core_crash.specs.core_state.Needs.{may}
 use Rattle.core_crash.specs.core_state.Steps.{follows, happens, put_back, state_after, step}
 use Rattle.core_crash.specs.core_commit.Rises.{Rises}
-use Rattle.core_crash.proofs.core_commit_lemmas.History.{Recorded}
-use Rattle.core_crash.proofs.core_commit_lemmas.Invariants.{Inv}
-use Rattle.core_crash.proofs.core_commit_lemmas.KindFacts.{end_is_record}
-use Rattle.core_crash.proofs.core_commit_lemmas.Lists.{Within, each_at, has_before, le_least, least_le}
-use Rattle.core_crash.proofs.core_commit_lemmas.RiseLemmas.{every_rise}
-use Rattle.core_crash.proofs.core_commit_lemmas.Runs.{step_keeps}
+use Rattle.core_crash.proofs.core_commit.History.{Recorded}
+use Rattle.core_crash.proofs.core_commit.Invariants.{Inv}
+use Rattle.core_crash.proofs.core_commit.KindFacts.{end_is_record}
+use Rattle.core_crash.proofs.core_commit.Lists.{Within, each_at, has_before, le_least, least_le}
+use Rattle.core_crash.proofs.core_commit.RiseLemmas.{every_rise}
+use Rattle.core_crash.proofs.core_commit.Runs.{step_keeps}
 use Rattle.core_crash.specs.Crashes.{Leaves, from_head, image_of, journal_in, log_of}
 use Rattle.core_crash.proofs.Cuts.{same_bool}
 use Rattle.core_crash.proofs.Ends.{le_greatest}

@@ -12,13 +12,13 @@ use Rattle.core_crash.specs.core_state.States.{State, start, flushed_by_all, nod
 use Rattle.core_crash.specs.core_state.Events.{Event}
 use Rattle.core_crash.specs.core_state.Needs.{are_hot, is_held_by, is_settled, may_put, may_put_back, may_split, may_lift, may_join, may_drop, may_purge, needs, pages_of}
 use Rattle.core_crash.specs.core_state.Steps.{at_pages, page_entry, write_entry, moves, put_back, follows, happens, step, run, HasBeen, state_after, read_entry, end_entry}
-use Rattle.core_crash.proofs.core_state_lemmas.Runs.{run_more}
+use Rattle.core_crash.proofs.core_state.Runs.{run_more}
 use Rattle.core_crash.specs.core_commit.Rises.{EveryRise, Rises}
-use Rattle.core_crash.proofs.core_commit_lemmas.Lists.{le_least, least_le}
-use Rattle.core_crash.proofs.core_commit_lemmas.History.{IsRecorded, gsn_rises, number_le_gsn, page_at}
-use Rattle.core_crash.proofs.core_commit_lemmas.Invariants.{Inv, stamp_flushed}
-use Rattle.core_crash.proofs.core_commit_lemmas.Events.{touched_all}
-use Rattle.core_crash.proofs.core_commit_lemmas.Runs.{Good, good_run, good_start, good_step, step_keeps}
+use Rattle.core_crash.proofs.core_commit.Lists.{le_least, least_le}
+use Rattle.core_crash.proofs.core_commit.History.{IsRecorded, gsn_rises, number_le_gsn, page_at}
+use Rattle.core_crash.proofs.core_commit.Invariants.{Inv, stamp_flushed}
+use Rattle.core_crash.proofs.core_commit.Events.{touched_all}
+use Rattle.core_crash.proofs.core_commit.Runs.{Good, good_run, good_start, good_step, step_keeps}
 use Rattle.core_crash.specs.core_paging.Paging.{EverySaved}
 use Rattle.core_disk.specs.Held.{IsVersion}
 use Rattle.core_disk.specs.Versions.{EveryVersion, HasUpTo, VersionLaws, is_cut, then}

@@ -6,8 +6,7 @@ ghost use Rattle.core_paging.specs.Logs.{EveryLastLog};
 ghost use Rattle.core_paging.specs.Example.{WorkedExample};
 
 // Passed on to the crates above.
-pub use core_commit;
-pub use core_commit::image_model;
+pub use core_commit::{every_floor, every_holder, every_need, every_rise, every_undone};
 
 /// A frame has one page and a page one frame; page 0 and the parent of each hot page are hot; the queue has each cooling
 /// page once; a cold page is as it was saved.

@@ -6,7 +6,7 @@
 ghost use Rattle.core_state.specs.Local.{EveryLocal};
 
 // Passed on to the crates above.
-pub use image_model;
+pub use image_model::every_undone;
 
 /// An event changes no lock row and no page but those that it publishes, and of the workers its own alone; a sync changes
 /// all workers.

@@ -2,29 +2,29 @@
 use Rattle.std.proofs.Common.{◌≡◌, ◌++◌, ◌&&◌, ◌||◌, ℕ, Bool, true, false, List, [], ◌∷◌, length, refl, sym, ap, ◌∙◌, subst, append_assoc, true≢false}
 use Rattle.std.proofs.lemmas.List.{append_cancel_left}
 use Rattle.map_model.specs.Lists.{all, any}
-use Rattle.rows_trait.specs.core_state.Events as happening
-use Rattle.rows_trait.specs.core_state.Needs.{may}
-use Rattle.rows_trait.specs.core_state.Openings.{Opening}
-use Rattle.rows_trait.specs.core_state.Steps as core
-use Rattle.rows_trait.specs.core_state.Steps.{AllMet}
-use Rattle.disk_runs.specs.Moments.{LeavesSome}
-use Rattle.disk_runs.specs.Stands.{Known}
-use Rattle.disk_runs.specs.disk_slots.declared.master.Master.{Master}
+use Rattle.call_parts.specs.core_state.Events as happening
+use Rattle.call_parts.specs.core_state.Needs.{may}
+use Rattle.call_parts.specs.core_state.Openings.{Opening}
+use Rattle.call_parts.specs.core_state.Steps as core
+use Rattle.call_parts.specs.core_state.Steps.{AllMet}
+use Rattle.call_parts.specs.disk_runs.Moments.{LeavesSome}
+use Rattle.call_parts.specs.disk_runs.Stands.{Known}
+use Rattle.call_parts.specs.disk_slots.declared.master.Master.{Master}
 use Rattle.lean_disk.specs.Moments.{LeavesOnly, OnlyReads}
 use Rattle.lean_disk.specs.Story.{Crash, Story}
-use Rattle.page_calls.specs.Calls.{IsOn}
+use Rattle.call_parts.specs.page_calls.Calls.{IsOn}
 use Rattle.page_provider.specs.Disks.{Disked, Went, told}
 use Rattle.page_provider.specs.Moves.{AreMet, ArePagers, Moved, is_pagers}
 use Rattle.page_provider.specs.Providers.{Provider}
-use Rattle.row_opening.specs.Openings.{Opens}
-use Rattle.rows_trait.specs.row_words.declared.event.Event.{Event}
-use Rattle.rows_trait.specs.row_words.declared.event.Event.TheVariants as seen
-use Rattle.rows_trait.specs.row_words.declared.given.Given.{Given}
-use Rattle.rows_trait.specs.row_words.Moments.{Moment, actor_of, event_of, events_of, pager}
-use Rattle.rows_trait.specs.row_words.Openings.{opening}
-use Rattle.rows_trait.specs.row_words.Sealed.{stepped}
-use Rattle.rows_trait.specs.declared.view.View.{View}
-use Rattle.rows_trait.specs.Views.{Shape, state}
+use Rattle.call_parts.specs.row_opening.Openings.{Opens}
+use Rattle.call_parts.specs.row_words.declared.event.Event.{Event}
+use Rattle.call_parts.specs.row_words.declared.event.Event.TheVariants as seen
+use Rattle.call_parts.specs.row_words.declared.given.Given.{Given}
+use Rattle.call_parts.specs.row_words.Moments.{Moment, actor_of, event_of, events_of, pager}
+use Rattle.call_parts.specs.row_words.Openings.{opening}
+use Rattle.call_parts.specs.row_words.Sealed.{stepped}
+use Rattle.call_parts.specs.rows_trait.declared.view.View.{View}
+use Rattle.call_parts.specs.rows_trait.Views.{Shape, state}
 use Rattle.call_parts.specs.Areas.{Apart, is_save}
 use Rattle.call_parts.specs.Laws.{EveryArea, EveryStep}
 use Rattle.call_parts.specs.Memory.{Memory, with_slots}

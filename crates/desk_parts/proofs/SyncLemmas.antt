@@ -1,22 +1,22 @@
 -- A sync of all logs is a part of a call of an engine whose pages have slots.
 use Rattle.std.proofs.Common.{◌≡◌, ◌⊎◌, inl, inr, ◌++◌, ℕ, true, List, [], ◌∷◌, refl, sym, ap, ◌∙◌, subst, true≢false}
-use Rattle.rows_trait.specs.core_state.Events as happening
-use Rattle.rows_trait.specs.core_state.Openings.{Opening}
-use Rattle.core_calls.specs.Fronts.{Done, front}
-use Rattle.core_calls.specs.LogEvents.{AreFlushes, IsSync}
-use Rattle.disk_runs.specs.Stands.{Known, Stands}
-use Rattle.disk_runs.specs.disk_slots.declared.master.Master.{Master}
+use Rattle.call_parts.specs.core_state.Events as happening
+use Rattle.call_parts.specs.core_state.Openings.{Opening}
+use Rattle.call_parts.specs.core_calls.Fronts.{Done, front}
+use Rattle.call_parts.specs.core_calls.LogEvents.{AreFlushes, IsSync}
+use Rattle.call_parts.specs.disk_runs.Stands.{Known, Stands}
+use Rattle.call_parts.specs.disk_slots.declared.master.Master.{Master}
 use Rattle.lean_disk.specs.Moments.{LeavesOnly}
 use Rattle.lean_disk.specs.Story.{Crash, Story}
-use Rattle.engine_trait.specs.Areas.{Around, Beside}
-use Rattle.engine_trait.specs.Calls as resident
-use Rattle.page_calls.specs.declared.slots.Slot.{Slot}
-use Rattle.rows_trait.specs.row_words.Moments.{events_of}
-use Rattle.rows_trait.specs.row_words.Openings.{opening}
-use Rattle.rows_trait.specs.declared.view.View.{View}
+use Rattle.call_parts.specs.engine_trait.Areas.{Around, Beside}
+use Rattle.call_parts.specs.engine_trait.Calls as resident
+use Rattle.call_parts.specs.page_calls.declared.slots.Slot.{Slot}
+use Rattle.call_parts.specs.row_words.Moments.{events_of}
+use Rattle.call_parts.specs.row_words.Openings.{opening}
+use Rattle.call_parts.specs.rows_trait.declared.view.View.{View}
 use Rattle.session_desks.specs.Syncs.{IsWritten, SyncFails, SyncGoes}
-use Rattle.session_state.specs.Ties.{Behind}
-use Rattle.disk_runs.specs.worker_log.Logs.{Log}
+use Rattle.call_parts.specs.session_state.Ties.{Behind}
+use Rattle.call_parts.specs.worker_log.Logs.{Log}
 use Rattle.call_parts.specs.Laws.{EveryStill}
 use Rattle.call_parts.specs.Rooms.{ArePaging}
 use Rattle.call_parts.specs.Steps.{Still, StillBreaks, StillGoes}

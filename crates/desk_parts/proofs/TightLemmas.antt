@@ -2,20 +2,20 @@
 use Rattle.std.proofs.Common.{◌≡◌, ◌⊎◌, ◌<◌, ◌++◌, ◌||◌, ◌&&◌, ℕ, Bool, true, false, List, [], ◌∷◌, refl, sym, ap, ◌∙◌, subst, true≢false}
 use Rattle.map_model.specs.Lists.{all, any}
 use Rattle.map_model.specs.declared.call.Call.TheVariants as call
-use Rattle.rows_trait.specs.core_state.Events.{Event}
-use Rattle.rows_trait.specs.core_state.Openings.{Opening}
-use Rattle.rows_trait.specs.core_state.States.{State, start}
-use Rattle.rows_trait.specs.core_state.Steps.{run, state_after, step}
-use Rattle.core_calls.specs.Fronts.{Done, front}
-use Rattle.core_calls.specs.LogEvents.{EveryWhere, IsSync, IsTaken, IsTight, IsTightSomewhere, SyncsWhere, is_log}
-use Rattle.engine_calls.specs.Parts.{behind_first}
+use Rattle.call_parts.specs.core_state.Events.{Event}
+use Rattle.call_parts.specs.core_state.Openings.{Opening}
+use Rattle.call_parts.specs.core_state.States.{State, start}
+use Rattle.call_parts.specs.core_state.Steps.{run, state_after, step}
+use Rattle.call_parts.specs.core_calls.Fronts.{Done, front}
+use Rattle.call_parts.specs.core_calls.LogEvents.{EveryWhere, IsSync, IsTaken, IsTight, IsTightSomewhere, SyncsWhere, is_log}
+use Rattle.call_parts.specs.engine_calls.Parts.{behind_first}
 use Rattle.page_model.specs.Nodes.{Format, covers}
 use Rattle.rfa_model.specs.Reaches.{least}
-use Rattle.row_opening.specs.Openings.{EveryReached}
-use Rattle.rows_trait.specs.row_words.Openings.{opening}
-use Rattle.rows_trait.specs.declared.view.View.{View}
-use Rattle.rows_trait.specs.Views.{state}
-use Rattle.session_state.specs.Ties.{Behind}
+use Rattle.call_parts.specs.row_opening.Openings.{EveryReached}
+use Rattle.call_parts.specs.row_words.Openings.{opening}
+use Rattle.call_parts.specs.rows_trait.declared.view.View.{View}
+use Rattle.call_parts.specs.rows_trait.Views.{state}
+use Rattle.call_parts.specs.session_state.Ties.{Behind}
 use Rattle.call_parts.specs.Steps.{moves_page}
 use Rattle.desk_parts.specs.Tight.{EveryTight, StandsBehind, SyncsIfTight, SyncsIfTightSomewhere}
 

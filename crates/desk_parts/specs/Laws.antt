@@ -1,14 +1,14 @@
 -- What calls of the pager and syncs are to the parts of a call of an engine. The stories of a law are parameters, since a law over all is too large.
 use Rattle.std.specs.Prelude.{◌≡◌, ℕ, true, false, List, length}
 use Rattle.lean_disk.specs.Story.{Story}
-use Rattle.engine_trait.specs.Calls as resident
-use Rattle.page_calls.specs.declared.slots.Slot.{Slot}
+use Rattle.call_parts.specs.engine_trait.Calls as resident
+use Rattle.call_parts.specs.page_calls.declared.slots.Slot.{Slot}
 use Rattle.page_provider.specs.Moves.{Moved}
 use Rattle.page_provider.specs.Providers.{Provider}
-use Rattle.rows_trait.specs.row_words.Moments.{events_of}
-use Rattle.rows_trait.specs.row_words.Openings.{opening}
-use Rattle.rows_trait.specs.declared.view.View.{View}
-use Rattle.rows_trait.specs.Views.{Shape}
+use Rattle.call_parts.specs.row_words.Moments.{events_of}
+use Rattle.call_parts.specs.row_words.Openings.{opening}
+use Rattle.call_parts.specs.rows_trait.declared.view.View.{View}
+use Rattle.call_parts.specs.rows_trait.Views.{Shape}
 use Rattle.session_desks.specs.Syncs.{SyncFails, SyncGoes, SyncMade}
 use Rattle.call_parts.specs.Memory.{Memory, with_slots}
 use Rattle.call_parts.specs.Parts.{Failed, Part}

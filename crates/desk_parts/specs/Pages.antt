@@ -1,16 +1,16 @@
 -- A call of the pager among the parts of a call of an engine: what has to be known of it, and of what is in memory.
 use Rattle.std.specs.Prelude.{◌≡◌, ℕ, false, List, length}
 use Rattle.map_model.specs.Lists.{any}
-use Rattle.rows_trait.specs.core_state.Events as happening
+use Rattle.call_parts.specs.core_state.Events as happening
 use Rattle.lean_disk.specs.Moments.{Framed, OnlyReads}
 use Rattle.lean_disk.specs.Story.{Story}
-use Rattle.page_calls.specs.Calls.{KeepsWithin}
+use Rattle.call_parts.specs.page_calls.Calls.{KeepsWithin}
 use Rattle.page_provider.specs.Disks.{Disked}
 use Rattle.page_provider.specs.Moves.{Moved}
 use Rattle.page_provider.specs.Providers.{Provider}
-use Rattle.rows_trait.specs.row_words.Moments.{events_of}
-use Rattle.rows_trait.specs.declared.view.View.{View}
-use Rattle.rows_trait.specs.Views.{Shape}
+use Rattle.call_parts.specs.row_words.Moments.{events_of}
+use Rattle.call_parts.specs.rows_trait.declared.view.View.{View}
+use Rattle.call_parts.specs.rows_trait.Views.{Shape}
 use Rattle.call_parts.specs.Areas.{is_save}
 use Rattle.call_parts.specs.Memory.{Memory}
 

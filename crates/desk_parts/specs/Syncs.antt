@@ -1,10 +1,10 @@
 -- A sync of all logs among the parts of a call of an engine whose pages have slots.
 use Rattle.std.specs.Prelude.{◌≡◌, true, false, List}
 use Rattle.map_model.specs.Lists.{any}
-use Rattle.rows_trait.specs.core_state.Events.{Event}
-use Rattle.rows_trait.specs.core_state.Local.{is_sync}
-use Rattle.engine_trait.specs.Calls as resident
-use Rattle.page_calls.specs.declared.slots.Slot.{Slot}
+use Rattle.call_parts.specs.core_state.Events.{Event}
+use Rattle.call_parts.specs.core_state.Local.{is_sync}
+use Rattle.call_parts.specs.engine_trait.Calls as resident
+use Rattle.call_parts.specs.page_calls.declared.slots.Slot.{Slot}
 use Rattle.call_parts.specs.Areas.{is_save}
 use Rattle.call_parts.specs.Memory.{Memory}
 use Rattle.call_parts.specs.Rooms.{ArePaging}

@@ -1,15 +1,15 @@
 -- Where syncs stand among the events of a call that brings pages in.
 use Rattle.std.specs.Prelude.{◌≡◌, ◌++◌, ℕ, true, false, List}
 use Rattle.map_model.specs.Lists.{all}
-use Rattle.rows_trait.specs.core_state.Events.{Event}
-use Rattle.rows_trait.specs.core_state.Openings.{Opening}
-use Rattle.core_calls.specs.Fronts.{Done}
-use Rattle.core_calls.specs.LogEvents.{IsSync, IsTight, IsTightSomewhere, SyncsWhere}
-use Rattle.engine_calls.specs.Parts.{behind_first}
-use Rattle.rows_trait.specs.row_words.Openings.{opening}
-use Rattle.rows_trait.specs.declared.view.View.{View}
-use Rattle.rows_trait.specs.Views.{state}
-use Rattle.session_state.specs.Ties.{Behind}
+use Rattle.call_parts.specs.core_state.Events.{Event}
+use Rattle.call_parts.specs.core_state.Openings.{Opening}
+use Rattle.call_parts.specs.core_calls.Fronts.{Done}
+use Rattle.call_parts.specs.core_calls.LogEvents.{IsSync, IsTight, IsTightSomewhere, SyncsWhere}
+use Rattle.call_parts.specs.engine_calls.Parts.{behind_first}
+use Rattle.call_parts.specs.row_words.Openings.{opening}
+use Rattle.call_parts.specs.rows_trait.declared.view.View.{View}
+use Rattle.call_parts.specs.rows_trait.Views.{state}
+use Rattle.call_parts.specs.session_state.Ties.{Behind}
 use Rattle.call_parts.specs.Steps.{moves_page}
 
 -- In each run in which the view has seen some first events of a call: with these events next, a sync stands only where a page of the key's way finds no frame.

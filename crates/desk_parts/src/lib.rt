@@ -8,6 +8,22 @@ ghost use Rattle.desk_parts.specs.Tight.{EveryTight};
 
 use lean_disk::Disk;
 
+// Passed on to the crates above.
+pub use call_parts::{
+    Body, Clock, DEEPEST, DiskFault, FreePages, Heads, HeldRows, Latches, Master,
+    MasterStoreDiskFault, Mode, Node, PageRef, Path, Record, Rows, Session, Staged, Stages,
+    Staging, UndoList, Undone, Unread, Way, Work, WorkerLog, block_bytes, choose,
+    disk_runs_every_opened, every_agreement, every_answer, every_begun, every_block_in,
+    every_coming, every_entry, every_flush, every_kept, every_line_count, every_low,
+    every_master_in, every_met, every_need, every_opened, every_other, every_prefix, every_printed,
+    every_reached, every_reserve, every_residence, every_rise, every_room, every_run_crash,
+    every_sealed, every_shown, every_sound, every_told, every_undone, every_version, every_warm,
+    every_where, fetch, further_session, laws, master_bytes, page_bytes, reach, save, spare,
+    stage_end, write_next,
+};
+pub use page_provider::{Pager, Refusal, every_few, every_found, every_sequel};
+pub use session_desks::{Desk, Machine};
+
 /// A call of the pager is a part of a call; and what is left where it failed.
 pub fn every_page_part<D: Disk>(old: &D, new: &D)
     ensures { EveryPagePart (D.story old.now) (D.story new.now) }
@@ -37,6 +53,6 @@ pub fn every_disk_part<D: Disk>()
 pub fn every_tight()
     ensures { EveryTight }
 {
-    row_opening::every_reached();
-    core_calls::every_where();
+    call_parts::every_reached();
+    call_parts::every_where();
 }

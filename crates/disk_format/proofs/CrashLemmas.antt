@@ -4,7 +4,7 @@ use Rattle.std.proofs.lemmas.Bool.{cases_Bool, true≢false}
 use Rattle.std.proofs.lemmas.Slice.Eq.{bytes_eq-Decides}
 use Rattle.std.specs.Str.{bytes_eq}
 use Rattle.master_store.specs.image_model.Fair.{piece, IsWritten}
-use Rattle.master_store.proofs.image_model_lemmas.FairLemmas.{IsOfOne, narrow, not_written}
+use Rattle.master_store.proofs.image_model.FairLemmas.{IsOfOne, narrow, not_written}
 use Rattle.map_model.specs.Lists.{Has}
 use Rattle.lean_disk.specs.Area.{Leaves, Write}
 use Rattle.lean_disk.specs.Story.{Crash, Story, Tells}

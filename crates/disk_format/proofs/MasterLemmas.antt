@@ -3,9 +3,9 @@ use Rattle.std.proofs.Common.{◌≡◌, inl, inr, ⊎_elim, ℕ, List, Some, No
 use Rattle.std.proofs.lemmas.Option.{none-some}
 use Rattle.master_store.specs.image_model.Fair.{piece}
 use Rattle.master_store.specs.disk_slots.declared.master.Master.{Master}
-use Rattle.master_store.proofs.disk_slots_lemmas.LawLemmas.{every_master}
+use Rattle.master_store.proofs.disk_slots.LawLemmas.{every_master}
 use Rattle.master_store.specs.disk_image.MasterSlots.{master_on}
-use Rattle.master_store.proofs.disk_image_lemmas.MasterSlotLemmas.{every_master_in}
+use Rattle.master_store.proofs.disk_image.MasterSlotLemmas.{every_master_in}
 use Rattle.master_store.proofs.SlotLemmas.{in_slot, is_slot, newer_one, none_there}
 use Rattle.disk_format.specs.Formatted.{HasMaster, IsMaster}
 

@@ -14,7 +14,7 @@ use Rattle.master_store.specs.log_block.Block.{generation_of}
 use Rattle.master_store.specs.disk_slots.Masters.{IsMaster as HoldsMaster, IsMasterSlot}
 use Rattle.master_store.specs.disk_slots.Pages.{IsPage, IsPageSlot, IsStorable, page_slot}
 use Rattle.master_store.specs.disk_slots.declared.master.Master.{Master}
-use Rattle.master_store.proofs.disk_slots_lemmas.LawLemmas.{every_master, every_page}
+use Rattle.master_store.proofs.disk_slots.LawLemmas.{every_master, every_page}
 use Rattle.master_store.specs.disk_image.Blocks.{belongs, is_sealed}
 use Rattle.master_store.specs.disk_image.Laws.{Agree, Agreement}
 use Rattle.master_store.specs.disk_image.MasterSlots.{master_in, master_on, newer}
@@ -22,12 +22,12 @@ use Rattle.master_store.specs.disk_image.PageSlots.{page_in}
 use Rattle.master_store.specs.disk_image.Runs.{Block, AreReadable, block_at, entries_in, logged_onto, run_in, sealed_in}
 use Rattle.master_store.specs.disk_image.Shown.{IsReadable, run_of, shown_by, slot_of}
 use Rattle.master_store.specs.disk_image.Words.{are_words}
-use Rattle.master_store.proofs.disk_image_lemmas.AgreementLemmas.{every_agreement}
-use Rattle.master_store.proofs.disk_image_lemmas.BlockInLemmas.{every_belongs, every_sealed}
-use Rattle.master_store.proofs.disk_image_lemmas.MasterSlotLemmas.{every_master_in}
-use Rattle.master_store.proofs.disk_image_lemmas.PageSlotLemmas.{every_page_in}
-use Rattle.master_store.proofs.disk_image_lemmas.TestLemmas.{none_some, some_is}
-use Rattle.master_store.proofs.disk_image_lemmas.WordLemmas.{are_words_to}
+use Rattle.master_store.proofs.disk_image.AgreementLemmas.{every_agreement}
+use Rattle.master_store.proofs.disk_image.BlockInLemmas.{every_belongs, every_sealed}
+use Rattle.master_store.proofs.disk_image.MasterSlotLemmas.{every_master_in}
+use Rattle.master_store.proofs.disk_image.PageSlotLemmas.{every_page_in}
+use Rattle.master_store.proofs.disk_image.TestLemmas.{none_some, some_is}
+use Rattle.master_store.proofs.disk_image.WordLemmas.{are_words_to}
 use Rattle.disk_format.specs.Formatted.{HasPages, IsFormatted}
 use Rattle.disk_format.specs.Fresh.{first_master, fresh_node, fresh_page}
 use Rattle.disk_format.specs.Laws.{EveryNewDisk, HasNoBlock, IsNew, IsShape}

@@ -12,8 +12,7 @@ ghost use Rattle.disk_format.specs.Fresh.{first_slot};
 use crate::parts::{first_master, lay_pages};
 use crate::shape::Shape;
 use lean_disk::{AreaOf, Did, Disk};
-use master_store::disk_slots::Master;
-use master_store::{DiskFault, choose, write_next};
+use master_store::{DiskFault, Master, choose, write_next};
 
 /// What `format` did.
 #[derive(Clone, Copy, Debug, PartialEq, Eq)]

@@ -12,8 +12,7 @@ ghost use Rattle.disk_format.specs.Pieces.{pages_from};
 
 use crate::shape::Shape;
 use lean_disk::{Did, Part};
-use master_store::btree_node::Node;
-use master_store::disk_slots::{Heads, Master, page_bytes};
+use master_store::{Heads, Master, Node, page_bytes};
 
 /// Pages in a piece of 64 KiB: larger ones make later writes dear on some file systems.
 pub const PIECE: u32 = 32;

@@ -4,11 +4,13 @@
 ghost use Rattle.disk_image.specs.Laws.{EveryAgreement, EveryBelongs, EveryBlockIn, EveryBreak, EveryMasterIn, EveryPageIn, EverySealed};
 
 // Passed on to the crates above.
-pub use btree_node;
-pub use disk_slots;
-pub use image_model;
-pub use log_block;
-pub use log_record;
+pub use btree_node::{Node, Put, are_ordered};
+pub use disk_slots::{
+    Heads, Master, Refusal, every_master, every_page, master_bytes, page_bytes, read_master,
+    read_page,
+};
+pub use log_block::{BLOCK, PAYLOAD, Refusal as LogBlockRefusal, block_bytes, open_block};
+pub use log_record::{Body, Keys, PageRef, Pair, Pairs, Record, record_bytes, record_size};
 
 /// A slot holds the page that the grammar says, or none.
 pub fn every_page_in()

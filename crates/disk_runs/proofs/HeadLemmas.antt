@@ -4,7 +4,7 @@ use Rattle.std.proofs.lemmas.Bool.{leb-true, le-leb}
 use Rattle.map_model.specs.Lists.{Has, keep}
 use Rattle.master_store.specs.image_model.Entries.{Entry}
 use Rattle.map_model.proofs.ListLemmas.{has_right, keep_has}
-use Rattle.core_disk.proofs.core_crash_lemmas.Images.{Numbers}
+use Rattle.core_disk.proofs.core_crash.Images.{Numbers}
 use Rattle.core_disk.specs.core_crash.Crashes.{from_head}
 use Rattle.std.proofs.lemmas.List.{append-nil}
 

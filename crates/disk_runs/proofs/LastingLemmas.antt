@@ -9,10 +9,10 @@ use Rattle.core_disk.specs.core_state.Openings.{Opening}
 use Rattle.core_disk.specs.core_state.States.{State, flushed_by_all, start}
 use Rattle.core_disk.specs.core_state.Events.{Event}
 use Rattle.core_disk.specs.core_state.Steps.{run, step, state_after}
-use Rattle.core_disk.proofs.core_state_lemmas.Runs.{run_more}
+use Rattle.core_disk.proofs.core_state.Runs.{run_more}
 use Rattle.core_disk.specs.core_commit.Rises.{EveryRise, Rises}
-use Rattle.core_disk.proofs.core_commit_lemmas.History.{Recorded}
-use Rattle.core_disk.proofs.core_commit_lemmas.Lists.{each_at, has_before}
+use Rattle.core_disk.proofs.core_commit.History.{Recorded}
+use Rattle.core_disk.proofs.core_commit.Lists.{each_at, has_before}
 use Rattle.core_disk.specs.core_crash.Crashes.{IsRipe, journal_in}
 use Rattle.map_model.proofs.ListLemmas.{has_order, has_right, order_has}
 use Rattle.core_disk.proofs.VersionLemmas.{good, more_step}

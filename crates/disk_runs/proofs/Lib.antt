@@ -18,13 +18,12 @@ pub mod ReadLemmas
 pub mod RefusalLemmas
 pub mod RingLemmas
 -- Passed on to the crates above.
-pub use Rattle.core_disk.proofs as core_disk_lemmas
-pub use Rattle.core_disk.proofs.core_commit_lemmas as core_commit_lemmas
-pub use Rattle.core_disk.proofs.core_crash_lemmas as core_crash_lemmas
-pub use Rattle.core_disk.proofs.core_state_lemmas as core_state_lemmas
-pub use Rattle.master_store.proofs as master_store_lemmas
-pub use Rattle.master_store.proofs.disk_image_lemmas as disk_image_lemmas
-pub use Rattle.master_store.proofs.disk_slots_lemmas as disk_slots_lemmas
-pub use Rattle.master_store.proofs.image_model_lemmas as image_model_lemmas
-pub use Rattle.master_store.proofs.page_store_lemmas as page_store_lemmas
-pub use Rattle.worker_log.proofs as worker_log_lemmas
+pub use Rattle.core_disk.proofs as core_disk
+pub use Rattle.core_disk.proofs.core_commit as core_commit
+pub use Rattle.core_disk.proofs.core_crash as core_crash
+pub use Rattle.core_disk.proofs.core_state as core_state
+pub use Rattle.master_store.proofs as master_store
+pub use Rattle.master_store.proofs.disk_image as disk_image
+pub use Rattle.master_store.proofs.disk_slots as disk_slots
+pub use Rattle.master_store.proofs.page_store as page_store
+pub use Rattle.worker_log.proofs as worker_log

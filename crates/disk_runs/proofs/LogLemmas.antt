@@ -4,12 +4,12 @@ use Rattle.map_model.specs.Lists.{Has}
 use Rattle.map_model.proofs.ListLemmas.{has_cases, has_left, has_right}
 use Rattle.master_store.specs.image_model.Entries.{Entry}
 use Rattle.master_store.specs.image_model.Fair.{piece, IsFair}
-use Rattle.master_store.proofs.image_model_lemmas.FairLemmas.{narrow}
+use Rattle.master_store.proofs.image_model.FairLemmas.{narrow}
 use Rattle.core_disk.specs.core_state.Openings.{Opening}
 use Rattle.core_disk.specs.core_state.States.{State, flushed_by_all}
 use Rattle.core_disk.specs.core_state.Events.{Event}
 use Rattle.core_disk.specs.core_crash.Crashes.{IsPrefix, from_head, log_of}
-use Rattle.core_disk.proofs.core_crash_lemmas.Images.{Numbers, log_numbers}
+use Rattle.core_disk.proofs.core_crash.Images.{Numbers, log_numbers}
 use Rattle.lean_disk.specs.Area.{Area, Leaves, Write}
 use Rattle.master_store.specs.log_record.declared.record.Record.{Record}
 use Rattle.master_store.specs.log_block.Block.{IsSealed, generation_of}
@@ -30,7 +30,7 @@ use Rattle.core_disk.proofs.VersionLemmas.{good}
 use Rattle.disk_runs.specs.Fair.{IsFairLog}
 use Rattle.disk_runs.specs.Logs.{Accounts, BeganAt, IsLogOf, LogStands}
 use Rattle.disk_runs.proofs.HeadLemmas.{from_prefix, split_at, up_to_head}
-use Rattle.master_store.proofs.disk_image_lemmas.SealedLemmas.{listed, lists}
+use Rattle.master_store.proofs.disk_image.SealedLemmas.{listed, lists}
 
 module _ (prefixes : EveryPrefix) (seals : EverySealed) (g : Opening) (es : List Event) (n : Master) (first : List ℕ) (older : List Write) (w : ℕ) (x : Account) (log : Log)
     (is : IsLogOf n w log) (accounts : Accounts (state_after g es) w x log) (began : BeganAt n first older x)

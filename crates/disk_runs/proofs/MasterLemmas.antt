@@ -7,10 +7,10 @@ use Rattle.lean_disk.specs.Area.{Area, IsApart, Leaves, Write, put_over, synced,
 use Rattle.master_store.specs.disk_slots.Masters.{IsMaster, IsMasterSlot, master_slot}
 use Rattle.master_store.specs.disk_slots.Slots.{IsSealed}
 use Rattle.master_store.specs.disk_slots.declared.master.Master.{Master}
-use Rattle.master_store.proofs.disk_slots_lemmas.LawLemmas.{every_master}
+use Rattle.master_store.proofs.disk_slots.LawLemmas.{every_master}
 use Rattle.master_store.specs.disk_image.MasterSlots.{master_in, master_on, newer}
-use Rattle.master_store.proofs.disk_image_lemmas.MasterSlotLemmas.{every_master_in}
-use Rattle.master_store.proofs.page_store_lemmas.PieceLemmas.{piece_within, same_piece, write_here, write_other, write_size}
+use Rattle.master_store.proofs.disk_image.MasterSlotLemmas.{every_master_in}
+use Rattle.master_store.proofs.page_store.PieceLemmas.{piece_within, same_piece, write_here, write_other, write_size}
 use Rattle.master_store.proofs.SlotLemmas.{alone, in_slot, master_is}
 use Rattle.worker_log.proofs.RingLemmas.{apart}
 use Rattle.disk_runs.specs.Fair.{IsSlotWrite}

@@ -8,7 +8,7 @@ use Rattle.core_disk.specs.core_state.States.{start}
 use Rattle.lean_disk.specs.Story.{Crash, Story}
 use Rattle.master_store.specs.disk_slots.declared.master.Master.{Master}
 use Rattle.master_store.specs.page_store.Bases.{image_page}
-use Rattle.master_store.proofs.page_store_lemmas.PieceLemmas.{every_whole}
+use Rattle.master_store.proofs.page_store.PieceLemmas.{every_whole}
 use Rattle.worker_log.specs.Logs.{Log}
 use Rattle.core_disk.specs.Held.{IsVersion}
 use Rattle.core_disk.specs.Versions.{EveryVersion}

@@ -15,7 +15,7 @@ use Rattle.master_store.specs.disk_image.PageSlots.{page_in}
 use Rattle.master_store.specs.disk_image.Shown.{page_slot_in, slot_of}
 use Rattle.master_store.specs.page_store.Bases.{image_page}
 use Rattle.master_store.specs.page_store.Saved.{place_of}
-use Rattle.master_store.proofs.page_store_lemmas.PieceLemmas.{every_whole, page_sealed, place_is, same_piece}
+use Rattle.master_store.proofs.page_store.PieceLemmas.{every_whole, page_sealed, place_is, same_piece}
 use Rattle.worker_log.proofs.RingLemmas.{apart}
 use Rattle.core_disk.specs.Held.{HoldsPage, IsVersion}
 use Rattle.disk_runs.proofs.SlotLemmas as slots

@@ -7,9 +7,9 @@ use Rattle.core_disk.specs.core_state.States.{State, start}
 use Rattle.core_disk.specs.core_state.Needs.{are_hot, needs, pages_of}
 use Rattle.core_disk.specs.core_state.Events.{Event}
 use Rattle.core_disk.specs.core_state.Steps.{follows, happens, state_after}
-use Rattle.core_disk.proofs.core_commit_lemmas.Copies.{Copied}
-use Rattle.core_disk.proofs.core_commit_lemmas.Fetched.{fetch_same}
-use Rattle.core_disk.proofs.core_commit_lemmas.Runs.{good_run, good_start, step_keeps}
+use Rattle.core_disk.proofs.core_commit.Copies.{Copied}
+use Rattle.core_disk.proofs.core_commit.Fetched.{fetch_same}
+use Rattle.core_disk.proofs.core_commit.Runs.{good_run, good_start, step_keeps}
 use Rattle.core_disk.specs.Versions.{is_cut}
 use Rattle.core_disk.proofs.VersionLemmas.{state_then}
 use Rattle.disk_runs.specs.Logs.{SameDisk}

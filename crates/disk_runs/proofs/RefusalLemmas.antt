@@ -6,7 +6,7 @@ use Rattle.core_disk.specs.core_state.Events.{Event}
 use Rattle.lean_disk.specs.Area.{Area, Write, torn}
 use Rattle.master_store.specs.disk_slots.declared.master.Master.{Master}
 use Rattle.master_store.specs.page_store.Saved.{place_of}
-use Rattle.master_store.proofs.page_store_lemmas.PieceLemmas.{same_page}
+use Rattle.master_store.proofs.page_store.PieceLemmas.{same_page}
 use Rattle.disk_runs.specs.Masters.{MasterStands, slot_of}
 use Rattle.disk_runs.specs.Pages.{Firm, PagesStand}
 use Rattle.disk_runs.specs.Refusals.{Refusals}

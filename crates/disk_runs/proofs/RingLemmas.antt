@@ -5,7 +5,7 @@ use Rattle.map_model.specs.Lists.{Has, keep}
 use Rattle.map_model.proofs.ListLemmas.{has_left, has_right, has_cases, keep_has}
 use Rattle.master_store.specs.image_model.Entries.{Entry}
 use Rattle.page_model.specs.Page.{Page}
-use Rattle.core_disk.proofs.core_commit_lemmas.Lists.{least_le}
+use Rattle.core_disk.proofs.core_commit.Lists.{least_le}
 use Rattle.core_disk.specs.core_crash.Crashes.{from_head, log_of}
 use Rattle.core_disk.specs.core_state.Openings.{Opening}
 use Rattle.core_disk.specs.core_state.States.{State, flushed_by_all}

@@ -13,10 +13,10 @@ use Rattle.core_disk.specs.core_state.Events.{Event}
 use Rattle.master_store.specs.disk_slots.Pages.{IsPage, page_slot}
 use Rattle.master_store.specs.disk_image.PageSlots.{page_in}
 use Rattle.master_store.specs.disk_image.Shown.{page_slot_in, slot_of}
-use Rattle.master_store.proofs.disk_image_lemmas.PageSlotLemmas.{every_page_in}
+use Rattle.master_store.proofs.disk_image.PageSlotLemmas.{every_page_in}
 use Rattle.master_store.specs.page_store.Bases.{image_page}
 use Rattle.master_store.specs.page_store.Saved.{place_of}
-use Rattle.master_store.proofs.page_store_lemmas.PieceLemmas.{every_whole, page_there, place_is, same_page, slot_size, write_here, write_other}
+use Rattle.master_store.proofs.page_store.PieceLemmas.{every_whole, page_there, place_is, same_page, slot_size, write_here, write_other}
 use Rattle.core_disk.specs.Held.{IsVersion}
 use Rattle.disk_runs.specs.Fair.{IsSlotWrite}
 use Rattle.disk_runs.proofs.SlotLemmas.{own_more}

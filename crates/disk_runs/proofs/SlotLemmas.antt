@@ -2,12 +2,12 @@
 use Rattle.std.proofs.Common.{◌≡◌, ◌⊎◌, inl, inr, ⊎_elim, ◌+◌, ◌*◌, ℕ, List, ◌∷◌, length, map, [], ◌%◌, refl, ap, ◌∙◌, arith}
 use Rattle.map_model.specs.Lists.{Has}
 use Rattle.master_store.specs.image_model.Fair.{IsFair, piece}
-use Rattle.master_store.proofs.image_model_lemmas.FairLemmas.{among_more, narrow}
+use Rattle.master_store.proofs.image_model.FairLemmas.{among_more, narrow}
 use Rattle.lean_disk.specs.Area.{Write}
 use Rattle.master_store.specs.disk_slots.Masters.{master_slot}
 use Rattle.master_store.specs.disk_slots.declared.master.Master.{Master}
 use Rattle.master_store.specs.page_store.Saved.{AreSaves, Save, write_of}
-use Rattle.master_store.proofs.page_store_lemmas.PieceLemmas.{place_is, slot_size}
+use Rattle.master_store.proofs.page_store.PieceLemmas.{place_is, slot_size}
 use Rattle.master_store.specs.Masters.{IsOfSlot}
 use Rattle.master_store.proofs.SlotLemmas.{own_long}
 use Rattle.disk_runs.specs.Fair.{IsSlotWrite}

@@ -7,7 +7,7 @@ use Rattle.core_disk.specs.core_state.Openings.{Opening}
 use Rattle.core_disk.specs.core_state.States.{State}
 use Rattle.core_disk.specs.core_state.Events.{Event}
 use Rattle.map_model.proofs.ListLemmas.{upd_same, upd_other}
-use Rattle.core_disk.proofs.core_commit_lemmas.Invariants.{Inv}
+use Rattle.core_disk.proofs.core_commit.Invariants.{Inv}
 use Rattle.core_disk.specs.core_crash.Crashes.{from_head, log_of}
 use Rattle.lean_disk.specs.Area.{Area, Leaves, Write}
 use Rattle.lean_disk.specs.Moments.{CrashIn, Framed}

@@ -15,15 +15,20 @@ ghost use Rattle.disk_runs.specs.Quiet.{EveryQuiet};
 ghost use Rattle.disk_runs.specs.Refusals.{Refusals};
 ghost use Rattle.disk_runs.specs.Rings.{EveryRing, EveryStillCut};
 
-use core_disk::core_crash;
 use lean_disk::Disk;
 
 // Passed on to the crates above.
-pub use core_disk;
-pub use core_disk::{core_commit, core_paging};
-pub use master_store;
-pub use master_store::{btree_node, disk_image, disk_slots, image_model, log_record, page_store};
-pub use worker_log;
+pub use core_disk::{every_held, every_residence, every_shown, every_version};
+pub use master_store::{
+    Body, Bounds, DiskFault as MasterStoreDiskFault, Heads, Lost, Master, Node, PageRef, Record,
+    Seal, Unread, block_bytes, choose, every_agreement, every_block_in, every_master_in,
+    every_page, every_read as page_store_every_read, every_seal, every_sealed, every_whole, fetch,
+    fetch_known, master_bytes, page_bytes, save, spare, write_next,
+};
+pub use worker_log::{
+    DiskFault, RESERVE, Staging, WorkerLog, every_cut as worker_log_every_cut, every_flushed,
+    every_kept, every_passed, every_prefix, every_staged,
+};
 
 /// Fairness since a story is fairness since what a read gave there.
 pub fn every_fair<D: Disk>(now: &D)
@@ -36,7 +41,7 @@ pub fn every_rest<D: Disk>(now: &D)
 {
     worker_log::every_kept();
     worker_log::every_prefix();
-    disk_image::every_sealed();
+    master_store::every_sealed();
 }
 
 /// So it is at each moment of a call on a log.
@@ -45,7 +50,7 @@ pub fn every_log_call<D: Disk>(old: &D, new: &D)
 {
     worker_log::every_kept();
     worker_log::every_prefix();
-    disk_image::every_sealed();
+    master_store::every_sealed();
 }
 
 /// An event that the disk does not see.
@@ -83,7 +88,7 @@ pub fn every_save<D: Disk>(old: &D, new: &D)
     core_disk::every_version();
     worker_log::every_kept();
     worker_log::every_prefix();
-    disk_image::every_sealed();
+    master_store::every_sealed();
 }
 
 /// The pages are synced.
@@ -93,7 +98,7 @@ pub fn every_settled<D: Disk>(old: &D, new: &D)
     core_disk::every_version();
     worker_log::every_kept();
     worker_log::every_prefix();
-    disk_image::every_sealed();
+    master_store::every_sealed();
 }
 
 /// A page is read as it was saved last.
@@ -107,7 +112,7 @@ pub fn every_master<D: Disk>(old: &D, mid: &D, new: &D)
 {
     worker_log::every_kept();
     worker_log::every_prefix();
-    disk_image::every_sealed();
+    master_store::every_sealed();
 }
 
 /// The next master is written, or its write fails.
@@ -116,7 +121,7 @@ pub fn every_master_write<D: Disk>(old: &D, new: &D)
 {
     worker_log::every_kept();
     worker_log::every_prefix();
-    disk_image::every_sealed();
+    master_store::every_sealed();
 }
 
 /// The next master is written and synced by one call of master_store.
@@ -125,7 +130,7 @@ pub fn every_next_master<D: Disk>(old: &D, new: &D)
 {
     worker_log::every_kept();
     worker_log::every_prefix();
-    disk_image::every_sealed();
+    master_store::every_sealed();
 }
 
 /// The masters of a run, one after another.
@@ -202,14 +207,14 @@ pub fn every_survival()
     ensures { EverySurvival }
 {
     core_disk::every_held();
-    core_crash::every_serial();
+    core_disk::every_serial();
 }
 
 /// What was committed and ripe stays so.
 pub fn every_lasting()
     ensures { EveryLasting }
 {
-    core_commit::every_rise();
+    core_disk::every_rise();
 }
 
 /// As a read gives it, the disk holds what a crash now would leave.
@@ -218,7 +223,7 @@ pub fn every_read<D: Disk>(now: &D)
 {
     worker_log::every_kept();
     worker_log::every_prefix();
-    disk_image::every_sealed();
+    master_store::every_sealed();
 }
 
 /// Rules that an engine may not follow.

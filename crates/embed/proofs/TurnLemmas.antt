@@ -4,10 +4,10 @@ use Rattle.map_model.specs.Pairings.{is_last}
 use Rattle.map_model.specs.declared.call.Answer.{Answer}
 use Rattle.map_model.specs.declared.call.Answer.TheVariants as answer
 use Rattle.map_model.specs.declared.call.Refusal.TheVariants as refusal
-use Rattle.engine_front.specs.Turns.{behind_answer, behind_durables, behind_last, is_conflict_in}
-use Rattle.engine_front.specs.declared.calls.Next.{Next}
-use Rattle.engine_front.specs.declared.calls.Next.TheVariants.{Abort, Durables, Line, Scan}
-use Rattle.paged_scans.specs.declared.scans.Scan as scans
+use Rattle.buffered_engine.specs.engine_front.Turns.{behind_answer, behind_durables, behind_last, is_conflict_in}
+use Rattle.buffered_engine.specs.engine_front.declared.calls.Next.{Next}
+use Rattle.buffered_engine.specs.engine_front.declared.calls.Next.TheVariants.{Abort, Durables, Line, Scan}
+use Rattle.buffered_engine.specs.paged_scans.declared.scans.Scan as scans
 use Rattle.buffered_engine.specs.States.{pairs_left}
 
 -- how many steps a scan has at most: a pair each, and one that ends it

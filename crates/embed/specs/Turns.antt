@@ -1,9 +1,9 @@
 -- What is asked behind an answer.
 use Rattle.std.specs.Prelude.{◌≡◌}
 use Rattle.map_model.specs.declared.call.Answer.{Answer}
-use Rattle.engine_front.specs.Turns.{behind_answer}
-use Rattle.engine_front.specs.declared.calls.Next.{Next}
-use Rattle.engine_front.specs.declared.calls.Next.TheVariants.{Scan}
+use Rattle.buffered_engine.specs.engine_front.Turns.{behind_answer}
+use Rattle.buffered_engine.specs.engine_front.declared.calls.Next.{Next}
+use Rattle.buffered_engine.specs.engine_front.declared.calls.Next.TheVariants.{Scan}
 
 -- it comes behind some answer
 pub record IsBehindAnswer (next : Next) : Type 0 where

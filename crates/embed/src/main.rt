@@ -7,9 +7,9 @@
 
 ghost use Rattle.std.specs.Prelude.{◌≡◌, IfOk, true};
 ghost use Rattle.embed.specs.Turns.{IsBehindAnswer, IsNoScan};
-ghost use Rattle.engine_trait.specs.Calls.{IsAsked};
-ghost use Rattle.engine_front.specs.Turns.{behind_durables};
-ghost use Rattle.engine_front.specs.declared.calls.Next.{Next};
+ghost use Rattle.buffered_engine.specs.engine_trait.Calls.{IsAsked};
+ghost use Rattle.buffered_engine.specs.engine_front.Turns.{behind_durables};
+ghost use Rattle.buffered_engine.specs.engine_front.declared.calls.Next.{Next};
 
 use buffered_engine::{Engine, Formatted, Next, Opened, Shape, Size, Unopened, format};
 use host_disk::HostDisk;

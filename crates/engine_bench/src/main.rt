@@ -3,11 +3,9 @@
 #![tactic(auto)]
 
 ghost use Rattle.std.specs.Prelude.{◌≡◌, ◌≤◌, ◌<◌, ◌^◌, IfOk, IsTrue};
-ghost use Rattle.engine_front.specs.declared.calls.Next.{Next};
+ghost use Rattle.buffered_engine.specs.engine_front.declared.calls.Next.{Next};
 
-use buffered_engine::{Engine, Opened, Size, Step, Unopened};
-use disk_format::{Formatted, Shape, format};
-use engine_front::calls::Next;
+use buffered_engine::{Engine, Formatted, Next, Opened, Shape, Size, Step, Unopened, format};
 use lean_disk::MemDisk;
 use std::alloc::Global;
 use std::time::Instant;

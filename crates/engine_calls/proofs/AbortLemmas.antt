@@ -4,30 +4,30 @@ use Rattle.std.proofs.lemmas.List.{append-nil}
 use Rattle.map_model.specs.declared.call.Call.{Call}
 use Rattle.map_model.specs.Histories.{Step}
 use Rattle.map_model.specs.Lists.{keep}
-use Rattle.disk_runs.specs.image_model.Entries.{Entry, is_record}
-use Rattle.disk_runs.specs.core_state.Openings.{Opening}
-use Rattle.disk_runs.specs.core_state.States.{State, start}
-use Rattle.disk_runs.specs.core_state.Events.{Event}
-use Rattle.disk_runs.specs.core_state.Local.{is_of}
-use Rattle.disk_runs.specs.core_state.Needs.{holds_row, may}
-use Rattle.disk_runs.specs.core_state.Steps.{AllMet, happens, run, state_after, step}
-use Rattle.disk_runs.proofs.core_state_lemmas.Runs.{met_more, run_more}
+use Rattle.run_crashes.specs.image_model.Entries.{Entry, is_record}
+use Rattle.run_crashes.specs.core_state.Openings.{Opening}
+use Rattle.run_crashes.specs.core_state.States.{State, start}
+use Rattle.run_crashes.specs.core_state.Events.{Event}
+use Rattle.run_crashes.specs.core_state.Local.{is_of}
+use Rattle.run_crashes.specs.core_state.Needs.{holds_row, may}
+use Rattle.run_crashes.specs.core_state.Steps.{AllMet, happens, run, state_after, step}
+use Rattle.run_crashes.proofs.core_state.Runs.{met_more, run_more}
 use Rattle.lean_disk.specs.Story.{Crash, Story}
-use Rattle.disk_runs.specs.log_record.declared.record.Record.{Record}
-use Rattle.disk_runs.specs.disk_image.Records.{entry_of}
-use Rattle.disk_runs.specs.core_disk.Versions.{EveryVersion}
-use Rattle.core_calls.specs.Deeds.{commits, put_backs}
-use Rattle.core_calls.specs.Fronts.{AreFresh, Done, IsFresh, front}
-use Rattle.core_calls.specs.LogEvents.{IsTightSomewhere}
-use Rattle.core_calls.proofs.WhereLemmas.{syncs_more, syncs_none}
-use Rattle.core_calls.specs.Marks.{Ended, Mark, back_in, mark, marks, onto}
-use Rattle.core_calls.specs.Refusals.{Limits}
-use Rattle.core_calls.specs.Runs.{Tells}
-use Rattle.core_calls.specs.Steps.{Undoes, is_step, is_structure}
-use Rattle.core_calls.proofs.RunLemmas.{marks_run}
-use Rattle.disk_runs.specs.Laws.{with_log}
-use Rattle.disk_runs.specs.Logs.{Records}
-use Rattle.disk_runs.specs.Stands.{Known}
+use Rattle.run_crashes.specs.log_record.declared.record.Record.{Record}
+use Rattle.run_crashes.specs.disk_image.Records.{entry_of}
+use Rattle.run_crashes.specs.core_disk.Versions.{EveryVersion}
+use Rattle.run_crashes.specs.core_calls.Deeds.{commits, put_backs}
+use Rattle.run_crashes.specs.core_calls.Fronts.{AreFresh, Done, IsFresh, front}
+use Rattle.run_crashes.specs.core_calls.LogEvents.{IsTightSomewhere}
+use Rattle.run_crashes.proofs.core_calls.WhereLemmas.{syncs_more, syncs_none}
+use Rattle.run_crashes.specs.core_calls.Marks.{Ended, Mark, back_in, mark, marks, onto}
+use Rattle.run_crashes.specs.core_calls.Refusals.{Limits}
+use Rattle.run_crashes.specs.core_calls.Runs.{Tells}
+use Rattle.run_crashes.specs.core_calls.Steps.{Undoes, is_step, is_structure}
+use Rattle.run_crashes.proofs.core_calls.RunLemmas.{marks_run}
+use Rattle.run_crashes.specs.disk_runs.Laws.{with_log}
+use Rattle.run_crashes.specs.disk_runs.Logs.{Records}
+use Rattle.run_crashes.specs.disk_runs.Stands.{Known}
 use Rattle.engine_calls.specs.Aborts.{AbortLaws, EveryAbort, IsAbort, PutsBack, aborted_by, back_by, backs_by, newest_back}
 use Rattle.engine_calls.specs.Clauses.{Between, Nothing}
 use Rattle.engine_calls.specs.Commits.{unlocks}

@@ -2,20 +2,20 @@
 use Rattle.std.proofs.Common.{◌≡◌, ℕ, suc, Bool, true, false, cond, ◌==◌, List, [], ◌∷◌, ◌++◌, refl, sym, ap, ◌∙◌, subst, true≢false}
 use Rattle.std.proofs.lemmas.List.{append-nil}
 use Rattle.map_model.specs.Lists.{any, keep}
-use Rattle.disk_runs.specs.core_state.Openings.{Opening}
-use Rattle.disk_runs.specs.core_state.States.{State}
-use Rattle.disk_runs.specs.core_state.Events.{Event}
-use Rattle.disk_runs.specs.core_state.Needs.{may}
-use Rattle.disk_runs.specs.core_state.Steps.{state_after}
-use Rattle.disk_runs.proofs.core_state_lemmas.Runs.{met_more}
+use Rattle.run_crashes.specs.core_state.Openings.{Opening}
+use Rattle.run_crashes.specs.core_state.States.{State}
+use Rattle.run_crashes.specs.core_state.Events.{Event}
+use Rattle.run_crashes.specs.core_state.Needs.{may}
+use Rattle.run_crashes.specs.core_state.Steps.{state_after}
+use Rattle.run_crashes.proofs.core_state.Runs.{met_more}
 use Rattle.lean_disk.specs.Story.{Story}
-use Rattle.disk_runs.specs.core_disk.Versions.{EveryVersion}
-use Rattle.core_calls.specs.Fronts.{Done, front, outcomes}
-use Rattle.core_calls.specs.LogEvents.{Prepares, is_log}
-use Rattle.core_calls.specs.Marks.{Began, marks}
-use Rattle.core_calls.specs.Refusals.{Limits}
-use Rattle.core_calls.specs.Runs.{Tells}
-use Rattle.core_calls.specs.Steps.{is_step, is_structure}
+use Rattle.run_crashes.specs.core_disk.Versions.{EveryVersion}
+use Rattle.run_crashes.specs.core_calls.Fronts.{Done, front, outcomes}
+use Rattle.run_crashes.specs.core_calls.LogEvents.{Prepares, is_log}
+use Rattle.run_crashes.specs.core_calls.Marks.{Began, marks}
+use Rattle.run_crashes.specs.core_calls.Refusals.{Limits}
+use Rattle.run_crashes.specs.core_calls.Runs.{Tells}
+use Rattle.run_crashes.specs.core_calls.Steps.{is_step, is_structure}
 use Rattle.engine_calls.specs.Begins.{EveryBegin, IsBegin, begun_by}
 use Rattle.engine_calls.specs.Parts.{behind_first}
 use Rattle.engine_calls.proofs.ComingLemmas.{follows, goes_on}

@@ -2,9 +2,9 @@
 use Rattle.std.proofs.Common.{◌≡◌, Bool, true, false, cond, List, [], ◌∷◌, map, Option, Some, None, sym, ◌∙◌, subst, true≢false}
 use Rattle.map_model.specs.declared.call.Call.{Call}
 use Rattle.map_model.specs.Pairings.{GoesOn}
-use Rattle.core_calls.specs.Deeds.{Deed, Aborted, Outcome, Refused, asked, in_words}
-use Rattle.core_calls.specs.Fronts.{outcomes}
-use Rattle.core_calls.specs.Steps.{FollowsConflict, IsAbortOf, IsAnAbort, IsBehind, hindered_in, is_conflict}
+use Rattle.run_crashes.specs.core_calls.Deeds.{Deed, Aborted, Outcome, Refused, asked, in_words}
+use Rattle.run_crashes.specs.core_calls.Fronts.{outcomes}
+use Rattle.run_crashes.specs.core_calls.Steps.{FollowsConflict, IsAbortOf, IsAnAbort, IsBehind, hindered_in, is_conflict}
 use Rattle.engine_calls.specs.Clauses.{EveryComing, IsNewLine}
 
 -- a new line is not behind a conflict

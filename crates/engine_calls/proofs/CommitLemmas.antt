@@ -4,31 +4,31 @@ use Rattle.std.proofs.lemmas.Bool.{lt-ltb, le-leb, eq-eqb}
 use Rattle.std.proofs.lemmas.List.{append-nil}
 use Rattle.map_model.specs.Lists.{any, keep}
 use Rattle.map_model.proofs.ListLemmas.{upd_other, upd_same}
-use Rattle.disk_runs.specs.image_model.Entries.{Entry, Kind, is_commit, is_record}
-use Rattle.disk_runs.specs.core_state.Openings.{Opening}
-use Rattle.disk_runs.specs.core_state.States.{Row, State, start}
-use Rattle.disk_runs.specs.core_state.Events.{Event}
-use Rattle.disk_runs.specs.core_state.Needs.{holds_row, may}
-use Rattle.disk_runs.specs.core_state.Steps.{AllMet, end_entry, ends, happens, run, state_after, step}
-use Rattle.disk_runs.proofs.core_state_lemmas.Runs.{met_more, run_more}
+use Rattle.run_crashes.specs.image_model.Entries.{Entry, Kind, is_commit, is_record}
+use Rattle.run_crashes.specs.core_state.Openings.{Opening}
+use Rattle.run_crashes.specs.core_state.States.{Row, State, start}
+use Rattle.run_crashes.specs.core_state.Events.{Event}
+use Rattle.run_crashes.specs.core_state.Needs.{holds_row, may}
+use Rattle.run_crashes.specs.core_state.Steps.{AllMet, end_entry, ends, happens, run, state_after, step}
+use Rattle.run_crashes.proofs.core_state.Runs.{met_more, run_more}
 use Rattle.lean_disk.specs.Moments.{LeavesOnly}
 use Rattle.lean_disk.specs.Story.{Crash, Story}
-use Rattle.disk_runs.specs.log_record.declared.record.Record.{Record}
-use Rattle.disk_runs.specs.disk_image.Records.{entry_of}
-use Rattle.disk_runs.specs.worker_log.Accounts.{Account}
-use Rattle.disk_runs.specs.worker_log.Kept.{flushed}
-use Rattle.disk_runs.specs.worker_log.Logs.{Log}
-use Rattle.disk_runs.specs.core_disk.Versions.{EveryVersion}
-use Rattle.core_calls.specs.Deeds.{commits}
-use Rattle.core_calls.specs.Fronts.{AreFresh, Done, front, outcomes}
-use Rattle.core_calls.specs.LogEvents.{Flushes, behind, is_log}
-use Rattle.core_calls.specs.Marks.{Ended, marks}
-use Rattle.core_calls.specs.Refusals.{Limits}
-use Rattle.core_calls.specs.Runs.{Tells}
-use Rattle.core_calls.specs.Steps.{is_step, is_structure}
-use Rattle.disk_runs.specs.Laws.{with_log}
-use Rattle.disk_runs.specs.Logs.{Flushes as FlushesLog, Records}
-use Rattle.disk_runs.specs.Stands.{Known}
+use Rattle.run_crashes.specs.log_record.declared.record.Record.{Record}
+use Rattle.run_crashes.specs.disk_image.Records.{entry_of}
+use Rattle.run_crashes.specs.worker_log.Accounts.{Account}
+use Rattle.run_crashes.specs.worker_log.Kept.{flushed}
+use Rattle.run_crashes.specs.worker_log.Logs.{Log}
+use Rattle.run_crashes.specs.core_disk.Versions.{EveryVersion}
+use Rattle.run_crashes.specs.core_calls.Deeds.{commits}
+use Rattle.run_crashes.specs.core_calls.Fronts.{AreFresh, Done, front, outcomes}
+use Rattle.run_crashes.specs.core_calls.LogEvents.{Flushes, behind, is_log}
+use Rattle.run_crashes.specs.core_calls.Marks.{Ended, marks}
+use Rattle.run_crashes.specs.core_calls.Refusals.{Limits}
+use Rattle.run_crashes.specs.core_calls.Runs.{Tells}
+use Rattle.run_crashes.specs.core_calls.Steps.{is_step, is_structure}
+use Rattle.run_crashes.specs.disk_runs.Laws.{with_log}
+use Rattle.run_crashes.specs.disk_runs.Logs.{Flushes as FlushesLog, Records}
+use Rattle.run_crashes.specs.disk_runs.Stands.{Known}
 use Rattle.log_calls.specs.Calls.{FlushesOn}
 use Rattle.run_crashes.specs.Lines.{CallLeaves}
 use Rattle.engine_calls.specs.Clauses.{Between, CallAnswers, Nothing, OnLog, Part}

@@ -2,22 +2,22 @@
 use Rattle.std.proofs.Common.{◌≡◌, ℕ, Bool, true, false, cond, ◌==◌, List, [], ◌∷◌, ◌++◌, Option, None, refl, sym, ap, ◌∙◌, true≢false}
 use Rattle.map_model.specs.Lists.{any, keep}
 use Rattle.map_model.specs.Maps.{MapCall, MapAnswer}
-use Rattle.disk_runs.specs.core_state.Openings.{Opening}
-use Rattle.disk_runs.specs.core_state.States.{State}
-use Rattle.disk_runs.specs.core_state.Events.{Event, Mode}
-use Rattle.disk_runs.specs.core_state.Needs.{may, value_in}
-use Rattle.disk_runs.specs.core_state.Steps.{state_after}
-use Rattle.disk_runs.proofs.core_state_lemmas.Runs.{met_more}
+use Rattle.run_crashes.specs.core_state.Openings.{Opening}
+use Rattle.run_crashes.specs.core_state.States.{State}
+use Rattle.run_crashes.specs.core_state.Events.{Event, Mode}
+use Rattle.run_crashes.specs.core_state.Needs.{may, value_in}
+use Rattle.run_crashes.specs.core_state.Steps.{state_after}
+use Rattle.run_crashes.proofs.core_state.Runs.{met_more}
 use Rattle.lean_disk.specs.Story.{Story}
-use Rattle.disk_runs.specs.core_disk.Versions.{EveryVersion}
-use Rattle.core_calls.specs.Deeds.{Absent, Got}
-use Rattle.core_calls.specs.Fronts.{AreFresh, Done, front, outcomes}
-use Rattle.core_calls.specs.LogEvents.{IsTight}
-use Rattle.core_calls.proofs.WhereLemmas.{syncs_more}
-use Rattle.core_calls.specs.Marks.{Called, marks}
-use Rattle.core_calls.specs.Refusals.{Limits}
-use Rattle.core_calls.specs.Runs.{Tells}
-use Rattle.core_calls.specs.Steps.{is_step, is_structure}
+use Rattle.run_crashes.specs.core_disk.Versions.{EveryVersion}
+use Rattle.run_crashes.specs.core_calls.Deeds.{Absent, Got}
+use Rattle.run_crashes.specs.core_calls.Fronts.{AreFresh, Done, front, outcomes}
+use Rattle.run_crashes.specs.core_calls.LogEvents.{IsTight}
+use Rattle.run_crashes.proofs.core_calls.WhereLemmas.{syncs_more}
+use Rattle.run_crashes.specs.core_calls.Marks.{Called, marks}
+use Rattle.run_crashes.specs.core_calls.Refusals.{Limits}
+use Rattle.run_crashes.specs.core_calls.Runs.{Tells}
+use Rattle.run_crashes.specs.core_calls.Steps.{is_step, is_structure}
 use Rattle.engine_calls.specs.Parts.{behind_first}
 use Rattle.engine_calls.specs.Puts.{EveryGet, IsRead, is_alone, read_by, taking}
 use Rattle.engine_calls.proofs.ComingLemmas.{follows, goes_on}

@@ -5,17 +5,17 @@ use Rattle.map_model.specs.declared.call.Call.{Call}
 use Rattle.map_model.specs.declared.call.Call.TheVariants as call
 use Rattle.map_model.specs.declared.call.Refusal.TheVariants.{RowSpent}
 use Rattle.map_model.specs.Lists.{keep}
-use Rattle.disk_runs.specs.core_state.Openings.{Opening}
-use Rattle.disk_runs.specs.core_state.Events.{Event}
-use Rattle.disk_runs.specs.core_state.Steps.{state_after}
+use Rattle.run_crashes.specs.core_state.Openings.{Opening}
+use Rattle.run_crashes.specs.core_state.Events.{Event}
+use Rattle.run_crashes.specs.core_state.Steps.{state_after}
 use Rattle.lean_disk.specs.Story.{Story}
-use Rattle.core_calls.specs.Deeds.{put_backs}
-use Rattle.core_calls.specs.Fronts.{AreFresh, Done, front, outcomes}
-use Rattle.core_calls.specs.Marks.{Mark, marks}
-use Rattle.core_calls.specs.Refusals.{Limits}
-use Rattle.core_calls.specs.Runs.{Tells}
-use Rattle.core_calls.specs.Scans.{StopsOnWay}
-use Rattle.core_calls.specs.Steps.{MayPutBack, Tries, is_step}
+use Rattle.run_crashes.specs.core_calls.Deeds.{put_backs}
+use Rattle.run_crashes.specs.core_calls.Fronts.{AreFresh, Done, front, outcomes}
+use Rattle.run_crashes.specs.core_calls.Marks.{Mark, marks}
+use Rattle.run_crashes.specs.core_calls.Refusals.{Limits}
+use Rattle.run_crashes.specs.core_calls.Runs.{Tells}
+use Rattle.run_crashes.specs.core_calls.Scans.{StopsOnWay}
+use Rattle.run_crashes.specs.core_calls.Steps.{MayPutBack, Tries, is_step}
 use Rattle.engine_calls.specs.Aborts.{backs_by}
 use Rattle.engine_calls.specs.Halves.{EveryHalved, IsHalved, halved_by}
 use Rattle.engine_calls.proofs.AbortLemmas.{fresh_back, marks_backs, no_one}

@@ -18,3 +18,9 @@ pub mod RunLemmas
 pub mod PlaceLemmas
 pub mod EntryLemmas
 pub mod RowLemmas
+-- Passed on to the crates above.
+pub use Rattle.run_crashes.proofs as run_crashes
+pub use Rattle.run_crashes.proofs.core_calls as core_calls
+pub use Rattle.run_crashes.proofs.core_crash as core_crash
+pub use Rattle.run_crashes.proofs.core_disk as core_disk
+pub use Rattle.run_crashes.proofs.disk_runs as disk_runs

@@ -2,17 +2,17 @@
 use Rattle.std.proofs.Common.{◌≡◌, ℕ, Bool, true, false, cond, ◌||◌, List, [], ◌∷◌, ◌++◌, Option, None, refl, sym, ap, ap₂, ◌∙◌, true≢false}
 use Rattle.map_model.specs.Lists.{any, keep}
 use Rattle.map_model.specs.Maps.{MapAnswer}
-use Rattle.disk_runs.specs.core_state.Openings.{Opening}
-use Rattle.disk_runs.specs.core_state.States.{State}
-use Rattle.disk_runs.specs.core_state.Events.{Event, Mode}
-use Rattle.disk_runs.specs.core_state.Local.{is_of}
-use Rattle.disk_runs.specs.core_state.Needs.{may}
-use Rattle.disk_runs.specs.core_state.Steps.{AllMet, run, step}
-use Rattle.core_calls.specs.Deeds.{commits}
-use Rattle.core_calls.specs.Fronts.{AreFresh, IsFresh}
-use Rattle.core_calls.specs.Marks.{Mark, mark, marks, met_in, onto}
-use Rattle.core_calls.specs.Steps.{is_step}
-use Rattle.core_calls.proofs.RunLemmas.{marks_run}
+use Rattle.run_crashes.specs.core_state.Openings.{Opening}
+use Rattle.run_crashes.specs.core_state.States.{State}
+use Rattle.run_crashes.specs.core_state.Events.{Event, Mode}
+use Rattle.run_crashes.specs.core_state.Local.{is_of}
+use Rattle.run_crashes.specs.core_state.Needs.{may}
+use Rattle.run_crashes.specs.core_state.Steps.{AllMet, run, step}
+use Rattle.run_crashes.specs.core_calls.Deeds.{commits}
+use Rattle.run_crashes.specs.core_calls.Fronts.{AreFresh, IsFresh}
+use Rattle.run_crashes.specs.core_calls.Marks.{Mark, mark, marks, met_in, onto}
+use Rattle.run_crashes.specs.core_calls.Steps.{is_step}
+use Rattle.run_crashes.proofs.core_calls.RunLemmas.{marks_run}
 use Rattle.engine_calls.specs.Refused.{TakesRows}
 
 -- ## Lists

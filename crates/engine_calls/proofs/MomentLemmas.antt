@@ -1,21 +1,21 @@
 -- Moments of a call, and what stands behind it.
 use Rattle.std.proofs.Common.{◌≡◌, ℕ, List, ◌++◌, ◌∙◌}
-use Rattle.disk_runs.specs.core_state.Openings.{Opening}
-use Rattle.disk_runs.specs.core_state.Events.{Event}
+use Rattle.run_crashes.specs.core_state.Openings.{Opening}
+use Rattle.run_crashes.specs.core_state.Events.{Event}
 use Rattle.lean_disk.specs.Moments.{LeavesOnly}
 use Rattle.lean_disk.specs.Story.{Crash, IsLawful, Story}
 use Rattle.lean_disk.proofs.MomentLemmas.{started, weaker}
-use Rattle.disk_runs.specs.disk_slots.declared.master.Master.{Master}
-use Rattle.disk_runs.specs.disk_image.Laws.{EverySealed}
-use Rattle.disk_runs.specs.worker_log.Laws.{EveryKept, EveryPrefix}
-use Rattle.disk_runs.specs.core_disk.Versions.{EveryVersion, then}
-use Rattle.core_calls.specs.Fronts.{Done, front}
-use Rattle.disk_runs.specs.Quiet.{is_quiet}
-use Rattle.disk_runs.specs.Stands.{Known, LeavesRun, Stands}
-use Rattle.disk_runs.proofs.LineLemmas.{same}
-use Rattle.disk_runs.proofs.MomentLemmas.{both, none_yet}
-use Rattle.disk_runs.proofs.QuietLemmas.{every_quiet}
-use Rattle.disk_runs.proofs.StandLemmas.{every_rest, every_still}
+use Rattle.run_crashes.specs.disk_slots.declared.master.Master.{Master}
+use Rattle.run_crashes.specs.disk_image.Laws.{EverySealed}
+use Rattle.run_crashes.specs.worker_log.Laws.{EveryKept, EveryPrefix}
+use Rattle.run_crashes.specs.core_disk.Versions.{EveryVersion, then}
+use Rattle.run_crashes.specs.core_calls.Fronts.{Done, front}
+use Rattle.run_crashes.specs.disk_runs.Quiet.{is_quiet}
+use Rattle.run_crashes.specs.disk_runs.Stands.{Known, LeavesRun, Stands}
+use Rattle.run_crashes.proofs.disk_runs.LineLemmas.{same}
+use Rattle.run_crashes.proofs.disk_runs.MomentLemmas.{both, none_yet}
+use Rattle.run_crashes.proofs.disk_runs.QuietLemmas.{every_quiet}
+use Rattle.run_crashes.proofs.disk_runs.StandLemmas.{every_rest, every_still}
 use Rattle.run_crashes.specs.Lines.{CallLeaves, notes_of}
 use Rattle.std.specs.Prelude.{true}
 

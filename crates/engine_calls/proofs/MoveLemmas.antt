@@ -3,32 +3,32 @@ use Rattle.std.proofs.Common.{◌≡◌, ◌≤◌, ◌<◌, ◌-◌, ℕ, true,
 use Rattle.std.proofs.lemmas.List.{append-nil}
 use Rattle.map_model.specs.Lists.{all}
 use Rattle.page_model.specs.Page.{Page}
-use Rattle.disk_runs.specs.core_state.Openings.{Opening}
-use Rattle.disk_runs.specs.core_state.Events.{Event}
+use Rattle.run_crashes.specs.core_state.Openings.{Opening}
+use Rattle.run_crashes.specs.core_state.Events.{Event}
 use Rattle.lean_disk.specs.Calls.{Synced, Wrote}
 use Rattle.lean_disk.specs.Moments.{LeavesOnly}
 use Rattle.lean_disk.specs.Story.{Crash, IsLawful, Story}
 use Rattle.lean_disk.specs.declared.disk.Did.TheVariants as did
 use Rattle.lean_disk.proofs.MomentLemmas.{goes_on, started, weaker}
 use Rattle.lean_disk.proofs.MomentLemmas as moments
-use Rattle.disk_runs.specs.disk_image.Laws.{EverySealed}
-use Rattle.disk_runs.specs.disk_slots.declared.master.Master.{Master}
-use Rattle.disk_runs.specs.disk_slots.Pages.{page_slot}
-use Rattle.disk_runs.specs.page_store.Saved.{place_of}
-use Rattle.disk_runs.specs.worker_log.Laws.{EveryKept, EveryPrefix}
-use Rattle.disk_runs.specs.worker_log.Logs.{Log}
-use Rattle.disk_runs.specs.core_disk.Versions.{EveryVersion}
-use Rattle.core_calls.specs.Fronts.{Done, front}
-use Rattle.disk_runs.specs.MasterLaws.{IsSync, LeavesEither, with_sync}
-use Rattle.disk_runs.specs.Masters.{IsNoEarlier}
-use Rattle.disk_runs.specs.Moments.{LeavesSome}
-use Rattle.disk_runs.specs.PageLaws.{IsSave, with_late, with_settled}
-use Rattle.disk_runs.specs.Quiet.{is_quiet}
-use Rattle.disk_runs.specs.Stands.{Known, LeavesRun, Stands}
-use Rattle.disk_runs.proofs.LineLemmas.{further, next, same}
-use Rattle.disk_runs.proofs.MomentLemmas.{none_yet, some_laws}
-use Rattle.disk_runs.proofs.SaveStandLemmas.{every_save, every_settled}
-use Rattle.disk_runs.proofs.StandLemmas.{every_rest}
+use Rattle.run_crashes.specs.disk_image.Laws.{EverySealed}
+use Rattle.run_crashes.specs.disk_slots.declared.master.Master.{Master}
+use Rattle.run_crashes.specs.disk_slots.Pages.{page_slot}
+use Rattle.run_crashes.specs.page_store.Saved.{place_of}
+use Rattle.run_crashes.specs.worker_log.Laws.{EveryKept, EveryPrefix}
+use Rattle.run_crashes.specs.worker_log.Logs.{Log}
+use Rattle.run_crashes.specs.core_disk.Versions.{EveryVersion}
+use Rattle.run_crashes.specs.core_calls.Fronts.{Done, front}
+use Rattle.run_crashes.specs.disk_runs.MasterLaws.{IsSync, LeavesEither, with_sync}
+use Rattle.run_crashes.specs.disk_runs.Masters.{IsNoEarlier}
+use Rattle.run_crashes.specs.disk_runs.Moments.{LeavesSome}
+use Rattle.run_crashes.specs.disk_runs.PageLaws.{IsSave, with_late, with_settled}
+use Rattle.run_crashes.specs.disk_runs.Quiet.{is_quiet}
+use Rattle.run_crashes.specs.disk_runs.Stands.{Known, LeavesRun, Stands}
+use Rattle.run_crashes.proofs.disk_runs.LineLemmas.{further, next, same}
+use Rattle.run_crashes.proofs.disk_runs.MomentLemmas.{none_yet, some_laws}
+use Rattle.run_crashes.proofs.disk_runs.SaveStandLemmas.{every_save, every_settled}
+use Rattle.run_crashes.proofs.disk_runs.StandLemmas.{every_rest}
 use Rattle.log_calls.specs.Calls.{IsLog}
 use Rattle.log_calls.specs.Syncs.{KeepsEither, SyncsOn}
 use Rattle.log_calls.specs.Wholes.{IsWhole, flush_of}

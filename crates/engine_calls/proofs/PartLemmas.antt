@@ -2,31 +2,31 @@
 use Rattle.std.proofs.Common.{◌≡◌, ◌≤◌, ◌<◌, ℕ, Bool, true, false, ◌&&◌, List, [], ◌∷◌, ◌++◌, refl, sym, ◌∙◌, subst, append_assoc, true≢false}
 use Rattle.std.proofs.lemmas.List.{append-nil}
 use Rattle.map_model.specs.Lists.{all}
-use Rattle.disk_runs.specs.core_state.Openings.{Opening}
-use Rattle.disk_runs.specs.core_state.Events.{Event}
-use Rattle.disk_runs.specs.core_state.Steps.{state_after}
+use Rattle.run_crashes.specs.core_state.Openings.{Opening}
+use Rattle.run_crashes.specs.core_state.Events.{Event}
+use Rattle.run_crashes.specs.core_state.Steps.{state_after}
 use Rattle.lean_disk.specs.Moments.{LeavesOnly}
 use Rattle.lean_disk.specs.Story.{Crash, IsLawful, Story}
 use Rattle.lean_disk.proofs.MomentLemmas.{weaker}
 use Rattle.lean_disk.proofs.MomentLemmas as moments
-use Rattle.disk_runs.specs.log_record.declared.record.Record.{Record}
-use Rattle.disk_runs.specs.disk_image.Laws.{EverySealed}
-use Rattle.disk_runs.specs.disk_image.Records.{entry_of}
-use Rattle.disk_runs.specs.worker_log.Accounts.{Account}
-use Rattle.disk_runs.specs.worker_log.Kept.{flushed}
-use Rattle.disk_runs.specs.worker_log.Laws.{EveryKept, EveryPrefix}
-use Rattle.disk_runs.specs.worker_log.Logs.{Log}
-use Rattle.disk_runs.specs.core_disk.Versions.{EveryVersion, then}
-use Rattle.core_calls.specs.Fronts.{Done, front}
-use Rattle.core_calls.specs.Refusals.{Limits}
-use Rattle.disk_runs.specs.Laws.{with_log}
-use Rattle.disk_runs.specs.Logs.{Flushes, Records}
-use Rattle.disk_runs.specs.Masters.{IsNoEarlier}
-use Rattle.disk_runs.specs.Moments.{LeavesSome}
-use Rattle.disk_runs.specs.Quiet.{is_quiet}
-use Rattle.disk_runs.specs.Stands.{Known, LeavesRun, Stands}
-use Rattle.disk_runs.proofs.LineLemmas.{further, same}
-use Rattle.disk_runs.proofs.MomentLemmas.{both, some_laws}
+use Rattle.run_crashes.specs.log_record.declared.record.Record.{Record}
+use Rattle.run_crashes.specs.disk_image.Laws.{EverySealed}
+use Rattle.run_crashes.specs.disk_image.Records.{entry_of}
+use Rattle.run_crashes.specs.worker_log.Accounts.{Account}
+use Rattle.run_crashes.specs.worker_log.Kept.{flushed}
+use Rattle.run_crashes.specs.worker_log.Laws.{EveryKept, EveryPrefix}
+use Rattle.run_crashes.specs.worker_log.Logs.{Log}
+use Rattle.run_crashes.specs.core_disk.Versions.{EveryVersion, then}
+use Rattle.run_crashes.specs.core_calls.Fronts.{Done, front}
+use Rattle.run_crashes.specs.core_calls.Refusals.{Limits}
+use Rattle.run_crashes.specs.disk_runs.Laws.{with_log}
+use Rattle.run_crashes.specs.disk_runs.Logs.{Flushes, Records}
+use Rattle.run_crashes.specs.disk_runs.Masters.{IsNoEarlier}
+use Rattle.run_crashes.specs.disk_runs.Moments.{LeavesSome}
+use Rattle.run_crashes.specs.disk_runs.Quiet.{is_quiet}
+use Rattle.run_crashes.specs.disk_runs.Stands.{Known, LeavesRun, Stands}
+use Rattle.run_crashes.proofs.disk_runs.LineLemmas.{further, same}
+use Rattle.run_crashes.proofs.disk_runs.MomentLemmas.{both, some_laws}
 use Rattle.log_calls.specs.Calls.{IsLog}
 use Rattle.run_crashes.specs.Lines.{CallLeaves}
 use Rattle.engine_calls.specs.Clauses.{Between, Nothing, OnLog, Part}

@@ -2,19 +2,19 @@
 use Rattle.std.proofs.Common.{◌≡◌, ℕ, Bool, true, false, List, [], ◌++◌, refl, sym, ap, ◌∙◌, subst, inl, inr, append_assoc, true≢false}
 use Rattle.std.proofs.lemmas.Bool.{cases_Bool}
 use Rattle.std.proofs.lemmas.List.{append-nil}
-use Rattle.disk_runs.specs.core_state.Openings.{Opening}
-use Rattle.disk_runs.specs.core_state.Events.{Event}
+use Rattle.run_crashes.specs.core_state.Openings.{Opening}
+use Rattle.run_crashes.specs.core_state.Events.{Event}
 use Rattle.lean_disk.specs.Moments.{LeavesOnly}
 use Rattle.lean_disk.specs.Story.{Crash, IsLawful, Story}
 use Rattle.lean_disk.proofs.MomentLemmas.{started, weaker}
 use Rattle.lean_disk.proofs.MomentLemmas as moments
-use Rattle.disk_runs.specs.disk_image.Laws.{EverySealed}
-use Rattle.disk_runs.specs.worker_log.Laws.{EveryKept, EveryPrefix}
-use Rattle.disk_runs.specs.worker_log.Logs.{Log}
-use Rattle.disk_runs.specs.Stands.{Known}
-use Rattle.disk_runs.proofs.LineLemmas.{further, same}
-use Rattle.disk_runs.proofs.MomentLemmas.{none_yet, some_laws}
-use Rattle.disk_runs.proofs.StandLemmas.{every_rest}
+use Rattle.run_crashes.specs.disk_image.Laws.{EverySealed}
+use Rattle.run_crashes.specs.worker_log.Laws.{EveryKept, EveryPrefix}
+use Rattle.run_crashes.specs.worker_log.Logs.{Log}
+use Rattle.run_crashes.specs.disk_runs.Stands.{Known}
+use Rattle.run_crashes.proofs.disk_runs.LineLemmas.{further, same}
+use Rattle.run_crashes.proofs.disk_runs.MomentLemmas.{none_yet, some_laws}
+use Rattle.run_crashes.proofs.disk_runs.StandLemmas.{every_rest}
 use Rattle.engine_calls.specs.Places.{EveryPlace, LeavesAt, PlaceLeaves, StandsAt, Went}
 
 -- nothing happens

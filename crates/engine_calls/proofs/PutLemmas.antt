@@ -3,33 +3,33 @@ use Rattle.std.proofs.Common.{◌≡◌, ℕ, Bool, true, false, cond, ◌==◌,
 use Rattle.std.proofs.lemmas.Bool.{lt-ltb, le-ltb}
 use Rattle.map_model.specs.Lists.{keep}
 use Rattle.map_model.specs.Maps.{MapCall, MapAnswer}
-use Rattle.disk_runs.specs.image_model.Entries.{Entry, is_record}
-use Rattle.disk_runs.specs.image_model.Histories.{write_call}
-use Rattle.disk_runs.specs.core_state.Openings.{Opening}
-use Rattle.disk_runs.specs.core_state.States.{State, start}
-use Rattle.disk_runs.specs.core_state.Events.{Event, Mode}
-use Rattle.disk_runs.specs.core_state.Needs.{may, value_in}
-use Rattle.disk_runs.specs.core_state.Steps.{happens, state_after}
-use Rattle.disk_runs.proofs.core_state_lemmas.Runs.{met_more, run_more}
+use Rattle.run_crashes.specs.image_model.Entries.{Entry, is_record}
+use Rattle.run_crashes.specs.image_model.Histories.{write_call}
+use Rattle.run_crashes.specs.core_state.Openings.{Opening}
+use Rattle.run_crashes.specs.core_state.States.{State, start}
+use Rattle.run_crashes.specs.core_state.Events.{Event, Mode}
+use Rattle.run_crashes.specs.core_state.Needs.{may, value_in}
+use Rattle.run_crashes.specs.core_state.Steps.{happens, state_after}
+use Rattle.run_crashes.proofs.core_state.Runs.{met_more, run_more}
 use Rattle.lean_disk.specs.Story.{Crash, Story}
-use Rattle.disk_runs.specs.log_record.declared.record.Record.{Record}
-use Rattle.disk_runs.specs.disk_image.Records.{entry_of}
-use Rattle.core_calls.specs.Deeds.{Changed, Deleted}
-use Rattle.core_calls.specs.Fronts.{AreFresh, Done, front, outcomes}
-use Rattle.core_calls.specs.Marks.{Called, marks}
-use Rattle.core_calls.specs.Refusals.{Limits}
-use Rattle.core_calls.specs.Runs.{Tells}
-use Rattle.core_calls.specs.Steps.{is_step}
-use Rattle.disk_runs.specs.Laws.{with_log}
-use Rattle.disk_runs.specs.Logs.{Records}
-use Rattle.disk_runs.specs.Stands.{Known}
+use Rattle.run_crashes.specs.log_record.declared.record.Record.{Record}
+use Rattle.run_crashes.specs.disk_image.Records.{entry_of}
+use Rattle.run_crashes.specs.core_calls.Deeds.{Changed, Deleted}
+use Rattle.run_crashes.specs.core_calls.Fronts.{AreFresh, Done, front, outcomes}
+use Rattle.run_crashes.specs.core_calls.Marks.{Called, marks}
+use Rattle.run_crashes.specs.core_calls.Refusals.{Limits}
+use Rattle.run_crashes.specs.core_calls.Runs.{Tells}
+use Rattle.run_crashes.specs.core_calls.Steps.{is_step}
+use Rattle.run_crashes.specs.disk_runs.Laws.{with_log}
+use Rattle.run_crashes.specs.disk_runs.Logs.{Records}
+use Rattle.run_crashes.specs.disk_runs.Stands.{Known}
 use Rattle.engine_calls.specs.Clauses.{Between}
 use Rattle.engine_calls.specs.Parts.{Gone, behind_first}
 use Rattle.engine_calls.specs.Clauses.{Nothing}
 use Rattle.engine_calls.specs.Puts.{EveryPut, IsWrite, WriteLaws, changed_by, taking}
 use Rattle.engine_calls.proofs.ComingLemmas.{follows, goes_on}
-use Rattle.core_calls.specs.LogEvents.{IsTight}
-use Rattle.core_calls.proofs.WhereLemmas.{syncs_more}
+use Rattle.run_crashes.specs.core_calls.LogEvents.{IsTight}
+use Rattle.run_crashes.proofs.core_calls.WhereLemmas.{syncs_more}
 use Rattle.engine_calls.proofs.MarkLemmas.{commits_none, first_none, first_steps, fresh_append, marks_last}
 use Rattle.engine_calls.proofs.PartLemmas.{on_log, stage, whole}
 use Rattle.engine_calls.proofs.UnlockLemmas.{if_met}
@@ -90,7 +90,7 @@ module _ (l : Limits) (g : Opening) (group : ℕ) (xs : List Done) (before betwe
         let y = subst (λ z. Gone g xs z s0 k old (with_log a w log q.0) new) is q.1 in
         record { answer = tells; known = with_log a w log q.0; no_earlier = y.no_earlier; stands = y.stands; notes = y.notes; any_moment = y.any_moment };
     unstaged = λ on. Nothing (first ++ [])
-        (subst (λ (z : List Event). (v : ℕ) → Rattle.core_calls.specs.Deeds.commits (marks g (state_after g (front xs)) z v []) ≡ false) (sym (Rattle.std.proofs.lemmas.List.append-nil first))
+        (subst (λ (z : List Event). (v : ℕ) → Rattle.run_crashes.specs.core_calls.Deeds.commits (marks g (state_after g (front xs)) z v []) ≡ false) (sym (Rattle.std.proofs.lemmas.List.append-nil first))
         (commits_none g (state_after g (front xs)) first (first_none w (g.row_of key) Mode.Alone before between i.before_steps i.between_steps)))
         (whole l g group xs s0 k old mid new first a b [] gone (on_log l g group xs s0 k old mid new first a b [] w i.low i.high gone on));
   }

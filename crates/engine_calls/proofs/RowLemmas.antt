@@ -1,11 +1,11 @@
 -- The rows by hand, computed.
 use Rattle.std.proofs.Common.{◌≡◌, ℕ, Bool, true, false, List, [], ◌∷◌, None, refl, arith}
 use Rattle.map_model.specs.declared.call.Call.TheVariants as call
-use Rattle.disk_runs.proofs.core_crash_lemmas.ByHand.{opening}
-use Rattle.disk_runs.specs.core_state.Events.{Event}
-use Rattle.core_calls.specs.Fronts.{Done, front, outcomes}
-use Rattle.core_calls.proofs.HandLemmas.{free_all, limits}
-use Rattle.core_calls.specs.Refusals.{Limits}
+use Rattle.run_crashes.proofs.core_crash.ByHand.{opening}
+use Rattle.run_crashes.specs.core_state.Events.{Event}
+use Rattle.run_crashes.specs.core_calls.Fronts.{Done, front, outcomes}
+use Rattle.run_crashes.proofs.core_calls.HandLemmas.{free_all, limits}
+use Rattle.run_crashes.specs.core_calls.Refusals.{Limits}
 use Rattle.engine_calls.specs.Aborts.{IsAbort, aborted_by}
 use Rattle.engine_calls.specs.Begins.{IsBegin}
 use Rattle.engine_calls.specs.Clauses.{IsNewLine, MayCome}

@@ -1,25 +1,25 @@
 -- A whole run.
 use Rattle.std.proofs.Common.{◌≡◌, ℕ, List, [], ◌∷◌, suc, arith}
-use Rattle.disk_runs.specs.core_state.Openings.{Opening}
+use Rattle.run_crashes.specs.core_state.Openings.{Opening}
 use Rattle.lean_disk.specs.Moments.{LeavesOnly}
 use Rattle.lean_disk.specs.Area.{Leaves}
 use Rattle.lean_disk.specs.Story.{Crash, Story, Tells}
 use Rattle.lean_disk.proofs.MomentLemmas.{weaker}
-use Rattle.disk_runs.specs.disk_slots.declared.master.Master.{Master}
-use Rattle.disk_runs.specs.disk_image.Laws.{EveryAgreement, EverySealed}
-use Rattle.disk_runs.specs.worker_log.Laws.{EveryKept, EveryPrefix}
-use Rattle.disk_runs.specs.core_state.Events.{Event}
-use Rattle.disk_runs.specs.core_disk.Held.{HoldsRun}
-use Rattle.disk_runs.specs.core_disk.Shows.{EveryShown}
-use Rattle.core_calls.specs.Crashes.{EveryRunCrash}
-use Rattle.core_calls.specs.Fronts.{Done, front}
-use Rattle.core_calls.specs.Refusals.{Limits}
-use Rattle.core_calls.specs.Runs as runs
-use Rattle.disk_runs.specs.Fair.{IsFairFrom}
-use Rattle.disk_runs.specs.Stands.{Known, Stands}
-use Rattle.disk_runs.proofs.LineLemmas.{opened}
-use Rattle.disk_runs.proofs.MomentLemmas.{some_laws}
-use Rattle.disk_runs.proofs.StandLemmas.{every_same, log_part, master_part, page_part}
+use Rattle.run_crashes.specs.disk_slots.declared.master.Master.{Master}
+use Rattle.run_crashes.specs.disk_image.Laws.{EveryAgreement, EverySealed}
+use Rattle.run_crashes.specs.worker_log.Laws.{EveryKept, EveryPrefix}
+use Rattle.run_crashes.specs.core_state.Events.{Event}
+use Rattle.run_crashes.specs.core_disk.Held.{HoldsRun}
+use Rattle.run_crashes.specs.core_disk.Shows.{EveryShown}
+use Rattle.run_crashes.specs.core_calls.Crashes.{EveryRunCrash}
+use Rattle.run_crashes.specs.core_calls.Fronts.{Done, front}
+use Rattle.run_crashes.specs.core_calls.Refusals.{Limits}
+use Rattle.run_crashes.specs.core_calls.Runs as runs
+use Rattle.run_crashes.specs.disk_runs.Fair.{IsFairFrom}
+use Rattle.run_crashes.specs.disk_runs.Stands.{Known, Stands}
+use Rattle.run_crashes.proofs.disk_runs.LineLemmas.{opened}
+use Rattle.run_crashes.proofs.disk_runs.MomentLemmas.{some_laws}
+use Rattle.run_crashes.proofs.disk_runs.StandLemmas.{every_same, log_part, master_part, page_part}
 use Rattle.run_crashes.specs.Laws.{CommitsNone, OfEachFirst, Passing}
 use Rattle.run_crashes.specs.Lines.{CallLeaves, PutLeaves, RunLeft}
 use Rattle.run_crashes.proofs.LineLemmas.{every_crashed_line_for, every_line_for, every_stop_for}

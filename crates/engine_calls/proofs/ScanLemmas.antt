@@ -2,25 +2,25 @@
 use Rattle.std.proofs.Common.{◌≡◌, ◌≤◌, ◌<◌, ℕ, suc, Bool, true, false, cond, ◌==◌, ◌||◌, List, [], ◌∷◌, ◌++◌, Option, Some, refl, sym, ap, ◌∙◌, subst, true≢false}
 use Rattle.map_model.specs.Lists.{any, keep}
 use Rattle.map_model.specs.Maps.{MapCall, MapAnswer}
-use Rattle.disk_runs.specs.core_state.Openings.{Opening}
-use Rattle.disk_runs.specs.core_state.States.{State}
-use Rattle.disk_runs.specs.core_state.Events.{Event, Mode}
-use Rattle.disk_runs.specs.core_state.Needs.{may, value_in}
-use Rattle.disk_runs.specs.core_state.Steps.{state_after}
-use Rattle.disk_runs.proofs.core_state_lemmas.Runs.{met_more}
+use Rattle.run_crashes.specs.core_state.Openings.{Opening}
+use Rattle.run_crashes.specs.core_state.States.{State}
+use Rattle.run_crashes.specs.core_state.Events.{Event, Mode}
+use Rattle.run_crashes.specs.core_state.Needs.{may, value_in}
+use Rattle.run_crashes.specs.core_state.Steps.{state_after}
+use Rattle.run_crashes.proofs.core_state.Runs.{met_more}
 use Rattle.lean_disk.specs.Story.{Story}
-use Rattle.disk_runs.specs.core_disk.Versions.{EveryVersion}
-use Rattle.core_calls.specs.Deeds.{Met, Over, Paused}
-use Rattle.core_calls.specs.Fronts.{Done, front, outcomes}
-use Rattle.core_calls.specs.Marks.{Called, Mark, marks}
-use Rattle.core_calls.specs.Refusals.{Limits}
-use Rattle.core_calls.specs.Runs.{Tells}
-use Rattle.core_calls.specs.Steps.{Walks, is_step, is_structure, met_last, scan_from}
+use Rattle.run_crashes.specs.core_disk.Versions.{EveryVersion}
+use Rattle.run_crashes.specs.core_calls.Deeds.{Met, Over, Paused}
+use Rattle.run_crashes.specs.core_calls.Fronts.{Done, front, outcomes}
+use Rattle.run_crashes.specs.core_calls.Marks.{Called, Mark, marks}
+use Rattle.run_crashes.specs.core_calls.Refusals.{Limits}
+use Rattle.run_crashes.specs.core_calls.Runs.{Tells}
+use Rattle.run_crashes.specs.core_calls.Steps.{Walks, is_step, is_structure, met_last, scan_from}
 use Rattle.engine_calls.specs.Parts.{behind_first}
 use Rattle.engine_calls.specs.Puts.{IsWhole, is_alone}
 use Rattle.engine_calls.specs.Scans.{EveryScan, IsPair, IsScan, PassesGaps, pair_behind, scanned_by, unsaid_pair}
-use Rattle.core_calls.specs.LogEvents.{IsTightSomewhere}
-use Rattle.core_calls.proofs.WhereLemmas.{syncs_more}
+use Rattle.run_crashes.specs.core_calls.LogEvents.{IsTightSomewhere}
+use Rattle.run_crashes.proofs.core_calls.WhereLemmas.{syncs_more}
 use Rattle.engine_calls.proofs.MarkLemmas.{any_append, either_false, fresh_append, fresh_none, has_mark, marks_last, marks_none, no_step}
 use Rattle.engine_calls.proofs.PartLemmas.{quiet}
 
@@ -57,7 +57,7 @@ module _ (g : Opening) (xs : List Done) (x : Done) (first : List Event) (w page 
 
   pub pair_told : (u : ℕ) → marks g (state_after g (front xs)) (first ++ event ∷ []) u [] ≡ cond (w == u) (Called (MapCall.Get key) (MapAnswer.Value (Some v)) (is_alone g xs first w key) ∷ []) []
   pair_told u = marks_last g (state_after g (front xs)) first (event ∷ []) u (gaps_none first i.gaps)
-      ∙ go (may g s event) (met_more g (state_after g (front xs)) first (event ∷ []) (subst (λ (es : List Event). Rattle.disk_runs.specs.core_state.Steps.AllMet g (state_after g (front xs)) es) is i.met)).0 (w == u)
+      ∙ go (may g s event) (met_more g (state_after g (front xs)) first (event ∷ []) (subst (λ (es : List Event). Rattle.run_crashes.specs.core_state.Steps.AllMet g (state_after g (front xs)) es) is i.met)).0 (w == u)
     where
       go : (a : Bool) → a ≡ true → (b : Bool) → cond a (cond b (Called (MapCall.Get key) (MapAnswer.Value (value_in g.format (s.page page).node key)) (is_alone g xs first w key) ∷ []) []) []
           ≡ cond b (Called (MapCall.Get key) (MapAnswer.Value (Some v)) (is_alone g xs first w key) ∷ []) []

@@ -1,13 +1,13 @@
 -- A sync and a checkpoint.
 use Rattle.std.proofs.Common.{◌≡◌, ℕ, Bool, true, false, cond, ◌==◌, List, [], ◌∷◌, ◌++◌, refl, sym, ◌∙◌, true≢false}
-use Rattle.disk_runs.specs.core_state.Openings.{Opening}
-use Rattle.disk_runs.specs.core_state.Events.{Event}
-use Rattle.disk_runs.specs.core_state.Steps.{state_after}
+use Rattle.run_crashes.specs.core_state.Openings.{Opening}
+use Rattle.run_crashes.specs.core_state.Events.{Event}
+use Rattle.run_crashes.specs.core_state.Steps.{state_after}
 use Rattle.lean_disk.specs.Story.{Story}
-use Rattle.core_calls.specs.Deeds.{Checkpointed, Synced}
-use Rattle.core_calls.specs.Fronts.{Done, front, outcomes}
-use Rattle.core_calls.specs.Marks.{Mark, marks}
-use Rattle.core_calls.specs.Steps.{is_step}
+use Rattle.run_crashes.specs.core_calls.Deeds.{Checkpointed, Synced}
+use Rattle.run_crashes.specs.core_calls.Fronts.{Done, front, outcomes}
+use Rattle.run_crashes.specs.core_calls.Marks.{Mark, marks}
+use Rattle.run_crashes.specs.core_calls.Steps.{is_step}
 use Rattle.engine_calls.specs.Syncs.{EverySync, IsKeeping, kept_by}
 use Rattle.engine_calls.proofs.ComingLemmas.{follows, goes_on}
 use Rattle.engine_calls.proofs.MarkLemmas.{fresh_none, keep_none, marks_none, steps_none}

@@ -1,17 +1,17 @@
 -- Rows that are given back, and the flush behind them: what that leaves of the state.
 use Rattle.std.proofs.Common.{◌≡◌, ℕ, Bool, true, false, cond, ◌==◌, List, [], ◌∷◌, ◌++◌, refl, sym, ap, ◌∙◌, true≢false}
 use Rattle.map_model.specs.Lists.{all, any, keep}
-use Rattle.disk_runs.specs.image_model.Entries.{Entry}
-use Rattle.disk_runs.specs.core_state.Openings.{Opening}
-use Rattle.disk_runs.specs.core_state.States.{Row, State}
-use Rattle.disk_runs.specs.core_state.Events.{Event}
-use Rattle.disk_runs.specs.core_state.Needs.{may}
-use Rattle.disk_runs.specs.core_state.Steps.{AllMet, happens, run, step}
-use Rattle.core_calls.specs.Fronts.{AreFresh}
-use Rattle.core_calls.specs.LogEvents.{is_log}
-use Rattle.core_calls.specs.Marks.{Mark, marks}
-use Rattle.core_calls.specs.Steps.{Unlocks, is_step, is_structure}
-use Rattle.disk_runs.specs.Quiet.{is_quiet}
+use Rattle.run_crashes.specs.image_model.Entries.{Entry}
+use Rattle.run_crashes.specs.core_state.Openings.{Opening}
+use Rattle.run_crashes.specs.core_state.States.{Row, State}
+use Rattle.run_crashes.specs.core_state.Events.{Event}
+use Rattle.run_crashes.specs.core_state.Needs.{may}
+use Rattle.run_crashes.specs.core_state.Steps.{AllMet, happens, run, step}
+use Rattle.run_crashes.specs.core_calls.Fronts.{AreFresh}
+use Rattle.run_crashes.specs.core_calls.LogEvents.{is_log}
+use Rattle.run_crashes.specs.core_calls.Marks.{Mark, marks}
+use Rattle.run_crashes.specs.core_calls.Steps.{Unlocks, is_step, is_structure}
+use Rattle.run_crashes.specs.disk_runs.Quiet.{is_quiet}
 use Rattle.engine_calls.specs.Commits.{flush_if, unlocks}
 use Rattle.engine_calls.proofs.MarkLemmas.{has_mark}
 

@@ -3,25 +3,25 @@ use Rattle.std.specs.Prelude.{◌≡◌, ◌≤◌, ◌<◌, ℕ, suc, false, Li
 use Rattle.map_model.specs.declared.call.Call.{Call}
 use Rattle.map_model.specs.Histories.{Step}
 use Rattle.map_model.specs.Lists.{any, keep}
-use Rattle.disk_runs.specs.image_model.Entries.{Entry, Kind}
-use Rattle.disk_runs.specs.image_model.Histories.{write_call}
-use Rattle.disk_runs.specs.core_state.Openings.{Opening}
-use Rattle.disk_runs.specs.core_state.States.{State, flushed_by_all}
-use Rattle.disk_runs.specs.core_state.Events.{Event}
-use Rattle.disk_runs.specs.core_state.Needs.{holds_row}
-use Rattle.disk_runs.specs.core_state.Steps.{AllMet, end_entry, state_after, step}
+use Rattle.run_crashes.specs.image_model.Entries.{Entry, Kind}
+use Rattle.run_crashes.specs.image_model.Histories.{write_call}
+use Rattle.run_crashes.specs.core_state.Openings.{Opening}
+use Rattle.run_crashes.specs.core_state.States.{State, flushed_by_all}
+use Rattle.run_crashes.specs.core_state.Events.{Event}
+use Rattle.run_crashes.specs.core_state.Needs.{holds_row}
+use Rattle.run_crashes.specs.core_state.Steps.{AllMet, end_entry, state_after, step}
 use Rattle.lean_disk.specs.Story.{Crash, Story}
-use Rattle.disk_runs.specs.log_record.declared.record.Record.{Record}
-use Rattle.disk_runs.specs.disk_image.Records.{entry_of}
-use Rattle.disk_runs.specs.worker_log.Logs.{Log}
-use Rattle.core_calls.specs.Deeds.{Aborted}
-use Rattle.core_calls.specs.Fronts.{Done, front}
-use Rattle.core_calls.specs.LogEvents.{IsTightSomewhere, SyncsWhere}
-use Rattle.core_calls.specs.Marks.{was_in}
-use Rattle.core_calls.specs.Refusals.{Limits}
-pub use Rattle.core_calls.specs.Steps.{PutsBack}
-use Rattle.core_calls.specs.Steps.{is_step, is_structure}
-use Rattle.disk_runs.specs.Stands.{Known}
+use Rattle.run_crashes.specs.log_record.declared.record.Record.{Record}
+use Rattle.run_crashes.specs.disk_image.Records.{entry_of}
+use Rattle.run_crashes.specs.worker_log.Logs.{Log}
+use Rattle.run_crashes.specs.core_calls.Deeds.{Aborted}
+use Rattle.run_crashes.specs.core_calls.Fronts.{Done, front}
+use Rattle.run_crashes.specs.core_calls.LogEvents.{IsTightSomewhere, SyncsWhere}
+use Rattle.run_crashes.specs.core_calls.Marks.{was_in}
+use Rattle.run_crashes.specs.core_calls.Refusals.{Limits}
+pub use Rattle.run_crashes.specs.core_calls.Steps.{PutsBack}
+use Rattle.run_crashes.specs.core_calls.Steps.{is_step, is_structure}
+use Rattle.run_crashes.specs.disk_runs.Stands.{Known}
 use Rattle.log_calls.specs.Calls.{StagesOn}
 use Rattle.engine_calls.specs.Clauses.{Between, CallAnswers, CallStops, MayCome, OnLog}
 use Rattle.engine_calls.specs.Commits.{unlocks}

@@ -3,14 +3,14 @@ use Rattle.std.specs.Prelude.{◌≡◌, ◌≤◌, ◌<◌, ℕ, suc, Bool, tru
 use Rattle.map_model.specs.Lists.{keep}
 use Rattle.map_model.specs.declared.call.Call.{Call}
 use Rattle.map_model.specs.declared.call.Refusal.{Refusal}
-use Rattle.disk_runs.specs.core_state.Openings.{Opening}
-use Rattle.disk_runs.specs.core_state.Events.{Event, Mode}
-use Rattle.disk_runs.specs.log_record.declared.record.Record.{Record}
-use Rattle.core_calls.specs.Deeds.{Absent, Changed, Deleted, Got, Met, Over, Paused}
-use Rattle.core_calls.specs.Fronts.{Done, outcomes}
-use Rattle.core_calls.specs.Refusals.{Limits}
-use Rattle.core_calls.specs.Runs.{Tells}
-use Rattle.core_calls.specs.Steps.{Walks, is_step, met_last, scan_from}
+use Rattle.run_crashes.specs.core_state.Openings.{Opening}
+use Rattle.run_crashes.specs.core_state.Events.{Event, Mode}
+use Rattle.run_crashes.specs.log_record.declared.record.Record.{Record}
+use Rattle.run_crashes.specs.core_calls.Deeds.{Absent, Changed, Deleted, Got, Met, Over, Paused}
+use Rattle.run_crashes.specs.core_calls.Fronts.{Done, outcomes}
+use Rattle.run_crashes.specs.core_calls.Refusals.{Limits}
+use Rattle.run_crashes.specs.core_calls.Runs.{Tells}
+use Rattle.run_crashes.specs.core_calls.Steps.{Walks, is_step, met_last, scan_from}
 use Rattle.engine_calls.specs.Aborts.{IsAbort, aborted_by}
 use Rattle.engine_calls.specs.Begins.{IsBegin, begun_by}
 use Rattle.engine_calls.specs.Commits.{IsCommit, committed_by}

@@ -1,17 +1,17 @@
 -- A begin.
 use Rattle.std.specs.Prelude.{◌≡◌, ℕ, suc, false, List, [], ◌∷◌, ◌++◌}
 use Rattle.map_model.specs.Lists.{any, keep}
-use Rattle.disk_runs.specs.core_state.Openings.{Opening}
-use Rattle.disk_runs.specs.core_state.States.{flushed_by_all}
-use Rattle.disk_runs.specs.core_state.Events.{Event}
-use Rattle.disk_runs.specs.core_state.Steps.{AllMet, state_after}
+use Rattle.run_crashes.specs.core_state.Openings.{Opening}
+use Rattle.run_crashes.specs.core_state.States.{flushed_by_all}
+use Rattle.run_crashes.specs.core_state.Events.{Event}
+use Rattle.run_crashes.specs.core_state.Steps.{AllMet, state_after}
 use Rattle.lean_disk.specs.Story.{Crash, Story}
-use Rattle.core_calls.specs.Deeds.{Begun}
-use Rattle.core_calls.specs.Fronts.{Done, front, outcomes}
-use Rattle.core_calls.specs.LogEvents.{Prepares, is_log}
-use Rattle.core_calls.specs.Refusals.{Limits}
-use Rattle.core_calls.specs.Steps.{is_step, is_structure}
-use Rattle.disk_runs.specs.Stands.{Known}
+use Rattle.run_crashes.specs.core_calls.Deeds.{Begun}
+use Rattle.run_crashes.specs.core_calls.Fronts.{Done, front, outcomes}
+use Rattle.run_crashes.specs.core_calls.LogEvents.{Prepares, is_log}
+use Rattle.run_crashes.specs.core_calls.Refusals.{Limits}
+use Rattle.run_crashes.specs.core_calls.Steps.{is_step, is_structure}
+use Rattle.run_crashes.specs.disk_runs.Stands.{Known}
 use Rattle.engine_calls.specs.Clauses.{Between, CallAnswers, IsNewLine}
 use Rattle.engine_calls.specs.Parts.{Gone, behind_first}
 

@@ -3,19 +3,19 @@
 use Rattle.std.specs.Prelude.{◌≡◌, ℕ, true, List, [], ◌∷◌, map, Some, None, IsTrue}
 use Rattle.map_model.specs.declared.call.Call.{Call}
 use Rattle.map_model.specs.Pairings.{GoesOn, is_last}
-use Rattle.disk_runs.specs.core_state.Openings.{Opening}
-use Rattle.disk_runs.specs.core_state.Events.{Event}
+use Rattle.run_crashes.specs.core_state.Openings.{Opening}
+use Rattle.run_crashes.specs.core_state.Events.{Event}
 use Rattle.lean_disk.specs.Moments.{LeavesOnly}
 use Rattle.lean_disk.specs.Story.{Crash, Story}
-use Rattle.core_calls.specs.Deeds.{Outcome, answered, asked, in_words}
-use Rattle.core_calls.specs.Fronts.{Done, front, outcomes}
-use Rattle.core_calls.specs.Refusals.{Limits}
-use Rattle.core_calls.specs.Runs.{EachTells, Tells}
-use Rattle.core_calls.specs.Steps.{FollowsConflict, IsAbortOf, IsAnAbort, hindered_in}
-use Rattle.disk_runs.specs.Masters.{IsNoEarlier}
-use Rattle.disk_runs.specs.Stands.{Known, Stands}
+use Rattle.run_crashes.specs.core_calls.Deeds.{Outcome, answered, asked, in_words}
+use Rattle.run_crashes.specs.core_calls.Fronts.{Done, front, outcomes}
+use Rattle.run_crashes.specs.core_calls.Refusals.{Limits}
+use Rattle.run_crashes.specs.core_calls.Runs.{EachTells, Tells}
+use Rattle.run_crashes.specs.core_calls.Steps.{FollowsConflict, IsAbortOf, IsAnAbort, hindered_in}
+use Rattle.run_crashes.specs.disk_runs.Masters.{IsNoEarlier}
+use Rattle.run_crashes.specs.disk_runs.Stands.{Known, Stands}
 use Rattle.log_calls.specs.Calls.{KeepsMoments, KeepsNotes}
-use Rattle.disk_runs.specs.worker_log.Logs.{Log}
+use Rattle.run_crashes.specs.worker_log.Logs.{Log}
 use Rattle.run_crashes.specs.Laws.{CommitsNone}
 use Rattle.run_crashes.specs.Lines.{CallLeaves, notes_of}
 

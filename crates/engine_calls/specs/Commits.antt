@@ -1,23 +1,23 @@
 -- A commit.
 use Rattle.std.specs.Prelude.{◌≡◌, ◌≤◌, ◌<◌, ℕ, suc, Bool, true, false, leb, List, [], ◌∷◌, ◌++◌, if◌then◌else◌}
-use Rattle.disk_runs.specs.image_model.Entries.{Kind}
+use Rattle.run_crashes.specs.image_model.Entries.{Kind}
 use Rattle.map_model.specs.Lists.{any}
-use Rattle.disk_runs.specs.core_state.Openings.{Opening}
-use Rattle.disk_runs.specs.core_state.States.{State, flushed_by_all}
-use Rattle.disk_runs.specs.core_state.Events.{Event}
-use Rattle.disk_runs.specs.core_state.Needs.{holds_row}
-use Rattle.disk_runs.specs.core_state.Steps.{AllMet, end_entry, state_after}
+use Rattle.run_crashes.specs.core_state.Openings.{Opening}
+use Rattle.run_crashes.specs.core_state.States.{State, flushed_by_all}
+use Rattle.run_crashes.specs.core_state.Events.{Event}
+use Rattle.run_crashes.specs.core_state.Needs.{holds_row}
+use Rattle.run_crashes.specs.core_state.Steps.{AllMet, end_entry, state_after}
 use Rattle.lean_disk.specs.Story.{Crash, Story}
-use Rattle.disk_runs.specs.log_record.declared.record.Record.{Record}
-use Rattle.disk_runs.specs.disk_image.Records.{entry_of}
-use Rattle.disk_runs.specs.worker_log.Logs.{Log}
-use Rattle.core_calls.specs.Deeds.{Committed, marks_by}
-use Rattle.core_calls.specs.Fronts.{Done, front, outcomes}
-use Rattle.core_calls.specs.LogEvents.{behind, is_log}
-use Rattle.core_calls.specs.Marks.{is_half}
-use Rattle.core_calls.specs.Refusals.{Limits}
-use Rattle.core_calls.specs.Steps.{is_step, is_structure}
-use Rattle.disk_runs.specs.Stands.{Known}
+use Rattle.run_crashes.specs.log_record.declared.record.Record.{Record}
+use Rattle.run_crashes.specs.disk_image.Records.{entry_of}
+use Rattle.run_crashes.specs.worker_log.Logs.{Log}
+use Rattle.run_crashes.specs.core_calls.Deeds.{Committed, marks_by}
+use Rattle.run_crashes.specs.core_calls.Fronts.{Done, front, outcomes}
+use Rattle.run_crashes.specs.core_calls.LogEvents.{behind, is_log}
+use Rattle.run_crashes.specs.core_calls.Marks.{is_half}
+use Rattle.run_crashes.specs.core_calls.Refusals.{Limits}
+use Rattle.run_crashes.specs.core_calls.Steps.{is_step, is_structure}
+use Rattle.run_crashes.specs.disk_runs.Stands.{Known}
 use Rattle.log_calls.specs.Calls.{FlushesOn, StagesOn}
 use Rattle.engine_calls.specs.Clauses.{Between, CallAnswers, CallStops, IsNewLine, OnLog}
 use Rattle.engine_calls.specs.Parts.{Gone, behind_first}

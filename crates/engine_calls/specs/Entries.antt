@@ -1,13 +1,13 @@
 -- Which records are the entries of a change and of an end.
 use Rattle.std.specs.Prelude.{◌≡◌, ℕ, suc}
-use Rattle.disk_runs.specs.image_model.Entries.{Kind, word_in}
-use Rattle.disk_runs.specs.core_state.Openings.{Opening}
-use Rattle.disk_runs.specs.core_state.States.{State, Worker}
-use Rattle.disk_runs.specs.core_state.Steps.{end_entry, write_entry}
+use Rattle.run_crashes.specs.image_model.Entries.{Kind, word_in}
+use Rattle.run_crashes.specs.core_state.Openings.{Opening}
+use Rattle.run_crashes.specs.core_state.States.{State, Worker}
+use Rattle.run_crashes.specs.core_state.Steps.{end_entry, write_entry}
 use Rattle.rfa_model.specs.Stamps.{need_of}
-use Rattle.disk_runs.specs.log_record.declared.record.Body.TheVariants as body
-use Rattle.disk_runs.specs.log_record.declared.record.Record.{Record}
-use Rattle.disk_runs.specs.disk_image.Records.{entry_of}
+use Rattle.run_crashes.specs.log_record.declared.record.Body.TheVariants as body
+use Rattle.run_crashes.specs.log_record.declared.record.Record.{Record}
+use Rattle.run_crashes.specs.disk_image.Records.{entry_of}
 
 -- the record of a commit by a worker that found all logs flushed up to f
 abbrev pub commit_record : Worker → (f : ℕ) → Record

@@ -4,16 +4,16 @@ use Rattle.map_model.specs.declared.call.Call.{Call}
 use Rattle.map_model.specs.declared.call.Call.TheVariants.{Abort}
 use Rattle.map_model.specs.declared.call.Refusal.TheVariants.{RowSpent}
 use Rattle.map_model.specs.Lists.{any, keep}
-use Rattle.disk_runs.specs.core_state.Openings.{Opening}
-use Rattle.disk_runs.specs.core_state.Events.{Event}
-use Rattle.disk_runs.specs.core_state.Steps.{AllMet, state_after}
+use Rattle.run_crashes.specs.core_state.Openings.{Opening}
+use Rattle.run_crashes.specs.core_state.Events.{Event}
+use Rattle.run_crashes.specs.core_state.Steps.{AllMet, state_after}
 use Rattle.lean_disk.specs.Story.{Crash, Story}
-use Rattle.core_calls.specs.Deeds.{Refused}
-use Rattle.core_calls.specs.Fronts.{Done, front, outcomes}
-use Rattle.core_calls.specs.LogEvents.{RefusedLogs}
-use Rattle.core_calls.specs.Refusals.{Limits}
-use Rattle.core_calls.specs.Steps.{PutsBack, call_behind, is_step, is_structure}
-use Rattle.disk_runs.specs.Stands.{Known}
+use Rattle.run_crashes.specs.core_calls.Deeds.{Refused}
+use Rattle.run_crashes.specs.core_calls.Fronts.{Done, front, outcomes}
+use Rattle.run_crashes.specs.core_calls.LogEvents.{RefusedLogs}
+use Rattle.run_crashes.specs.core_calls.Refusals.{Limits}
+use Rattle.run_crashes.specs.core_calls.Steps.{PutsBack, call_behind, is_step, is_structure}
+use Rattle.run_crashes.specs.disk_runs.Stands.{Known}
 use Rattle.engine_calls.specs.Aborts.{backs_by}
 use Rattle.engine_calls.specs.Clauses.{Between, CallAnswers, MayCome}
 use Rattle.engine_calls.specs.Parts.{Gone}

@@ -3,22 +3,22 @@
 use Rattle.std.specs.Prelude.{◌≡◌, ◌<◌, ◌≤◌, ◌-◌, ℕ, true, List, [], ◌∷◌, ◌++◌}
 use Rattle.map_model.specs.Lists.{all}
 use Rattle.page_model.specs.Page.{Page}
-use Rattle.disk_runs.specs.core_state.Openings.{Opening}
-use Rattle.disk_runs.specs.core_state.Events.{Event}
+use Rattle.run_crashes.specs.core_state.Openings.{Opening}
+use Rattle.run_crashes.specs.core_state.Events.{Event}
 use Rattle.lean_disk.specs.Calls.{Synced, Wrote}
 use Rattle.lean_disk.specs.Moments.{LeavesOnly}
 use Rattle.lean_disk.specs.Story.{Crash, IsLawful, Story}
 use Rattle.lean_disk.specs.declared.disk.Did.TheVariants.{Done}
-use Rattle.disk_runs.specs.disk_slots.declared.master.Master.{Master}
-use Rattle.disk_runs.specs.disk_slots.Pages.{page_slot}
-use Rattle.disk_runs.specs.page_store.Saved.{place_of}
-use Rattle.disk_runs.specs.worker_log.Logs.{Log}
-use Rattle.core_calls.specs.Fronts as fronts
-use Rattle.disk_runs.specs.MasterLaws.{IsSync, with_sync}
-use Rattle.disk_runs.specs.Masters.{IsNoEarlier}
-use Rattle.disk_runs.specs.PageLaws.{IsSave, with_late, with_settled}
-use Rattle.disk_runs.specs.Quiet.{is_quiet}
-use Rattle.disk_runs.specs.Stands.{Known, Stands}
+use Rattle.run_crashes.specs.disk_slots.declared.master.Master.{Master}
+use Rattle.run_crashes.specs.disk_slots.Pages.{page_slot}
+use Rattle.run_crashes.specs.page_store.Saved.{place_of}
+use Rattle.run_crashes.specs.worker_log.Logs.{Log}
+use Rattle.run_crashes.specs.core_calls.Fronts as fronts
+use Rattle.run_crashes.specs.disk_runs.MasterLaws.{IsSync, with_sync}
+use Rattle.run_crashes.specs.disk_runs.Masters.{IsNoEarlier}
+use Rattle.run_crashes.specs.disk_runs.PageLaws.{IsSave, with_late, with_settled}
+use Rattle.run_crashes.specs.disk_runs.Quiet.{is_quiet}
+use Rattle.run_crashes.specs.disk_runs.Stands.{Known, Stands}
 use Rattle.log_calls.specs.Syncs.{KeepsEither, SyncsOn}
 use Rattle.log_calls.specs.Wholes.{IsWhole, flush_of}
 use Rattle.engine_calls.specs.Clauses.{OnLog}

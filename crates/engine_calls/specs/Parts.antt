@@ -1,27 +1,27 @@
 -- A call in parts: what stands where the first of its events have happened, and how it goes on, ends, or stops there.
 use Rattle.std.specs.Prelude.{◌≡◌, ◌≤◌, ◌<◌, ℕ, true, false, List, [], ◌∷◌, ◌++◌}
 use Rattle.map_model.specs.Lists.{all}
-use Rattle.disk_runs.specs.core_state.Openings.{Opening}
-use Rattle.disk_runs.specs.core_state.States.{State}
-use Rattle.disk_runs.specs.core_state.Events.{Event}
-use Rattle.disk_runs.specs.core_state.Steps.{run, state_after}
+use Rattle.run_crashes.specs.core_state.Openings.{Opening}
+use Rattle.run_crashes.specs.core_state.States.{State}
+use Rattle.run_crashes.specs.core_state.Events.{Event}
+use Rattle.run_crashes.specs.core_state.Steps.{run, state_after}
 use Rattle.lean_disk.specs.Moments.{LeavesOnly}
 use Rattle.lean_disk.specs.Story.{Crash, IsLawful, Story}
-use Rattle.disk_runs.specs.log_record.declared.record.Record.{Record}
-use Rattle.disk_runs.specs.disk_image.Records.{entry_of}
-use Rattle.disk_runs.specs.worker_log.Accounts.{Account}
-use Rattle.disk_runs.specs.worker_log.Kept.{flushed}
-use Rattle.disk_runs.specs.worker_log.Logs.{Log}
-use Rattle.disk_runs.specs.core_disk.Versions.{is_cut}
-use Rattle.core_calls.specs.Fronts.{Done, front}
-use Rattle.core_calls.specs.Refusals.{Limits}
-use Rattle.core_calls.specs.Runs.{Tells}
-use Rattle.disk_runs.specs.Laws.{with_log}
-use Rattle.disk_runs.specs.Logs.{Flushes, Records}
-use Rattle.disk_runs.specs.Masters.{IsNoEarlier}
-use Rattle.disk_runs.specs.Moments.{LeavesSome}
-use Rattle.disk_runs.specs.Quiet.{is_quiet}
-use Rattle.disk_runs.specs.Stands.{Known, Stands}
+use Rattle.run_crashes.specs.log_record.declared.record.Record.{Record}
+use Rattle.run_crashes.specs.disk_image.Records.{entry_of}
+use Rattle.run_crashes.specs.worker_log.Accounts.{Account}
+use Rattle.run_crashes.specs.worker_log.Kept.{flushed}
+use Rattle.run_crashes.specs.worker_log.Logs.{Log}
+use Rattle.run_crashes.specs.core_disk.Versions.{is_cut}
+use Rattle.run_crashes.specs.core_calls.Fronts.{Done, front}
+use Rattle.run_crashes.specs.core_calls.Refusals.{Limits}
+use Rattle.run_crashes.specs.core_calls.Runs.{Tells}
+use Rattle.run_crashes.specs.disk_runs.Laws.{with_log}
+use Rattle.run_crashes.specs.disk_runs.Logs.{Flushes, Records}
+use Rattle.run_crashes.specs.disk_runs.Masters.{IsNoEarlier}
+use Rattle.run_crashes.specs.disk_runs.Moments.{LeavesSome}
+use Rattle.run_crashes.specs.disk_runs.Quiet.{is_quiet}
+use Rattle.run_crashes.specs.disk_runs.Stands.{Known, Stands}
 use Rattle.log_calls.specs.Calls.{FlushesOn, StagesOn}
 use Rattle.run_crashes.specs.Laws.{CommitsNone}
 use Rattle.run_crashes.specs.Lines.{CallLeaves}

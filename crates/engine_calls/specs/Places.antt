@@ -1,13 +1,13 @@
 -- A place on which sessions stand, over a disk: what its calls leave, and how they are put together.
 use Rattle.std.specs.Prelude.{◌≡◌, ◌≤◌, ◌<◌, ℕ, Bool, true, false, List, [], ◌++◌}
-use Rattle.disk_runs.specs.core_state.Openings.{Opening}
-use Rattle.disk_runs.specs.core_state.Events.{Event}
+use Rattle.run_crashes.specs.core_state.Openings.{Opening}
+use Rattle.run_crashes.specs.core_state.Events.{Event}
 use Rattle.lean_disk.specs.Moments.{LeavesOnly}
 use Rattle.lean_disk.specs.Story.{Crash, IsLawful, Story}
-use Rattle.disk_runs.specs.worker_log.Logs.{Log}
-use Rattle.disk_runs.specs.Masters.{IsNoEarlier}
-use Rattle.disk_runs.specs.Moments.{LeavesSome}
-use Rattle.disk_runs.specs.Stands.{Known, Stands}
+use Rattle.run_crashes.specs.worker_log.Logs.{Log}
+use Rattle.run_crashes.specs.disk_runs.Masters.{IsNoEarlier}
+use Rattle.run_crashes.specs.disk_runs.Moments.{LeavesSome}
+use Rattle.run_crashes.specs.disk_runs.Stands.{Known, Stands}
 
 -- at every moment: as many lines are out as before, and some first ones of these events have happened
 pub record PlaceLeaves (g : Opening) (es more : List Event) (s0 : Crash) (k : Known) (s : Story) (c : Crash) : Type 0 where

@@ -1,22 +1,22 @@
 -- A get, a put and a del. Before its own step a call may bring pages into frames, and miss; a change may make room in the tree.
 use Rattle.std.specs.Prelude.{◌≡◌, ◌≤◌, ◌<◌, ℕ, Bool, true, false, List, [], ◌∷◌, ◌++◌, Option, None, Some}
-use Rattle.disk_runs.specs.image_model.Entries.{Kind}
+use Rattle.run_crashes.specs.image_model.Entries.{Kind}
 use Rattle.map_model.specs.Lists.{any}
-use Rattle.disk_runs.specs.core_state.Openings.{Opening}
-use Rattle.disk_runs.specs.core_state.Events.{Event, Mode}
-use Rattle.disk_runs.specs.core_state.Needs.{is_held_by, value_in}
-use Rattle.disk_runs.specs.core_state.Steps.{AllMet, at_pages, state_after, write_entry}
+use Rattle.run_crashes.specs.core_state.Openings.{Opening}
+use Rattle.run_crashes.specs.core_state.Events.{Event, Mode}
+use Rattle.run_crashes.specs.core_state.Needs.{is_held_by, value_in}
+use Rattle.run_crashes.specs.core_state.Steps.{AllMet, at_pages, state_after, write_entry}
 use Rattle.lean_disk.specs.Story.{Crash, Story}
-use Rattle.disk_runs.specs.log_record.declared.record.Record.{Record}
-use Rattle.disk_runs.specs.disk_image.Records.{entry_of}
-use Rattle.disk_runs.specs.worker_log.Logs.{Log}
-use Rattle.core_calls.specs.Deeds.{Absent, Changed, Deed, Deleted, Got, marks_by}
-use Rattle.core_calls.specs.Fronts.{Done, front, outcomes}
-use Rattle.core_calls.specs.LogEvents.{IsTight, SyncsWhere}
-use Rattle.core_calls.specs.Marks.{is_half}
-use Rattle.core_calls.specs.Refusals.{Limits}
-use Rattle.core_calls.specs.Steps.{is_step, is_structure}
-use Rattle.disk_runs.specs.Stands.{Known}
+use Rattle.run_crashes.specs.log_record.declared.record.Record.{Record}
+use Rattle.run_crashes.specs.disk_image.Records.{entry_of}
+use Rattle.run_crashes.specs.worker_log.Logs.{Log}
+use Rattle.run_crashes.specs.core_calls.Deeds.{Absent, Changed, Deed, Deleted, Got, marks_by}
+use Rattle.run_crashes.specs.core_calls.Fronts.{Done, front, outcomes}
+use Rattle.run_crashes.specs.core_calls.LogEvents.{IsTight, SyncsWhere}
+use Rattle.run_crashes.specs.core_calls.Marks.{is_half}
+use Rattle.run_crashes.specs.core_calls.Refusals.{Limits}
+use Rattle.run_crashes.specs.core_calls.Steps.{is_step, is_structure}
+use Rattle.run_crashes.specs.disk_runs.Stands.{Known}
 use Rattle.log_calls.specs.Calls.{StagesOn}
 use Rattle.engine_calls.specs.Clauses.{Between, CallAnswers, CallStops, IsNewLine, OnLog}
 use Rattle.engine_calls.specs.Parts.{Gone, behind_first}

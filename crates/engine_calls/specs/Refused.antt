@@ -3,18 +3,18 @@ use Rattle.std.specs.Prelude.{◌≡◌, ℕ, false, List, [], ◌∷◌, ◌++�
 use Rattle.map_model.specs.declared.call.Call.{Call}
 use Rattle.map_model.specs.declared.call.Refusal.{Refusal}
 use Rattle.map_model.specs.Lists.{any, keep}
-use Rattle.disk_runs.specs.core_state.Openings.{Opening}
-use Rattle.disk_runs.specs.core_state.Events.{Event}
-use Rattle.disk_runs.specs.core_state.Steps.{AllMet, state_after}
+use Rattle.run_crashes.specs.core_state.Openings.{Opening}
+use Rattle.run_crashes.specs.core_state.Events.{Event}
+use Rattle.run_crashes.specs.core_state.Steps.{AllMet, state_after}
 use Rattle.lean_disk.specs.Story.{Crash, Story}
-use Rattle.core_calls.specs.Deeds.{Refused, marks_by}
-use Rattle.core_calls.specs.Fronts.{Done, front, outcomes}
-use Rattle.core_calls.specs.LogEvents.{RefusedLogs}
-use Rattle.core_calls.specs.Marks.{is_half}
-use Rattle.core_calls.specs.Refusals.{Limits, IsCause}
-use Rattle.core_calls.specs.Scans.{StopsOnWay}
-use Rattle.core_calls.specs.Steps.{Tries, call_behind, is_change, is_step, is_structure}
-use Rattle.disk_runs.specs.Stands.{Known}
+use Rattle.run_crashes.specs.core_calls.Deeds.{Refused, marks_by}
+use Rattle.run_crashes.specs.core_calls.Fronts.{Done, front, outcomes}
+use Rattle.run_crashes.specs.core_calls.LogEvents.{RefusedLogs}
+use Rattle.run_crashes.specs.core_calls.Marks.{is_half}
+use Rattle.run_crashes.specs.core_calls.Refusals.{Limits, IsCause}
+use Rattle.run_crashes.specs.core_calls.Scans.{StopsOnWay}
+use Rattle.run_crashes.specs.core_calls.Steps.{Tries, call_behind, is_change, is_step, is_structure}
+use Rattle.run_crashes.specs.disk_runs.Stands.{Known}
 use Rattle.engine_calls.specs.Clauses.{Between, CallAnswers, MayCome}
 use Rattle.engine_calls.specs.Parts.{Gone, behind_first}
 

@@ -1,13 +1,13 @@
 -- A begin, a put and its commit or its abort by hand, on one empty leaf: what a body shows of each can be shown.
 use Rattle.std.specs.Prelude.{◌≡◌, ◌^◌, Bool, true, false, List, [], ◌∷◌, None}
 use Rattle.map_model.specs.declared.call.Call.TheVariants as call
-use Rattle.disk_runs.specs.core_state.Openings.{Opening}
-use Rattle.disk_runs.specs.core_state.Events.{Event, Mode}
-use Rattle.disk_runs.specs.log_record.declared.record.Body.TheVariants as body
-use Rattle.disk_runs.specs.log_record.declared.record.Record.{Record}
-use Rattle.core_calls.specs.Deeds.{Changed}
-use Rattle.core_calls.specs.Fronts.{Done}
-use Rattle.core_calls.specs.Refusals.{Limits}
+use Rattle.run_crashes.specs.core_state.Openings.{Opening}
+use Rattle.run_crashes.specs.core_state.Events.{Event, Mode}
+use Rattle.run_crashes.specs.log_record.declared.record.Body.TheVariants as body
+use Rattle.run_crashes.specs.log_record.declared.record.Record.{Record}
+use Rattle.run_crashes.specs.core_calls.Deeds.{Changed}
+use Rattle.run_crashes.specs.core_calls.Fronts.{Done}
+use Rattle.run_crashes.specs.core_calls.Refusals.{Limits}
 use Rattle.engine_calls.specs.Aborts.{IsAbort}
 use Rattle.engine_calls.specs.Begins.{IsBegin, begun_by}
 use Rattle.engine_calls.specs.Commits.{IsCommit, committed_by}

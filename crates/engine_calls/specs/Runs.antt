@@ -1,19 +1,19 @@
 -- A whole run, call by call: what holds between two calls, and at every moment since it began.
 use Rattle.std.specs.Prelude.{◌≡◌, ◌≤◌, ◌+◌, ℕ, suc, Bool, List, [], ◌∷◌, ◌++◌, length, IsTrue}
 use Rattle.map_model.specs.Outputs.{Reply}
-use Rattle.disk_runs.specs.core_state.Openings.{Opening}
-use Rattle.disk_runs.specs.core_state.Events.{Event}
+use Rattle.run_crashes.specs.core_state.Openings.{Opening}
+use Rattle.run_crashes.specs.core_state.Events.{Event}
 use Rattle.lean_disk.specs.Area.{Leaves}
 use Rattle.lean_disk.specs.Moments.{LeavesOnly}
 use Rattle.lean_disk.specs.Story.{Crash, IsLawful, Story, Tells}
-use Rattle.disk_runs.specs.disk_slots.declared.master.Master.{Master}
-use Rattle.core_calls.specs.Fronts.{Done, front}
-use Rattle.core_calls.specs.Refusals.{Limits}
-use Rattle.core_calls.specs.Runs as runs
-use Rattle.core_calls.specs.Runs.{EachTells}
-use Rattle.disk_runs.specs.Fair.{TellsAll}
-use Rattle.disk_runs.specs.Masters.{IsOfRunBy}
-use Rattle.disk_runs.specs.Stands.{Known, Stands}
+use Rattle.run_crashes.specs.disk_slots.declared.master.Master.{Master}
+use Rattle.run_crashes.specs.core_calls.Fronts.{Done, front}
+use Rattle.run_crashes.specs.core_calls.Refusals.{Limits}
+use Rattle.run_crashes.specs.core_calls.Runs as runs
+use Rattle.run_crashes.specs.core_calls.Runs.{EachTells}
+use Rattle.run_crashes.specs.disk_runs.Fair.{TellsAll}
+use Rattle.run_crashes.specs.disk_runs.Masters.{IsOfRunBy}
+use Rattle.run_crashes.specs.disk_runs.Stands.{Known, Stands}
 use Rattle.run_crashes.specs.Laws.{CommitsNone, OfEachFirst, Passing}
 use Rattle.run_crashes.specs.Lines.{CallLeaves, RunLeft, lines_of, notes_of}
 use Rattle.engine_calls.specs.Clauses.{Between, CallAnswers}

@@ -2,18 +2,18 @@
 use Rattle.std.specs.Prelude.{◌≡◌, ◌≤◌, ◌<◌, ℕ, suc, false, List, [], ◌∷◌, ◌++◌, Some}
 use Rattle.map_model.specs.Lists.{any, keep}
 use Rattle.map_model.specs.Maps.{MapAnswer}
-use Rattle.disk_runs.specs.core_state.Openings.{Opening}
-use Rattle.disk_runs.specs.core_state.Events.{Event, Mode}
-use Rattle.disk_runs.specs.core_state.Needs.{value_in}
-use Rattle.disk_runs.specs.core_state.Steps.{AllMet, state_after}
+use Rattle.run_crashes.specs.core_state.Openings.{Opening}
+use Rattle.run_crashes.specs.core_state.Events.{Event, Mode}
+use Rattle.run_crashes.specs.core_state.Needs.{value_in}
+use Rattle.run_crashes.specs.core_state.Steps.{AllMet, state_after}
 use Rattle.lean_disk.specs.Story.{Crash, Story}
-use Rattle.core_calls.specs.Deeds.{Deed, Met, Over, Paused, Unsaid}
-use Rattle.core_calls.specs.Fronts.{Done, front, outcomes}
-use Rattle.core_calls.specs.LogEvents.{IsTightSomewhere, SyncsWhere}
-use Rattle.core_calls.specs.Refusals.{Limits}
-use Rattle.core_calls.specs.Scans.{ScansRows}
-use Rattle.core_calls.specs.Steps.{Walks, is_step, is_structure, met_last, scan_from}
-use Rattle.disk_runs.specs.Stands.{Known}
+use Rattle.run_crashes.specs.core_calls.Deeds.{Deed, Met, Over, Paused, Unsaid}
+use Rattle.run_crashes.specs.core_calls.Fronts.{Done, front, outcomes}
+use Rattle.run_crashes.specs.core_calls.LogEvents.{IsTightSomewhere, SyncsWhere}
+use Rattle.run_crashes.specs.core_calls.Refusals.{Limits}
+use Rattle.run_crashes.specs.core_calls.Scans.{ScansRows}
+use Rattle.run_crashes.specs.core_calls.Steps.{Walks, is_step, is_structure, met_last, scan_from}
+use Rattle.run_crashes.specs.disk_runs.Stands.{Known}
 use Rattle.engine_calls.specs.Clauses.{Between, CallAnswers, MayCome}
 use Rattle.engine_calls.specs.Parts.{Gone, behind_first}
 use Rattle.engine_calls.specs.Puts.{IsWhole, is_alone}

@@ -1,16 +1,16 @@
 -- A sync and a checkpoint.
 use Rattle.std.specs.Prelude.{◌≡◌, ℕ, false, List, [], ◌∷◌, ◌++◌}
 use Rattle.map_model.specs.Lists.{any, keep}
-use Rattle.disk_runs.specs.core_state.Openings.{Opening}
-use Rattle.disk_runs.specs.core_state.Events.{Event}
-use Rattle.disk_runs.specs.core_state.Steps.{AllMet, state_after}
+use Rattle.run_crashes.specs.core_state.Openings.{Opening}
+use Rattle.run_crashes.specs.core_state.Events.{Event}
+use Rattle.run_crashes.specs.core_state.Steps.{AllMet, state_after}
 use Rattle.lean_disk.specs.Story.{Crash, Story}
-use Rattle.core_calls.specs.Deeds.{Checkpointed, Deed, Synced}
-use Rattle.core_calls.specs.Fronts.{Done, front, outcomes}
-use Rattle.core_calls.specs.LogEvents.{IsSync, IsSyncAndCut, is_log}
-use Rattle.core_calls.specs.Refusals.{Limits}
-use Rattle.core_calls.specs.Steps.{is_step, is_structure}
-use Rattle.disk_runs.specs.Stands.{Known}
+use Rattle.run_crashes.specs.core_calls.Deeds.{Checkpointed, Deed, Synced}
+use Rattle.run_crashes.specs.core_calls.Fronts.{Done, front, outcomes}
+use Rattle.run_crashes.specs.core_calls.LogEvents.{IsSync, IsSyncAndCut, is_log}
+use Rattle.run_crashes.specs.core_calls.Refusals.{Limits}
+use Rattle.run_crashes.specs.core_calls.Steps.{is_step, is_structure}
+use Rattle.run_crashes.specs.disk_runs.Stands.{Known}
 use Rattle.engine_calls.specs.Clauses.{Between, CallAnswers, IsNewLine}
 use Rattle.engine_calls.specs.Parts.{Gone}
 

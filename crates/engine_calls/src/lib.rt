@@ -21,17 +21,26 @@ ghost use Rattle.engine_calls.specs.Runs.{EveryRun};
 ghost use Rattle.engine_calls.specs.Scans.{EveryScan};
 ghost use Rattle.engine_calls.specs.Syncs.{EverySync};
 
-use disk_runs::{core_disk, disk_image, worker_log};
 use lean_disk::Disk;
+
+// Passed on to the crates above.
+pub use log_calls::{flush, flush_whole, stage_end, sync_master};
+pub use run_crashes::{
+    DiskFault, Heads, Master, MasterStoreDiskFault, RESERVE, Staging, Unread, WorkerLog,
+    block_bytes, choose, every_agreement, every_block_in, every_kept, every_line_count,
+    every_master_in, every_met, every_opened, every_prefix, every_printed, every_room,
+    every_run_crash, every_sealed, every_shown, every_told, every_version, every_warm, every_where,
+    every_whole, fetch, master_bytes, page_bytes, save, spare, write_next,
+};
 
 /// A call in parts: how it begins, goes on, ends and stops.
 pub fn every_part<D: Disk>(old: &D, mid: &D, new: &D)
     ensures { EveryPart (D.story old.now) (D.story mid.now) (D.story new.now) }
 {
-    core_disk::every_version();
-    worker_log::every_kept();
-    worker_log::every_prefix();
-    disk_image::every_sealed();
+    run_crashes::every_version();
+    run_crashes::every_kept();
+    run_crashes::every_prefix();
+    run_crashes::every_sealed();
 }
 
 /// Parts of a call that go on from where the disk stands: a page that is saved, a sync of the pages, a log that is flushed, a
@@ -39,24 +48,24 @@ pub fn every_part<D: Disk>(old: &D, mid: &D, new: &D)
 pub fn every_move<D: Disk>(old: &D, mid: &D, new: &D)
     ensures { EveryMove (D.story old.now) (D.story mid.now) (D.story new.now) }
 {
-    core_disk::every_version();
-    worker_log::every_kept();
-    worker_log::every_prefix();
-    disk_image::every_sealed();
+    run_crashes::every_version();
+    run_crashes::every_kept();
+    run_crashes::every_prefix();
+    run_crashes::every_sealed();
 }
 
 /// A begin itself touches no device.
 pub fn every_begin<D: Disk>(old: &D, new: &D)
     ensures { EveryBegin (D.story old.now) (D.story new.now) }
 {
-    core_disk::every_version();
+    run_crashes::every_version();
 }
 
 /// A get, and a del of an absent key, take a row and read.
 pub fn every_get<D: Disk>(old: &D, new: &D)
     ensures { EveryGet (D.story old.now) (D.story new.now) }
 {
-    core_disk::every_version();
+    run_crashes::every_version();
 }
 
 /// A put, and a del of a key that is there, take a row, and a record is staged.
@@ -68,14 +77,14 @@ pub fn every_put<D: Disk>(old: &D, mid: &D, new: &D)
 pub fn every_commit<D: Disk>(old: &D, now: &D, mid: &D, new: &D)
     ensures { EveryCommit (D.story old.now) (D.story now.now) (D.story mid.now) (D.story new.now) }
 {
-    core_disk::every_version();
+    run_crashes::every_version();
 }
 
 /// An abort puts changes back, its end is staged, and rows are given back.
 pub fn every_abort<D: Disk>(old: &D, mid: &D, new: &D)
     ensures { EveryAbort (D.story old.now) (D.story mid.now) (D.story new.now) }
 {
-    core_disk::every_version();
+    run_crashes::every_version();
 }
 
 /// An abort that is refused has put changes back, and may do so again.
@@ -87,7 +96,7 @@ pub fn every_halved<D: Disk>(old: &D, new: &D)
 pub fn every_scan<D: Disk>(old: &D, new: &D)
     ensures { EveryScan (D.story old.now) (D.story new.now) }
 {
-    core_disk::every_version();
+    run_crashes::every_version();
 }
 
 /// A sync and a checkpoint are of no session.
@@ -109,12 +118,12 @@ pub fn every_answer()
 pub fn every_run<D: Disk>(from: &D, old: &D, new: &D, out: &D)
     ensures { EveryRun (D.story from.now) (D.story old.now) (D.story new.now) (D.story out.now) }
 {
-    core_disk::every_shown();
-    core_calls::every_run_crash();
-    disk_image::every_agreement();
-    worker_log::every_kept();
-    worker_log::every_prefix();
-    disk_image::every_sealed();
+    run_crashes::every_shown();
+    run_crashes::every_run_crash();
+    run_crashes::every_agreement();
+    run_crashes::every_kept();
+    run_crashes::every_prefix();
+    run_crashes::every_sealed();
 }
 
 /// Which outcome may come next.
@@ -126,9 +135,9 @@ pub fn every_coming()
 pub fn every_place<D: Disk>(old: &D, mid: &D, new: &D)
     ensures { EveryPlace (D.story old.now) (D.story mid.now) (D.story new.now) }
 {
-    worker_log::every_kept();
-    worker_log::every_prefix();
-    disk_image::every_sealed();
+    run_crashes::every_kept();
+    run_crashes::every_prefix();
+    run_crashes::every_sealed();
 }
 
 /// The records that are staged are the entries of their events.

@@ -1,11 +1,11 @@
 -- Why a call was not answered.
 use Rattle.std.specs.Prelude.{ℕ, List}
-use Rattle.disk_runs.specs.core_state.Openings.{Opening}
-use Rattle.core_calls.specs.Fronts.{Done}
-use Rattle.disk_runs.specs.Stands.{Known}
+use Rattle.call_parts.specs.core_state.Openings.{Opening}
+use Rattle.call_parts.specs.core_calls.Fronts.{Done}
+use Rattle.call_parts.specs.disk_runs.Stands.{Known}
 use Rattle.lean_disk.specs.Story.{Crash, Story}
-use Rattle.engine_calls.specs.Clauses.{Between}
-use Rattle.engine_trait.specs.Limits.{limits}
+use Rattle.call_parts.specs.engine_calls.Clauses.{Between}
+use Rattle.call_parts.specs.engine_trait.Limits.{limits}
 use Rattle.call_parts.specs.Memory.{IsOf, Memory}
 use Rattle.engine_front.specs.declared.calls.Unanswered.{Unanswered}
 use Rattle.engine_front.specs.declared.calls.Unanswered.TheVariants.{Broken, Damaged, DiskFault}

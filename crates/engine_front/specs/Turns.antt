@@ -6,13 +6,13 @@ use Rattle.map_model.specs.declared.call.Answer.TheVariants as answer
 use Rattle.map_model.specs.declared.call.Call.{Call}
 use Rattle.map_model.specs.declared.call.Call.TheVariants as call
 use Rattle.map_model.specs.Pairings.{is_last}
-use Rattle.disk_runs.specs.core_state.Openings.{Opening}
-use Rattle.disk_runs.specs.core_state.Steps.{state_after}
-use Rattle.core_calls.specs.Deeds.{answered, asked}
-use Rattle.core_calls.specs.Durables.{due}
-use Rattle.core_calls.specs.Fronts.{Done, front, outcomes}
-use Rattle.core_calls.specs.Steps.{hindered_in, is_conflict}
-use Rattle.engine_calls.specs.Clauses.{IsNewLine}
+use Rattle.call_parts.specs.core_state.Openings.{Opening}
+use Rattle.call_parts.specs.core_state.Steps.{state_after}
+use Rattle.call_parts.specs.core_calls.Deeds.{answered, asked}
+use Rattle.call_parts.specs.core_calls.Durables.{due}
+use Rattle.call_parts.specs.core_calls.Fronts.{Done, front, outcomes}
+use Rattle.call_parts.specs.core_calls.Steps.{hindered_in, is_conflict}
+use Rattle.call_parts.specs.engine_calls.Clauses.{IsNewLine}
 use Rattle.engine_front.specs.declared.calls.Durable.{Durable}
 use Rattle.engine_front.specs.declared.calls.Next.{Next}
 use Rattle.engine_front.specs.declared.calls.Next.TheVariants.{Abort, Durables, Line, Scan}

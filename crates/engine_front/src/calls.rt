@@ -1,10 +1,10 @@
 //! The calls of an engine.
 ghost use Rattle.std.specs.Prelude.{◌≡◌, ◌↔◌, ◌≤◌, ◌<◌, ◌^◌, ℕ, Bool, true, false, List, ◌∷◌, IfOk, IfErr, IfSome, IsErr, Err, MatchOption, Some};
-ghost use Rattle.disk_runs.specs.core_state.Openings.{Opening};
-ghost use Rattle.core_calls.specs.Deeds.{asked};
-ghost use Rattle.core_calls.specs.Fronts.{Done};
-ghost use Rattle.core_calls.specs.Runs.{EachTells};
-ghost use Rattle.core_calls.specs.Steps.{hindered_in};
+ghost use Rattle.call_parts.specs.core_state.Openings.{Opening};
+ghost use Rattle.call_parts.specs.core_calls.Deeds.{asked};
+ghost use Rattle.call_parts.specs.core_calls.Fronts.{Done};
+ghost use Rattle.call_parts.specs.core_calls.Runs.{EachTells};
+ghost use Rattle.call_parts.specs.core_calls.Steps.{hindered_in};
 ghost use Rattle.lean_disk.specs.Faults.{HasCause};
 ghost use Rattle.lean_disk.specs.Calls.{Noted};
 ghost use Rattle.lean_disk.specs.Story.{IsLawful};
@@ -12,8 +12,8 @@ ghost use Rattle.lean_edge.specs.Outside.{IsWholeLine, Puts};
 ghost use Rattle.map_model.specs.Journals.{Name};
 ghost use Rattle.map_model.specs.Pairings.{is_last};
 ghost use Rattle.map_model.specs.declared.call.Call.{Call};
-ghost use Rattle.engine_trait.specs.Calls.{HasCome, IsAsked};
-ghost use Rattle.engine_trait.specs.Limits.{limits};
+ghost use Rattle.call_parts.specs.engine_trait.Calls.{HasCome, IsAsked};
+ghost use Rattle.call_parts.specs.engine_trait.Limits.{limits};
 ghost use Rattle.call_parts.specs.Deeds.{Does, Fails};
 ghost use Rattle.call_parts.specs.Memory.{Memory};
 ghost use Rattle.engine_front.specs.Stops.{StandsNot, StopsBy};

@@ -1,13 +1,12 @@
 // An engine on a formatted disk in memory. The expected answers were written down by hand.
 ghost use Rattle.std.specs.Prelude.{◌≡◌, ◌<◌, ◌≤◌, ℕ, true};
-ghost use Rattle.engine_trait.specs.Calls.{IsAsked};
-ghost use Rattle.engine_front.specs.declared.calls.Next.{Next};
+ghost use Rattle.buffered_engine.specs.engine_trait.Calls.{IsAsked};
+ghost use Rattle.buffered_engine.specs.engine_front.declared.calls.Next.{Next};
 
 use crate::cases::expect;
 use crate::disks::formatted;
 use crate::sessions::take_rest;
-use buffered_engine::{Engine, Opened, Size, Unopened};
-use engine_front::calls::{Next, Unanswered};
+use buffered_engine::{Engine, Next, Opened, Size, Unanswered, Unopened};
 use lean_disk::MemDisk;
 use map_model::{Answer, Call, Refusal};
 use std::alloc::{AllocError, Global};

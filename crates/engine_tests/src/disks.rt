@@ -1,7 +1,6 @@
 // Disks of sixteen pages and one log of 64 blocks.
+use buffered_engine::{Heads, Master, Node, master_bytes, page_bytes};
 use lean_disk::{Choice, Disk, MemDisk};
-use master_store::btree_node::Node;
-use master_store::disk_slots::{Heads, Master, master_bytes, page_bytes};
 use std::alloc::{AllocError, Global};
 
 fn first_master(floor: u64) -> Master {

@@ -1,10 +1,9 @@
 // A log over a disk in memory. The bytes of blocks are Python's, by struct.pack and hashlib.
 use crate::cases::expect;
+use buffered_engine::{Body, DiskFault, PageRef, Record, Staging, WorkerLog};
 use lean_disk::{AreaOf, Disk, MemDisk, Part};
-use master_store::log_record::{Body, PageRef, Record};
 use std::alloc::{AllocError, Global};
 use std::process::Abort;
-use worker_log::{DiskFault, Staging, WorkerLog};
 
 enum Step {
     /// A change of key 5 from none to 7 of this number.

@@ -1,8 +1,7 @@
 // Masters that are written to a disk in memory and chosen again.
 use crate::cases::expect;
+use buffered_engine::{Heads, Master, MasterStoreDiskFault as DiskFault, choose, write_next};
 use lean_disk::{AreaOf, Did, Disk, MemDisk};
-use master_store::disk_slots::{Heads, Master};
-use master_store::{DiskFault, choose, write_next};
 use std::alloc::{AllocError, Global};
 
 enum Step {

@@ -3,9 +3,8 @@ ghost use Rattle.std.specs.Prelude.{◌≤◌, length};
 
 use crate::cases::expect;
 use crate::disks::{formatted, put_master, put_pages, unused};
+use buffered_engine::{Recovered, Unrecovered, block_bytes, recover};
 use lean_disk::{Choice, Did, Disk, MemDisk};
-use master_store::log_block::block_bytes;
-use recovery::{Recovered, Unrecovered, recover};
 use std::alloc::{AllocError, Global};
 
 // A change of key 5 in page 0, from none to 7, and its commit.

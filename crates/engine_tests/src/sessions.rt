@@ -2,13 +2,11 @@
 use crate::cases::expect;
 use crate::disks::unused;
 use buffered_engine::{
-    Aborted, Began, Broken, Engine, Formatted, Opened, Receipt, Ripeness, Shape, Size, Synced,
-    Unopened, format,
+    Aborted, Began, Broken, Engine, Formatted, Next, Opened, Receipt, Ripeness, Shape, Size,
+    Synced, Unopened, choose, format,
 };
-use engine_front::calls::Next;
 use lean_disk::{AreaOf, MemDisk};
 use map_model::{Answer, Refusal};
-use master_store::choose;
 use std::alloc::{AllocError, Global};
 
 // A call of a session, and what it gives.

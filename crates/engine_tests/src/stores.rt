@@ -2,10 +2,8 @@
 ghost use Rattle.std.specs.Prelude.{◌≡◌, ◌<◌};
 
 use crate::cases::expect;
+use buffered_engine::{Heads, Master, Node, Unread, fetch, save, spare};
 use lean_disk::{AreaOf, Did, Disk, MemDisk};
-use master_store::btree_node::Node;
-use master_store::disk_slots::{Heads, Master};
-use master_store::page_store::{Unread, fetch, save, spare};
 use std::alloc::{AllocError, Global};
 
 // What is done with page 3.

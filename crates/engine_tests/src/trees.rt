@@ -1,6 +1,6 @@
 // The pages and the least page that breaks the rule were written down by hand.
 use crate::cases::expect;
-use master_store::btree_node::Node;
+use buffered_engine::Node;
 use node_tree::{first_break, is_leaf_with, leaf_of};
 use page_model::every_check;
 use std::alloc::{AllocError, Global};

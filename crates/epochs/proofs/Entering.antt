@@ -11,8 +11,8 @@ use Rattle.lean_proto.specs.row_words.Openings.{opening}
 use Rattle.lean_proto.specs.rows_trait.declared.view.View.{View}
 use Rattle.lean_proto.specs.rows_trait.Views.{Shape, after_all, state}
 use Rattle.lean_proto.specs.rows_trait.Turns.{Heard, Turned, Ran}
-use Rattle.lean_proto.proofs.rows_trait_lemmas.Runs.{ran_goes, ran_append}
-use Rattle.lean_proto.proofs.version_latch_lemmas.Keeping.{may_ran}
+use Rattle.lean_proto.proofs.rows_trait.Runs.{ran_goes, ran_append}
+use Rattle.lean_proto.proofs.version_latch.Keeping.{may_ran}
 use Rattle.lean_proto.specs.Controls.{IsTick, IsEnter, IsLeave, Entered, EveryEpoch}
 use Rattle.epochs.specs.Epochs.{HasTicked, IsInside, IsOutside, HasEntered, HasLeft, Met}
 

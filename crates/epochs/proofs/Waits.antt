@@ -12,8 +12,8 @@ use Rattle.lean_proto.specs.rows_trait.declared.view.Act.TheVariants.{Hear}
 use Rattle.lean_proto.specs.rows_trait.declared.view.View.{View}
 use Rattle.lean_proto.specs.rows_trait.Views.{Shape, after_all, may, state}
 use Rattle.lean_proto.specs.rows_trait.Turns.{Heard, Ran}
-use Rattle.lean_proto.proofs.rows_trait_lemmas.Runs.{ran_none, ran_append}
-use Rattle.lean_proto.proofs.version_latch_lemmas.Keeping.{may_ran}
+use Rattle.lean_proto.proofs.rows_trait.Runs.{ran_none, ran_append}
+use Rattle.lean_proto.proofs.version_latch.Keeping.{may_ran}
 use Rattle.lean_proto.specs.Controls.{EveryEpoch}
 use Rattle.lean_proto.specs.Still.{Stood, IsStill, EveryStood}
 use Rattle.epochs.specs.Epochs.{IsJudge, IsStamp, IsDeserted, Unwaited}

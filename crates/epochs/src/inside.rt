@@ -3,9 +3,7 @@ ghost use Rattle.std.specs.Prelude.{◌≡◌, ◌<◌, ◌≤◌, ◌+◌, ◌^
 ghost use Rattle.epochs.specs.Epochs.{IsInside, IsOutside, HasEntered, HasLeft};
 
 use crate::events::{Enters, Leaves};
-use lean_proto::every_epoch;
-use lean_proto::rows_trait::names::Nothing;
-use lean_proto::rows_trait::rows::Rows;
+use lean_proto::{Nothing, Rows, every_epoch};
 
 /// The epoch of a worker that is outside.
 const OUTSIDE: u64 = 1 << 63;

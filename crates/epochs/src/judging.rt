@@ -5,9 +5,7 @@ ghost use Rattle.lean_proto.specs.Controls.{IsTick};
 ghost use Rattle.epochs.specs.declared.judging.Ripeness.TheVariants.{Yes};
 
 use crate::events::Ticks;
-use lean_proto::rows_trait::names::Nothing;
-use lean_proto::rows_trait::rows::Rows;
-use lean_proto::{every_epoch, every_stood};
+use lean_proto::{Nothing, Rows, every_epoch, every_stood};
 
 /// The epoch of a worker that is outside.
 const OUTSIDE: u64 = 1 << 63;

@@ -13,7 +13,7 @@ use Rattle.disk_runs.specs.core_state.Needs.{are_hot, is_behind, is_held_by, is_
 use Rattle.disk_runs.specs.core_state.Openings.{Opening}
 use Rattle.disk_runs.specs.core_state.States.{Row, State, Worker, gsns_of, nodes_of, start}
 use Rattle.disk_runs.specs.core_state.Steps.{at_pages, at_row, begun, end_entry, finished, follows, happens, locked, moves, page_entry, put_back, read_entry, run, step, unlocked, with_pairs, write_entry, writes}
-use Rattle.disk_runs.proofs.core_commit_lemmas.Lists.{least_le}
+use Rattle.disk_runs.proofs.core_commit.Lists.{least_le}
 use Rattle.event_counts.specs.Draws.{EveryDraw, draws, draws_one}
 
 -- no number of these is above top

@@ -1,7 +1,7 @@
 -- What an engine by rote has in memory: nothing.
 use Rattle.std.specs.Prelude.{ℕ, []}
 use Rattle.call_parts.specs.Memory.{Memory}
-use Rattle.worker_log.specs.Logs.{Log}
+use Rattle.call_parts.specs.worker_log.Logs.{Log}
 
 abbrev pub no_log : Log
 no_log = record { generation = 0; log = 0; blocks = 0; head = 0; next = 0; payload = []; count = 0; last = 0; flushed = 0; ends = [] }

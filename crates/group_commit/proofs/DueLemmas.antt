@@ -8,8 +8,8 @@ use Rattle.core_crash.specs.image_model.Entries.{Entry, is_end, same_txn, earlie
 use Rattle.core_crash.specs.image_model.Ends.{name_of, names_of}
 use Rattle.core_crash.specs.core_state.Openings.{Opening}
 use Rattle.core_crash.specs.core_state.States.{State}
-use Rattle.core_crash.proofs.core_commit_lemmas.History.{IsRecorded, SameTxn, same_from, same_to}
-use Rattle.core_crash.proofs.core_commit_lemmas.KindFacts.{end_is_record}
+use Rattle.core_crash.proofs.core_commit.History.{IsRecorded, SameTxn, same_from, same_to}
+use Rattle.core_crash.proofs.core_commit.KindFacts.{end_is_record}
 use Rattle.core_calls.specs.Durables.{is_ripe, is_told, due}
 use Rattle.core_calls.proofs.DurableLemmas.{passes}
 

@@ -4,7 +4,7 @@ use Rattle.std.proofs.lemmas.Bool.{cond-true, cond-false}
 use Rattle.std.proofs.lemmas.List.{get_or-set_same, get_or-set_other}
 use Rattle.map_model.specs.Lists.{Has, keep}
 use Rattle.rfa_model.specs.Reaches.{least}
-use Rattle.core_crash.proofs.core_commit_lemmas.Lists.{Within}
+use Rattle.core_crash.proofs.core_commit.Lists.{Within}
 use Rattle.group_commit.specs.declared.queue.End.{End}
 use Rattle.group_commit.specs.Queues.{queue_of}
 

@@ -13,7 +13,7 @@ use Rattle.core_crash.specs.core_state.Events.{Event}
 use Rattle.core_crash.specs.core_state.Local.{is_sync}
 use Rattle.core_crash.specs.core_state.Needs.{may}
 use Rattle.core_crash.specs.core_state.Steps.{finished, happens, run, AllMet, state_after}
-use Rattle.core_crash.proofs.core_state_lemmas.Runs.{run_more, met_more}
+use Rattle.core_crash.proofs.core_state.Runs.{run_more, met_more}
 use Rattle.core_crash.specs.core_commit.Rises.{EveryRise}
 use Rattle.core_calls.specs.Deeds.{Deed, Begun, Got, Changed, Deleted, Absent, Met, Paused, Over, Committed, Aborted, Refused, Synced, Checkpointed, Unsaid, Outcome}
 use Rattle.core_calls.specs.Refusals.{Limits}

@@ -6,8 +6,8 @@ use Rattle.map_model.specs.Lists.{Has, keep}
 use Rattle.map_model.proofs.ListLemmas.{has_cases, has_left, has_right}
 use Rattle.core_crash.specs.image_model.Entries.{Entry, is_end}
 use Rattle.core_crash.specs.core_state.Openings.{Opening}
-use Rattle.core_crash.proofs.core_commit_lemmas.History.{IsRecorded}
-use Rattle.core_crash.proofs.core_commit_lemmas.KindFacts.{end_is_record}
+use Rattle.core_crash.proofs.core_commit.History.{IsRecorded}
+use Rattle.core_crash.proofs.core_commit.KindFacts.{end_is_record}
 use Rattle.group_commit.specs.declared.queue.End.{End}
 use Rattle.group_commit.specs.Queues.{is_ripe_at, is_done, settled}
 use Rattle.group_commit.specs.Tracks.{end_of, ends_above}

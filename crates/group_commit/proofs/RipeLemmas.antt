@@ -4,7 +4,7 @@ use Rattle.std.proofs.lemmas.Bool.{leb-true, leb-false, le-leb, cond-true}
 use Rattle.core_crash.specs.image_model.Entries.{Entry, is_commit}
 use Rattle.core_crash.specs.core_state.Openings.{Opening}
 use Rattle.core_crash.specs.core_state.States.{State}
-use Rattle.core_crash.proofs.core_commit_lemmas.Lists.{least_le, le_least}
+use Rattle.core_crash.proofs.core_commit.Lists.{least_le, le_least}
 use Rattle.core_calls.specs.Durables.{is_ripe}
 use Rattle.core_calls.proofs.DurableLemmas.{ripe_from, ripe_to}
 use Rattle.group_commit.specs.declared.receipts.Receipt.{Receipt}

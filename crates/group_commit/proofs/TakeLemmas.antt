@@ -11,9 +11,9 @@ use Rattle.core_crash.specs.core_state.Openings.{Opening}
 use Rattle.core_crash.specs.core_state.States.{State, start, flushed_by_all}
 use Rattle.core_crash.specs.core_state.Events.{Event}
 use Rattle.core_crash.specs.core_state.Steps.{run}
-use Rattle.core_crash.proofs.core_commit_lemmas.History.{IsRecorded, SameTxn}
-use Rattle.core_crash.proofs.core_commit_lemmas.Invariants.{Inv}
-use Rattle.core_crash.proofs.core_commit_lemmas.Runs.{good_run, good_start}
+use Rattle.core_crash.proofs.core_commit.History.{IsRecorded, SameTxn}
+use Rattle.core_crash.proofs.core_commit.Invariants.{Inv}
+use Rattle.core_crash.proofs.core_commit.Runs.{good_run, good_start}
 use Rattle.core_crash.proofs.Journal.{commit_is_end}
 use Rattle.core_crash.proofs.Ends.{one_end}
 use Rattle.core_calls.specs.Refusals.{waiting}

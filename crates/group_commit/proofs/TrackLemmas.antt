@@ -10,9 +10,9 @@ use Rattle.core_crash.specs.core_state.States.{State, start, flushed_by_all}
 use Rattle.core_crash.specs.core_state.Events.{Event}
 use Rattle.core_crash.specs.core_state.Needs.{may}
 use Rattle.core_crash.specs.core_state.Steps.{end_entry, happens, run}
-use Rattle.core_crash.proofs.core_state_lemmas.Runs.{run_more}
+use Rattle.core_crash.proofs.core_state.Runs.{run_more}
 use Rattle.core_crash.specs.core_commit.Rises.{EveryRise}
-use Rattle.core_crash.proofs.core_commit_lemmas.History.{IsRecorded}
+use Rattle.core_crash.proofs.core_commit.History.{IsRecorded}
 use Rattle.core_crash.proofs.Journal.{commit_is_end}
 use Rattle.core_calls.specs.Durables.{is_told}
 use Rattle.core_calls.proofs.DurableLemmas.{recorded_of, told_to}

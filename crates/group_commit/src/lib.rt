@@ -5,9 +5,6 @@ ghost use Rattle.group_commit.specs.Laws.{EveryRipe, EveryStart, EveryEnd, Every
 
 mod queue;
 mod receipts;
-
-use core_crash::core_commit;
-
 #[cfg(test)]
 mod tests;
 mod unripe;
@@ -30,14 +27,14 @@ pub fn every_start()
 pub fn every_end()
     ensures { EveryEnd }
 {
-    core_commit::every_rise();
+    core_crash::every_rise();
 }
 
 /// Flushes, syncs and what else is no end change nothing of that.
 pub fn every_other()
     ensures { EveryOther }
 {
-    core_commit::every_rise();
+    core_crash::every_rise();
 }
 
 /// What is taken is the durable line that is due first; where nothing is taken none is due, and each queue has as many ends as wait.
@@ -49,5 +46,5 @@ pub fn every_take()
 pub fn every_outcome()
     ensures { EveryOutcome }
 {
-    core_commit::every_rise();
+    core_crash::every_rise();
 }

@@ -7,7 +7,7 @@ use Rattle.rows_trait.specs.Views.{Shape, holds, held_at}
 use Rattle.rows_trait.specs.Turns.{Goes, Released}
 use Rattle.rows_trait.proofs.Holds.{holds_without, without_apart}
 use Rattle.rows_trait.proofs.Runs.{ran_goes}
-use Rattle.lean_proto.proofs.version_latch_lemmas.Keeping.{may_self}
+use Rattle.lean_proto.proofs.version_latch.Keeping.{may_self}
 use Rattle.held_rows.specs.Steps.{MissedUpTo}
 use Rattle.held_rows.specs.Rows.{IsOpen, IsUnchanged, OpensOne, OpensTwo, OpensThree}
 use Rattle.held_rows.proofs.Holding.{others_left}

@@ -10,8 +10,8 @@ use Rattle.lean_proto.specs.version_latch.Named.{missed, checked}
 use Rattle.lean_proto.specs.version_latch.Unheld.{NotHeld}
 use Rattle.lean_proto.specs.version_latch.declared.glimpse.Moved.{Moved as Two}
 use Rattle.lean_proto.specs.version_latch.declared.glimpse.Unheld.TheVariants.{Moved, RowSpent}
-use Rattle.lean_proto.proofs.version_latch_lemmas.Naming.{missed_odd, missed_even, checked_same, checked_other}
-use Rattle.lean_proto.proofs.version_latch_lemmas.Keeping.{looked_ran, looked_latest, may_ran}
+use Rattle.lean_proto.proofs.version_latch.Naming.{missed_odd, missed_even, checked_same, checked_other}
+use Rattle.lean_proto.proofs.version_latch.Keeping.{looked_ran, looked_latest, may_ran}
 use Rattle.held_rows.specs.Latching.{Took, Refused}
 
 module _ {z : Shape} {row : ℕ} {v u : View} (worker : ℕ) where

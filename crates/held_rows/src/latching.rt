@@ -6,8 +6,7 @@ ghost use Rattle.held_rows.specs.Steps.{MissedUpTo};
 ghost use Rattle.held_rows.specs.Latching.{Took, Refused, Caused, IsUndisturbed, IsFrameRow, TookTwo, TookThree, CausedAt};
 
 use crate::releasing::{give_up_one, give_up_two};
-use lean_proto::version_latch::events::{Checks, Misses};
-use lean_proto::version_latch::{Glimpse, Hold, Latched, Moved, Unheld};
+use lean_proto::{Checks, Glimpse, Hold, Latched, Misses, Moved, Unheld};
 use rows_trait::rows::Rows;
 
 /// Why a row was not latched.

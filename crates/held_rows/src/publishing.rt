@@ -5,7 +5,7 @@ ghost use Rattle.rows_trait.specs.Turns.{MayPublish};
 ghost use Rattle.held_rows.specs.Rows.{OpensOne, OpensTwo, OpensThree};
 ghost use Rattle.held_rows.specs.Publishing.{IsChanged, Went};
 
-use lean_proto::version_latch::Hold;
+use lean_proto::Hold;
 use rows_trait::names::Names;
 use rows_trait::rows::Rows;
 

@@ -3,7 +3,7 @@ ghost use Rattle.std.specs.Prelude.{◌≡◌, []};
 ghost use Rattle.held_rows.specs.Steps.{MissedUpTo};
 ghost use Rattle.held_rows.specs.Rows.{OpensOne, OpensTwo, OpensThree, IsUnchanged};
 
-use lean_proto::version_latch::Hold;
+use lean_proto::Hold;
 use rows_trait::rows::Rows;
 
 /// Gives up the only row that is held.

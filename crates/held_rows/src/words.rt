@@ -5,8 +5,8 @@ ghost use Rattle.rows_trait.specs.Views.{holds, held_at};
 ghost use Rattle.row_words.specs.btree_node.Words.{words_of};
 ghost use Rattle.held_rows.specs.Rows.{IsFrame, Stood, Wrote};
 
-use lean_proto::version_latch::Hold;
-use row_words::btree_node::Node;
+use lean_proto::Hold;
+use row_words::Node;
 use rows_trait::rows::Rows;
 
 /// Loads the words of the page: the first 126 of the row.

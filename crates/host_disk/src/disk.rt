@@ -3,13 +3,13 @@ ghost use Rattle.std.specs.Prelude.{◌≡◌};
 ghost use Rattle.disk_file.specs.Untold.{untold, untold_lawful, untold_whole};
 
 use crate::part::HostPart;
-use buffered_engine::{Durable, Engine, Hosts, Stages, Unanswered, stage_end};
+use buffered_engine::{
+    DiskFault, Durable, Engine, Hosts, Record, Stages, Unanswered, WorkerLog, stage_end,
+};
 use disk_file::FileDisk;
 use lean_disk::{Did, Disk, Read};
-use log_record::Record;
 use map_model::{Answer, Call};
 use std::alloc::Global;
-use worker_log::{DiskFault, WorkerLog};
 
 /// A `FileDisk` of the system that runs the program.
 #[derive(Drop)]

@@ -11,7 +11,7 @@ use Rattle.lean_proto.specs.rows_trait.declared.view.View.{View}
 use Rattle.lean_proto.specs.rows_trait.Views.{Shape, Spells, after_all, state, holds, held_at, latest, may}
 use Rattle.lean_proto.specs.rows_trait.Turns.{Looked, Taken, Published, MayPublish, Ran}
 use Rattle.lean_proto.specs.rows_trait.Causes.{HasFound}
-use Rattle.lean_proto.proofs.rows_trait_lemmas.Runs.{ran_append}
+use Rattle.lean_proto.proofs.rows_trait.Runs.{ran_append}
 use Rattle.lean_proto.specs.version_latch.declared.glimpse.Moved as versions
 use Rattle.lean_proto.specs.version_latch.declared.glimpse.Unheld.TheVariants as unheld
 use Rattle.lean_proto.specs.version_latch.declared.glimpse.TheConstants.{LAST}

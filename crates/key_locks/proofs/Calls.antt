@@ -9,7 +9,7 @@ use Rattle.lean_proto.specs.row_words.Openings.{opening}
 use Rattle.lean_proto.specs.rows_trait.declared.view.View.{View}
 use Rattle.lean_proto.specs.rows_trait.Views.{after_all}
 use Rattle.lean_proto.specs.rows_trait.Turns.{Ran}
-use Rattle.lean_proto.proofs.rows_trait_lemmas.Runs.{ran_append}
+use Rattle.lean_proto.proofs.rows_trait.Runs.{ran_append}
 use Rattle.key_locks.specs.Rows.{IsSound}
 use Rattle.key_locks.specs.Locking.{IsPublished}
 

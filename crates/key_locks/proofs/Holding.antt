@@ -8,8 +8,8 @@ use Rattle.lean_proto.specs.rows_trait.declared.view.View.{View}
 use Rattle.lean_proto.specs.rows_trait.Layout.{width}
 use Rattle.lean_proto.specs.rows_trait.Views.{Shape, Spells, state, hold, holds, held_at, without}
 use Rattle.lean_proto.specs.rows_trait.Turns.{Loaded, Stored}
-use Rattle.lean_proto.proofs.rows_trait_lemmas.Runs.{ran_goes, ran_none, ran_append}
-use Rattle.lean_proto.proofs.rows_trait_lemmas.Holds.{holds_write, write_here}
+use Rattle.lean_proto.proofs.rows_trait.Runs.{ran_goes, ran_none, ran_append}
+use Rattle.lean_proto.proofs.rows_trait.Holds.{holds_write, write_here}
 use Rattle.key_locks.specs.Inside.{IsAt, IsHeld, Stayed}
 use Rattle.key_locks.specs.Latching.{IsLatch}
 use Rattle.key_locks.proofs.Lists.{without_write, five}

@@ -5,7 +5,7 @@ use Rattle.std.proofs.lemmas.List.{get_or-set_same, get_or-set_other, set-get_or
 use Rattle.lean_proto.specs.rows_trait.declared.view.Hold.{Hold}
 use Rattle.lean_proto.specs.rows_trait.declared.view.View.{View}
 use Rattle.lean_proto.specs.rows_trait.Views.{hold, holds, held_at, without}
-use Rattle.lean_proto.proofs.rows_trait_lemmas.Holds.{holds_without, holds_without_here, without_apart}
+use Rattle.lean_proto.proofs.rows_trait.Holds.{holds_without, holds_without_here, without_apart}
 use Rattle.key_locks.specs.Inside.{IsCaught}
 use Rattle.key_locks.specs.Latching.{is_marked, IsLatch, AreLatched}
 use Rattle.key_locks.proofs.Lists.{without_none, without_new, holds_new, at_new}

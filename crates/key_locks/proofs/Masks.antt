@@ -8,7 +8,7 @@ use Rattle.std.proofs.lemmas.Nat.Bits.{bit_at-zero, bit_at_set_same, bit_at_set_
 use Rattle.map_model.specs.Lists.{any}
 use Rattle.lean_proto.specs.core_state.Needs.{is_reader}
 use Rattle.lean_proto.specs.row_words.Words.{mask}
-use Rattle.lean_proto.proofs.row_words_lemmas.Stays.{cases}
+use Rattle.lean_proto.proofs.row_words.Stays.{cases}
 use Rattle.key_locks.specs.Rows.{IsWorker}
 use Rattle.key_locks.specs.Inside.{others}
 

@@ -16,13 +16,13 @@ use Rattle.lean_proto.specs.row_words.Moments.{is_rising, Moment, event_of, acto
 use Rattle.lean_proto.specs.row_words.Openings.{opening}
 use Rattle.lean_proto.specs.row_words.Sealed.{begun, stepped, run, changes, sets, Shown}
 use Rattle.lean_proto.specs.row_words.Words.{lock_words, publishes, publishes_frame}
-use Rattle.lean_proto.proofs.row_words_lemmas.Stays.{cases, here}
-use Rattle.lean_proto.proofs.row_words_lemmas.SealedLemmas.{calm_tame, run_append}
+use Rattle.lean_proto.proofs.row_words.Stays.{cases, here}
+use Rattle.lean_proto.proofs.row_words.SealedLemmas.{calm_tame, run_append}
 use Rattle.lean_proto.specs.rows_trait.declared.view.View.{View}
 use Rattle.lean_proto.specs.rows_trait.Views.{Shape, after_all, state, AreApart, holds, held_at, without, settle, may}
 use Rattle.lean_proto.specs.rows_trait.Turns.{Leaves, MayPublish, Published}
-use Rattle.lean_proto.proofs.rows_trait_lemmas.Holds.{holds_without_here}
-use Rattle.lean_proto.proofs.rows_trait_lemmas.Runs.{ran_goes}
+use Rattle.lean_proto.proofs.rows_trait.Holds.{holds_without_here}
+use Rattle.lean_proto.proofs.rows_trait.Runs.{ran_goes}
 use Rattle.lean_proto.proofs.Meanwhile.{meanwhile}
 use Rattle.lean_proto.proofs.Owns.{worker_apart}
 use Rattle.key_locks.specs.declared.mode.Mode.{Mode}
@@ -31,7 +31,7 @@ use Rattle.key_locks.specs.Rows.{core_mode, event_mode}
 use Rattle.key_locks.specs.Inside.{IsAt, IsHeld, Stayed}
 use Rattle.key_locks.specs.Locking.{IsPublished}
 use Rattle.key_locks.proofs.Lists.{settle_none}
-use Rattle.lean_proto.proofs.version_latch_lemmas.Keeping.{may_ran}
+use Rattle.lean_proto.proofs.version_latch.Keeping.{may_ran}
 use Rattle.key_locks.proofs.Calls.{published_before}
 use Rattle.key_locks.proofs.Staying.{past, index, row_apart, worker_ran, at_after}
 

@@ -9,7 +9,7 @@ use Rattle.lean_proto.specs.core_state.Needs as core
 use Rattle.lean_proto.specs.core_state.Needs.{is_held_by}
 use Rattle.lean_proto.specs.core_state.Steps as steps
 use Rattle.lean_proto.specs.core_state.Steps.{happens, locked, unlocked}
-use Rattle.lean_proto.proofs.core_state_lemmas.Locality.{every_local}
+use Rattle.lean_proto.proofs.core_state.Locality.{every_local}
 use Rattle.lean_proto.specs.row_words.declared.event.Event.{Event}
 use Rattle.lean_proto.specs.row_words.declared.event.Event.TheVariants as told
 use Rattle.lean_proto.specs.row_words.declared.event.Mode.TheVariants as mode
@@ -18,8 +18,8 @@ use Rattle.lean_proto.specs.row_words.Moments.{Moment, event_of}
 use Rattle.lean_proto.specs.row_words.Moments as moments
 use Rattle.lean_proto.specs.row_words.Openings.{opening}
 use Rattle.lean_proto.specs.row_words.Sealed.{begun, stepped, run}
-use Rattle.lean_proto.proofs.row_words_lemmas.Stays.{cases, here, kept}
-use Rattle.lean_proto.proofs.row_words_lemmas.SealedLemmas.{run_append}
+use Rattle.lean_proto.proofs.row_words.Stays.{cases, here, kept}
+use Rattle.lean_proto.proofs.row_words.SealedLemmas.{run_append}
 use Rattle.lean_proto.specs.rows_trait.Views.{after_all}
 use Rattle.key_locks.specs.Rows.{IsRow}
 use Rattle.key_locks.specs.Soundness.{unbegun, EverySound}

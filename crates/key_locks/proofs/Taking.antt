@@ -21,7 +21,7 @@ use Rattle.lean_proto.specs.version_latch.declared.glimpse.Moved as versions
 use Rattle.lean_proto.specs.version_latch.declared.glimpse.Latched as latches
 use Rattle.lean_proto.specs.version_latch.declared.glimpse.Unheld.TheVariants as unheld
 use Rattle.lean_proto.specs.version_latch.Unheld.{NotHeld}
-use Rattle.lean_proto.proofs.rows_trait_lemmas.Runs.{ran_append}
+use Rattle.lean_proto.proofs.rows_trait.Runs.{ran_append}
 use Rattle.key_locks.specs.declared.mode.Mode.{Mode}
 use Rattle.key_locks.specs.declared.mode.Mode.TheVariants.{Shared, Alone}
 use Rattle.key_locks.specs.declared.words.Words.{Words}
@@ -30,8 +30,8 @@ use Rattle.key_locks.specs.Rows.{IsWorker, IsRow, IsSound, IsBlocking, Stands, c
 use Rattle.lean_proto.specs.version_latch.Kept.{Kept}
 use Rattle.key_locks.specs.Inside.{IsAt, IsHeld, IsSaid, AreKnown, list_of}
 use Rattle.key_locks.specs.Locking.{IsStamp, IsMoved, IsTaken}
-use Rattle.lean_proto.proofs.version_latch_lemmas.Keeping.{goes_ran}
-use Rattle.lean_proto.proofs.version_latch_lemmas.Naming.{checked_same, checked_other, missed_even, missed_odd}
+use Rattle.lean_proto.proofs.version_latch.Keeping.{goes_ran}
+use Rattle.lean_proto.proofs.version_latch.Naming.{checked_same, checked_other, missed_even, missed_odd}
 use Rattle.key_locks.proofs.Calls.{workers_given}
 use Rattle.key_locks.proofs.Lists.{without_none, without_new, holds_new, at_new}
 use Rattle.key_locks.proofs.Holding.{five_words}

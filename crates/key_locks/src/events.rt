@@ -1,6 +1,6 @@
 //! What the publish of a lock row appends: the lock or the unlock.
 use crate::mode::Mode;
-use lean_proto::rows_trait::names::Names;
+use lean_proto::Names;
 
 /// The worker takes the lock of a row, by the row's place among the lock rows.
 #[derive(Drop)]

@@ -15,8 +15,7 @@ ghost use Rattle.key_locks.specs.Latching.{IsLatch};
 use crate::events::{Locks, Unlocks};
 use crate::mode::Mode;
 use crate::words::Words;
-use lean_proto::rows_trait::rows::Rows;
-use lean_proto::version_latch::Hold;
+use lean_proto::{Hold, Rows};
 
 // Stores a word if it is another than it was.
 fn store_changed<R: Rows>(

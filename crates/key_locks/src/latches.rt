@@ -12,9 +12,7 @@ ghost use Rattle.key_locks.specs.Latching.{is_marked, AreLatched, StartsFree, No
 
 use crate::events::Unlocks;
 use crate::held::unlock_row;
-use lean_proto::rows_trait::rows::Rows;
-use lean_proto::version_latch::events::{Checks, Misses};
-use lean_proto::version_latch::{Glimpse, Hold, Latched, Moved, Unheld};
+use lean_proto::{Checks, Glimpse, Hold, Latched, Misses, Moved, Rows, Unheld};
 use std::alloc::{AllocError, Global};
 use std::marker::Model;
 

@@ -17,9 +17,7 @@ use crate::events::Locks;
 use crate::held::publish_lock;
 use crate::mode::Mode;
 use crate::words::Words;
-use lean_proto::rows_trait::rows::Rows;
-use lean_proto::version_latch::events::{Checks, Misses};
-use lean_proto::version_latch::{Glimpse, Latched, Moved, Unheld};
+use lean_proto::{Checks, Glimpse, Latched, Misses, Moved, Rows, Unheld};
 
 /// What a lock row says to who takes its lock: number and log of its last exclusive end, and the greatest end number of its
 /// readers.

@@ -11,9 +11,7 @@ ghost use Rattle.key_locks.specs.Seeing.{Sees, NotSeen};
 
 use crate::locking::look;
 use crate::words::Words;
-use lean_proto::rows_trait::rows::Rows;
-use lean_proto::version_latch::events::{Checks, Misses};
-use lean_proto::version_latch::{Glimpse, Latched, Moved};
+use lean_proto::{Checks, Glimpse, Latched, Misses, Moved, Rows};
 
 /// Why a lock row was not seen.
 #[derive(Clone, Copy)]

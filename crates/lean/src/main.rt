@@ -2,8 +2,7 @@
 #![tactic(auto)]
 
 use host_disk::HostDisk;
-use lean_edge::{StdSink, StdSource};
-use lean_shell::{Ended, Gate, run};
+use lean_shell::{Ended, Gate, StdSink, StdSource, run};
 use std::process::ExitCode;
 use std::rt::{Env, Files};
 use std::{env, fs, io};

@@ -13,7 +13,7 @@ use Rattle.page_model.specs.Needs.{key_at, split_record, lift_record, join_recor
 use Rattle.page_model.specs.Check.{names_page}
 use Rattle.page_model.proofs.Pairs.{keep_has, put_has, has_append}
 use Rattle.page_model.proofs.Spans.{span_pair}
-use Rattle.core_paging.proofs.core_commit_lemmas.Events.{names_to}
+use Rattle.core_paging.proofs.core_commit.Events.{names_to}
 use Rattle.core_paging.specs.core_state.Openings.{Opening}
 use Rattle.core_paging.specs.core_state.States.{Place, State, Worker, nodes_of, gsns_of, in_frame}
 use Rattle.core_paging.specs.core_state.Events.{Event, Mode}
@@ -21,8 +21,8 @@ use Rattle.core_paging.specs.core_state.Needs.{may, needs, are_hot, pages_of, is
 use Rattle.core_paging.specs.core_state.Steps.{happens, locked, unlocked, put_back, touch, at_pages, refs_of, moves, write_entry, page_entry}
 use Rattle.core_paging.specs.core_state.Local.{published, publishes_row}
 use Rattle.version_latch.specs.row_words.Words.{swip, is_inner, publishes_frame}
-use Rattle.version_latch.proofs.row_words_lemmas.Stays as words
-use Rattle.version_latch.proofs.row_words_lemmas.Stays.{cases, and_true}
+use Rattle.version_latch.proofs.row_words.Stays as words
+use Rattle.version_latch.proofs.row_words.Stays.{cases, and_true}
 use Rattle.lean_proto.proofs.Near.{SameNear}
 
 -- ## Swips

@@ -22,9 +22,9 @@ use Rattle.version_latch.specs.row_words.Openings.{opening}
 use Rattle.version_latch.specs.row_words.Words.{publishes_frame, epoch_word}
 use Rattle.version_latch.specs.row_words.Sealed.{stepped, run, changes, heard, sets}
 use Rattle.version_latch.specs.row_words.Sealed as sealed
-use Rattle.version_latch.proofs.row_words_lemmas.Stays.{and_true}
-use Rattle.version_latch.proofs.row_words_lemmas.Controls.{every_own}
-use Rattle.version_latch.proofs.row_words_lemmas.SealedLemmas.{run_append}
+use Rattle.version_latch.proofs.row_words.Stays.{and_true}
+use Rattle.version_latch.proofs.row_words.Controls.{every_own}
+use Rattle.version_latch.proofs.row_words.SealedLemmas.{run_append}
 use Rattle.version_latch.specs.rows_trait.declared.view.View.{View}
 use Rattle.version_latch.specs.rows_trait.Views.{Shape, AreApart, NoSync, after_all, may, state}
 use Rattle.version_latch.specs.rows_trait.Turns.{Heard, MayTurn, Ran}

@@ -3,13 +3,13 @@ use Rattle.std.proofs.Common.{◌≡◌, ltb, ◌<◌, ℕ, suc, true, subst, ar
 use Rattle.std.proofs.lemmas.Bool.{and_from, lt-ltb, ltb-true}
 use Rattle.page_model.specs.Tree.{IsTree}
 use Rattle.page_model.specs.Check.{names_page}
-use Rattle.core_paging.proofs.core_commit_lemmas.Events.{names_to}
+use Rattle.core_paging.proofs.core_commit.Events.{names_to}
 use Rattle.core_paging.specs.core_state.Openings.{Opening}
 use Rattle.core_paging.specs.core_state.States.{State, nodes_of}
 use Rattle.core_paging.specs.core_state.Events as happening
 use Rattle.core_paging.specs.core_state.Needs.{may, needs, are_hot, pages_of, may_join}
 use Rattle.version_latch.specs.row_words.Words.{is_inner}
-use Rattle.version_latch.proofs.row_words_lemmas.Stays.{and_true}
+use Rattle.version_latch.proofs.row_words.Stays.{and_true}
 
 -- a page that q names is a node one level below it
 pub child_below : (g : Opening) (s : State) (q c : ℕ) → IsTree g.format (nodes_of s) → q < g.format.pages → names_page (s.page q).node c ≡ true

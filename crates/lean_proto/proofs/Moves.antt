@@ -18,9 +18,9 @@ use Rattle.core_paging.specs.core_state.Needs.{has_hot_parent, has_hot_child, is
 use Rattle.core_paging.specs.core_state.Steps.{happens, put_back}
 use Rattle.core_paging.specs.core_state.Steps as steps
 use Rattle.core_paging.specs.core_state.Local.{publishes_row}
-use Rattle.core_paging.proofs.core_state_lemmas.Locality.{every_local}
-use Rattle.core_paging.proofs.core_commit_lemmas.Controls.{least_mono}
-use Rattle.core_paging.proofs.core_commit_lemmas.Events.{names_to}
+use Rattle.core_paging.proofs.core_state.Locality.{every_local}
+use Rattle.core_paging.proofs.core_commit.Controls.{least_mono}
+use Rattle.core_paging.proofs.core_commit.Events.{names_to}
 use Rattle.core_paging.specs.Paging.{Residence}
 use Rattle.core_paging.proofs.Places.{left_frame, left_waits, left_no_more, own_frame, in_own, hot_not_cold, cooling_not_cold}
 use Rattle.version_latch.specs.row_words.declared.event.Event.{Event}
@@ -30,13 +30,13 @@ use Rattle.version_latch.specs.row_words.Moments.{Moment, event_of, actor_of, pa
 use Rattle.version_latch.specs.row_words.Openings.{opening}
 use Rattle.version_latch.specs.row_words.Sealed.{stepped, run, Shown, changes, sets}
 use Rattle.version_latch.specs.row_words.Words.{swip, framed as as_framed, ShowsPage, ShowsFrame, Shows, has_parent_in, publishes, publishes_frame}
-use Rattle.version_latch.proofs.row_words_lemmas.Frames.{hot_place, framed_same}
-use Rattle.version_latch.proofs.row_words_lemmas.Stays as words
-use Rattle.version_latch.proofs.row_words_lemmas.Stays.{cases, some_below, and_true}
+use Rattle.version_latch.proofs.row_words.Frames.{hot_place, framed_same}
+use Rattle.version_latch.proofs.row_words.Stays as words
+use Rattle.version_latch.proofs.row_words.Stays.{cases, some_below, and_true}
 use Rattle.version_latch.specs.rows_trait.declared.view.View.{View}
 use Rattle.version_latch.specs.rows_trait.Views.{Shape, after_all, state, AreApart, holds, held_at, may}
 use Rattle.version_latch.specs.rows_trait.Turns.{Leaves, MayPublish}
-use Rattle.version_latch.proofs.rows_trait_lemmas.EventLemmas.{apart_sync}
+use Rattle.version_latch.proofs.rows_trait.EventLemmas.{apart_sync}
 use Rattle.lean_proto.specs.Ready.{IsReady}
 use Rattle.lean_proto.proofs.Growing.{flushed_on}
 use Rattle.lean_proto.proofs.Loads.{SamePlaces, places_none, places_on, place_on, all_same, names_from}

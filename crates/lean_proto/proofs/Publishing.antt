@@ -15,21 +15,21 @@ use Rattle.core_paging.specs.core_state.Needs.{is_held_by}
 use Rattle.core_paging.specs.core_state.Steps.{happens}
 use Rattle.core_paging.specs.core_state.Steps as steps
 use Rattle.core_paging.specs.core_state.Local.{publishes_row}
-use Rattle.core_paging.proofs.core_state_lemmas.Locality.{every_local}
+use Rattle.core_paging.proofs.core_state.Locality.{every_local}
 use Rattle.version_latch.specs.row_words.declared.event.Event.{Event}
 use Rattle.version_latch.specs.row_words.Moments.{Moment, event_of, actor_of}
 use Rattle.version_latch.specs.row_words.Openings.{opening}
 use Rattle.version_latch.specs.row_words.Sealed.{stepped, run, Shown, changes}
 use Rattle.version_latch.specs.row_words.Words.{framed, framed_page, ShowsPage, Shows, publishes, publishes_frame}
-use Rattle.version_latch.proofs.row_words_lemmas.Stays as words
-use Rattle.version_latch.proofs.row_words_lemmas.Controls.{every_own}
-use Rattle.version_latch.proofs.row_words_lemmas.SealedLemmas.{hot_kept}
+use Rattle.version_latch.proofs.row_words.Stays as words
+use Rattle.version_latch.proofs.row_words.Controls.{every_own}
+use Rattle.version_latch.proofs.row_words.SealedLemmas.{hot_kept}
 use Rattle.version_latch.specs.rows_trait.declared.view.View.{View}
 use Rattle.version_latch.specs.rows_trait.Layout.{width}
 use Rattle.version_latch.specs.rows_trait.Views.{Shape, may, state, IsApart, AreApart, holds, held_at}
 use Rattle.version_latch.specs.rows_trait.Turns.{Leaves, MayPublish}
 use Rattle.lean_proto.specs.Changes.{changed, IsChange, EveryChange}
-use Rattle.version_latch.proofs.row_words_lemmas.Frames.{hot_place, framed_leaf}
+use Rattle.version_latch.proofs.row_words.Frames.{hot_place, framed_leaf}
 use Rattle.lean_proto.proofs.Owns.{holder_next}
 use Rattle.lean_proto.specs.declared.change.Write.{Write}
 use Rattle.lean_proto.specs.Writes.{event_by, MayWrite}

@@ -9,9 +9,9 @@ use Rattle.core_paging.specs.core_state.Openings.{Opening}
 use Rattle.core_paging.specs.core_state.States.{State, nodes_of, flushed_by_all}
 use Rattle.core_paging.specs.core_state.Events as happening
 use Rattle.core_paging.specs.core_state.Needs.{may, needs, are_hot, pages_of, may_purge, is_settled, is_free}
-use Rattle.core_paging.proofs.core_commit_lemmas.Lists.{le_least}
-use Rattle.core_paging.proofs.core_commit_lemmas.Controls.{least_mono}
-use Rattle.version_latch.proofs.row_words_lemmas.Stays.{cases, and_true}
+use Rattle.core_paging.proofs.core_commit.Lists.{le_least}
+use Rattle.core_paging.proofs.core_commit.Controls.{least_mono}
+use Rattle.version_latch.proofs.row_words.Stays.{cases, and_true}
 use Rattle.lean_proto.specs.Purges.{CanPurge}
 
 -- what holds of each key that is in the list

@@ -19,8 +19,8 @@ use Rattle.version_latch.specs.row_words.declared.given.Given.{Given}
 use Rattle.version_latch.specs.row_words.Moments.{Moment, event_of, actor_of, by}
 use Rattle.version_latch.specs.row_words.Openings.{opening}
 use Rattle.version_latch.specs.row_words.Sealed.{stepped, run}
-use Rattle.version_latch.proofs.row_words_lemmas.Stays as words
-use Rattle.version_latch.proofs.row_words_lemmas.Stays.{cases}
+use Rattle.version_latch.proofs.row_words.Stays as words
+use Rattle.version_latch.proofs.row_words.Stays.{cases}
 
 -- ## Lists of readers
 

@@ -11,7 +11,7 @@ use Rattle.core_paging.specs.core_state.Needs as core
 use Rattle.core_paging.specs.core_state.Needs.{pages_of, are_hot, needs}
 use Rattle.core_paging.specs.core_state.Steps.{happens, put_back}
 use Rattle.core_paging.specs.core_state.Local.{published, publishes_page}
-use Rattle.core_paging.proofs.core_state_lemmas.Locality.{every_local}
+use Rattle.core_paging.proofs.core_state.Locality.{every_local}
 use Rattle.core_paging.proofs.Places.{left_hot, left_cooling, left_cold, left_frame}
 use Rattle.version_latch.specs.row_words.declared.event.Event.{Event}
 use Rattle.version_latch.specs.row_words.declared.event.Event.TheVariants as told
@@ -20,8 +20,8 @@ use Rattle.version_latch.specs.row_words.declared.given.Given.{Given}
 use Rattle.version_latch.specs.row_words.Moments.{Moment, event_of, actor_of, pager, by}
 use Rattle.version_latch.specs.row_words.Openings.{opening}
 use Rattle.version_latch.specs.row_words.Sealed.{begun, stepped, run}
-use Rattle.version_latch.proofs.row_words_lemmas.Stays.{cases, and_true}
-use Rattle.version_latch.proofs.row_words_lemmas.SealedLemmas.{run_append}
+use Rattle.version_latch.proofs.row_words.Stays.{cases, and_true}
+use Rattle.version_latch.proofs.row_words.SealedLemmas.{run_append}
 use Rattle.version_latch.specs.rows_trait.declared.view.View.{View}
 use Rattle.version_latch.specs.rows_trait.Views.{after_all, state}
 use Rattle.version_latch.specs.rows_trait.Turns.{Ran}

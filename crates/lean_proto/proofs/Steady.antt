@@ -12,7 +12,7 @@ use Rattle.core_paging.specs.core_state.Needs.{is_held_by, is_empty_frame, pages
 use Rattle.core_paging.specs.core_state.Steps.{happens}
 use Rattle.core_paging.specs.core_state.Steps as steps
 use Rattle.core_paging.specs.core_state.Local.{published, publishes_row}
-use Rattle.core_paging.proofs.core_state_lemmas.Locality.{every_local}
+use Rattle.core_paging.proofs.core_state.Locality.{every_local}
 use Rattle.core_paging.specs.Paging.{Residence}
 use Rattle.version_latch.specs.row_words.declared.event.Event.{Event}
 use Rattle.version_latch.specs.row_words.declared.event.Event.TheVariants as told
@@ -20,18 +20,18 @@ use Rattle.version_latch.specs.row_words.Moments.{Moment, event_of, actor_of, is
 use Rattle.version_latch.specs.row_words.Openings.{opening}
 use Rattle.version_latch.specs.row_words.Sealed.{IsTame, stepped, run, Shown, changes, sets}
 use Rattle.version_latch.specs.row_words.Words.{ShowsPage, Shows, publishes, publishes_frame, lock_words}
-use Rattle.version_latch.proofs.row_words_lemmas.Stays as words
-use Rattle.version_latch.proofs.row_words_lemmas.Stays.{cases, and_true}
+use Rattle.version_latch.proofs.row_words.Stays as words
+use Rattle.version_latch.proofs.row_words.Stays.{cases, and_true}
 use Rattle.version_latch.specs.rows_trait.declared.view.View.{View}
 use Rattle.version_latch.specs.rows_trait.Views.{Shape, after_all, state, AreApart, IsApart, holds, held_at, may}
 use Rattle.version_latch.specs.rows_trait.Turns.{Leaves, MayPublish}
-use Rattle.version_latch.proofs.rows_trait_lemmas.EventLemmas.{none_apart, apart_sync, by_none}
+use Rattle.version_latch.proofs.rows_trait.EventLemmas.{none_apart, apart_sync, by_none}
 use Rattle.lean_proto.specs.Ready.{is_steady, IsReady, EveryReady}
 use Rattle.lean_proto.specs.Purges.{EveryPurge}
 use Rattle.lean_proto.proofs.Levels.{level_with}
 use Rattle.lean_proto.proofs.Growing.{flushed_on}
 use Rattle.lean_proto.proofs.Settling.{settled_on, can_purge}
-use Rattle.version_latch.proofs.row_words_lemmas.Frames.{hot_place}
+use Rattle.version_latch.proofs.row_words.Frames.{hot_place}
 use Rattle.lean_proto.proofs.Near.{SameNear, near_none, near_on, hot_at, shows_near}
 use Rattle.lean_proto.proofs.Again.{agree_child, IsPlain, Rest, Again, plain_lock, plain_unlock, plain_change, plain_back, plain_split, plain_lift, plain_join, plain_drop, plain_purge, again_lock, again_unlock, again_change, again_back, again_split, again_lift, again_join, again_drop, again_purge}
 use Rattle.lean_proto.proofs.Meanwhile.{meanwhile}

@@ -14,6 +14,7 @@ pub mod Paging
 pub mod Inside
 -- Passed on to the crates above.
 pub use Rattle.core_paging.specs as core_paging
+pub use Rattle.core_paging.specs.core_commit as core_commit
 pub use Rattle.core_paging.specs.core_state as core_state
 pub use Rattle.core_paging.specs.image_model as image_model
 pub use Rattle.version_latch.specs as version_latch

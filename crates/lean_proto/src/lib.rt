@@ -17,10 +17,12 @@ ghost use Rattle.lean_proto.specs.Ready.{EveryReady};
 ghost use Rattle.lean_proto.specs.Still.{EveryStood};
 
 // Passed on to the crates above.
-pub use core_paging;
-pub use core_paging::image_model;
-pub use version_latch;
-pub use version_latch::{btree_node, rows_trait};
+pub use core_paging::{every_residence, every_rise, every_undone};
+pub use version_latch::events::{Checks, Misses};
+pub use version_latch::{
+    Glimpse, Hold, LAST, Latched, Moved, Names, Node, Nothing, PlainRows, Rows, Trace, Unheld,
+    every_low,
+};
 
 /// Who is ready to publish a steady event may publish it: its need is met at the state that the seat has seen, and its rows, all
 /// held, have the words that it leaves there. Whatever others did meanwhile, the need is met still, and the words are right. Steady

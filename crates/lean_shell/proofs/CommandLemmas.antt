@@ -6,9 +6,9 @@ use Rattle.lean_disk.specs.Faults.{HasCause, IsBlamed}
 use Rattle.lean_disk.specs.Moments.{LeavesOnly}
 use Rattle.lean_disk.specs.Story.{IsLawful, Story}
 use Rattle.lean_disk.proofs.MomentLemmas.{started}
-use Rattle.lean_edge.specs.Outside.{Feed, Held}
-use Rattle.recovery.specs.declared.opening.Unrecovered.{Unrecovered}
-use Rattle.recovery.specs.declared.opening.Unrecovered.TheVariants as why
+use Rattle.buffered_engine.specs.lean_edge.Outside.{Feed, Held}
+use Rattle.buffered_engine.specs.recovery.declared.opening.Unrecovered.{Unrecovered}
+use Rattle.buffered_engine.specs.recovery.declared.opening.Unrecovered.TheVariants as why
 use Rattle.script_run.specs.declared.stop.Stop.{Stop}
 use Rattle.script_run.specs.declared.stop.Stop.TheVariants as stops
 use Rattle.lean_shell.specs.Dumps.{DumpEnds, Dumped, PutOrCut, dump_text}
@@ -22,10 +22,10 @@ use Rattle.lean_shell.specs.Inside.Commands.{CommandEnds, Counts, UnreadEnds}
 use Rattle.lean_shell.specs.Inside.Openings.{Refuses}
 use Rattle.lean_shell.specs.Words.{AsksDump, AsksFormat, AsksNothing, AsksRun, Gives, Names}
 use Rattle.lean_shell.specs.declared.words.Command.TheVariants.{Dump, Format, Run}
-use Rattle.disk_format.specs.declared.shape.Shape.{Shape}
-use Rattle.paged_engine.specs.declared.opening.Size.{Size}
+use Rattle.buffered_engine.specs.disk_format.declared.shape.Shape.{Shape}
+use Rattle.buffered_engine.specs.paged_engine.declared.opening.Size.{Size}
 use Rattle.clap.specs.Words.{Row, first_of}
-use Rattle.recovery.specs.Opened.{Keeps}
+use Rattle.buffered_engine.specs.recovery.Opened.{Keeps}
 use Rattle.transcripts.specs.Laws.{EveryNotice, EveryTail}
 use Rattle.lean_shell.proofs.EndLemmas.{failed, keeps_all, unmoved}
 use Rattle.lean_shell.proofs.Dumps.EndLemmas as dumps

@@ -1,21 +1,21 @@
 -- How `format` ends, from what it did and what went out.
 use Rattle.std.proofs.Common.{◌≡◌, ◌⊎◌, inl, inr, ⊎_elim, ◌<◌, ℕ, refl, sym, ◌∙◌, ap, subst, arith}
-use Rattle.disk_runs.specs.image_model.Fair.{piece}
+use Rattle.buffered_engine.specs.image_model.Fair.{piece}
 use Rattle.lean_disk.specs.Area.{Area}
 use Rattle.lean_disk.specs.Faults.{HasCause}
 use Rattle.lean_disk.specs.Moments.{LeavesOnly}
 use Rattle.lean_disk.specs.Story.{IsLawful, Story, Tells}
-use Rattle.lean_edge.specs.Outside.{Held}
-use Rattle.lean_edge.specs.declared.sink.Put.{Put}
-use Rattle.lean_edge.specs.declared.sink.Put.TheVariants as put
+use Rattle.buffered_engine.specs.lean_edge.Outside.{Held}
+use Rattle.buffered_engine.specs.lean_edge.declared.sink.Put.{Put}
+use Rattle.buffered_engine.specs.lean_edge.declared.sink.Put.TheVariants as put
 use Rattle.lean_shell.specs.Endings.{FinishedPut, FormatEnds, IsFormatStatus, WentOut, finished, last_line, number_of}
 use Rattle.lean_disk.specs.Told.{TellsOn, OnlyNotes}
-use Rattle.disk_format.specs.Formatted.{FormatLeaves, HasMaster, HasPages, IsFormatted, IsMaster, IsNewDisk, IsUntouched, Keeps}
+use Rattle.buffered_engine.specs.disk_format.Formatted.{FormatLeaves, HasMaster, HasPages, IsFormatted, IsMaster, IsNewDisk, IsUntouched, Keeps}
 use Rattle.lean_shell.specs.declared.failure.Failure.{Failure}
 use Rattle.lean_shell.specs.declared.failure.Failure.TheVariants.{Usage, DiskFault, Memory, AlreadyFormatted}
-use Rattle.disk_format.specs.declared.shape.Shape.{Shape}
+use Rattle.buffered_engine.specs.disk_format.declared.shape.Shape.{Shape}
 use Rattle.lean_disk.proofs.MomentLemmas.{started}
-use Rattle.disk_format.proofs.CrashLemmas.{not_touched}
+use Rattle.buffered_engine.proofs.disk_format.CrashLemmas.{not_touched}
 use Rattle.lean_shell.proofs.PutLemmas.{noted_moments, format_of_bytes}
 
 -- each failure has a status of its own

@@ -5,12 +5,12 @@ use Rattle.lean_disk.specs.Calls.{Noted}
 use Rattle.lean_disk.specs.Moments.{LeavesOnly}
 use Rattle.lean_disk.specs.Story.{Crash, IsLawful, LeavesNow, Story}
 use Rattle.lean_disk.proofs.MomentLemmas.{goes_on_by}
-use Rattle.lean_edge.specs.declared.sink.Put.{Put}
-use Rattle.lean_edge.specs.declared.sink.Put.TheVariants.{Done, Failed}
-use Rattle.disk_runs.specs.image_model.Fair.{piece, IsFair}
-use Rattle.disk_format.specs.Formatted.{FormatLeaves, HasFairMasters, HasMaster, HasPages, IsFormatted, IsMaster, IsSealedMaster, writes_since}
+use Rattle.buffered_engine.specs.lean_edge.declared.sink.Put.{Put}
+use Rattle.buffered_engine.specs.lean_edge.declared.sink.Put.TheVariants.{Done, Failed}
+use Rattle.buffered_engine.specs.image_model.Fair.{piece, IsFair}
+use Rattle.buffered_engine.specs.disk_format.Formatted.{FormatLeaves, HasFairMasters, HasMaster, HasPages, IsFormatted, IsMaster, IsSealedMaster, writes_since}
 use Rattle.lean_disk.specs.Told.{OnlyNotes}
-use Rattle.disk_format.specs.declared.shape.Shape.{Shape}
+use Rattle.buffered_engine.specs.disk_format.declared.shape.Shape.{Shape}
 
 no_notes : (s : Story) → OnlyNotes s s
 no_notes s = record { area = λ a. refl; tells = λ a. refl; areas = refl; counts = refl; later = omega arith; nothing_else = λ m c left. inl left }

@@ -5,8 +5,8 @@ use Rattle.clap.specs.Words.{HasKind, IsAmong, kind_of}
 use Rattle.clap.specs.declared.error.Error.{Error}
 use Rattle.clap.specs.declared.error.ErrorKind.TheVariants.{OutOfMemory}
 use Rattle.clap.proofs.OnLiterals.{clap_on_literals}
-use Rattle.disk_format.specs.declared.shape.Shape.{Shape}
-use Rattle.paged_engine.specs.declared.opening.Size.{Size}
+use Rattle.buffered_engine.specs.disk_format.declared.shape.Shape.{Shape}
+use Rattle.buffered_engine.specs.paged_engine.declared.opening.Size.{Size}
 use Rattle.lean_shell.specs.Inside.CommandLines.{AsksAs, AsksBy, GivesShape}
 use Rattle.lean_shell.specs.Words.{Asks, AsksNothing, Gives, GivesSize, IsNumberIn, lean_words}
 use Rattle.lean_shell.specs.declared.words.Command.{Command}

@@ -2,17 +2,17 @@
 use Rattle.std.specs.Prelude.{◌≡◌, ◌⊎◌, ◌<◌, ◌+◌, ◌^◌, ℕ, List, length, IsTrue, Option, Some}
 use Rattle.lean_disk.specs.Area.{Leaves}
 use Rattle.lean_disk.specs.Story.{Crash, Story, Tells, areas_of}
-use Rattle.disk_runs.specs.disk_slots.declared.master.Master.{Master}
-use Rattle.disk_runs.specs.disk_image.Fair.{IsFairCrash}
-use Rattle.disk_runs.specs.disk_image.MasterSlots.{master_on}
-use Rattle.disk_runs.specs.disk_image.Shown.{Areas, image_by}
-use Rattle.recovery.specs.Opened.{IsGreatest}
-use Rattle.recovery.specs.Crashes.{ShowsStill}
-use Rattle.recovery.specs.Telling.{TellsAll}
+use Rattle.buffered_engine.specs.disk_slots.declared.master.Master.{Master}
+use Rattle.buffered_engine.specs.disk_image.Fair.{IsFairCrash}
+use Rattle.buffered_engine.specs.disk_image.MasterSlots.{master_on}
+use Rattle.buffered_engine.specs.disk_image.Shown.{Areas, image_by}
+use Rattle.buffered_engine.specs.recovery.Opened.{IsGreatest}
+use Rattle.buffered_engine.specs.recovery.Crashes.{ShowsStill}
+use Rattle.buffered_engine.specs.recovery.Telling.{TellsAll}
 use Rattle.transcripts.specs.Transcripts.{IsQuiet, first_lines}
-use Rattle.paged_engine.specs.declared.opening.Size.{Size}
-use Rattle.core_calls.specs.Fronts.{Done}
-use Rattle.disk_runs.specs.core_state.Openings.{Opening}
+use Rattle.buffered_engine.specs.paged_engine.declared.opening.Size.{Size}
+use Rattle.buffered_engine.specs.core_calls.Fronts.{Done}
+use Rattle.buffered_engine.specs.core_state.Openings.{Opening}
 use Rattle.lean_shell.specs.Starts.{IsLeft, IsOfOpening, IsRoomOfNext}
 
 -- It tells of the areas that an opening asks for, with at most so many logs, and, with none of them split off, of crashes.

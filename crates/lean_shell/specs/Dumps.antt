@@ -2,23 +2,23 @@
 use Rattle.std.specs.Prelude.{◌≡◌, ◌⊎◌, ◌++◌, ◌<◌, ◌+◌, ℕ, suc, List, [], ◌∷◌, length, take, IsTrue, Some}
 use Rattle.map_model.specs.Maps.{key_end}
 use Rattle.page_model.specs.Pairs.{Pair, Rising}
-use Rattle.disk_runs.specs.image_model.Images.{won_by, lost_by, map_of}
+use Rattle.buffered_engine.specs.image_model.Images.{won_by, lost_by, map_of}
 use Rattle.pair_walk.specs.Listings.{ArePairsOf}
 use Rattle.lean_disk.specs.Faults.{Rose}
 use Rattle.lean_disk.specs.Moments.{LeavesOnly}
 use Rattle.lean_disk.specs.Story.{Crash, Story, areas_of}
 use Rattle.lean_disk.specs.Told.{TellsOn}
-use Rattle.lean_edge.specs.Outside.{Held}
+use Rattle.buffered_engine.specs.lean_edge.Outside.{Held}
 use Rattle.script_lang.specs.Notices.{Notice}
-use Rattle.disk_runs.specs.disk_slots.declared.master.Master.{Master}
-use Rattle.disk_runs.specs.disk_image.MasterSlots.{master_on}
-use Rattle.disk_runs.specs.disk_image.Shown.{image_by, IsCleanDisk, IsSoundDisk}
-use Rattle.recovery.specs.Crashes.{RecoveryLeaves}
-use Rattle.recovery.specs.Installed.{HasInstalled}
-use Rattle.recovery.specs.Masters.{IsOpenable}
-use Rattle.recovery.specs.Opened.{IsOpened, IsRecovered, IsUntouched}
-use Rattle.recovery.specs.Telling.{TellsAll}
-use Rattle.recovery.specs.declared.opening.Recovered.{Recovered}
+use Rattle.buffered_engine.specs.disk_slots.declared.master.Master.{Master}
+use Rattle.buffered_engine.specs.disk_image.MasterSlots.{master_on}
+use Rattle.buffered_engine.specs.disk_image.Shown.{image_by, IsCleanDisk, IsSoundDisk}
+use Rattle.buffered_engine.specs.recovery.Crashes.{RecoveryLeaves}
+use Rattle.buffered_engine.specs.recovery.Installed.{HasInstalled}
+use Rattle.buffered_engine.specs.recovery.Masters.{IsOpenable}
+use Rattle.buffered_engine.specs.recovery.Opened.{IsOpened, IsRecovered, IsUntouched}
+use Rattle.buffered_engine.specs.recovery.Telling.{TellsAll}
+use Rattle.buffered_engine.specs.recovery.declared.opening.Recovered.{Recovered}
 use Rattle.lean_shell.specs.Lines.{line_of}
 use Rattle.lean_shell.specs.Runs.{Counts, NotOpened, first_line}
 

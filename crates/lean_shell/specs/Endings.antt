@@ -7,13 +7,13 @@ use Rattle.lean_disk.specs.Faults.{HasCause, IsBlamed}
 use Rattle.lean_disk.specs.Moments.{LeavesOnly}
 use Rattle.lean_disk.specs.Story.{Crash, Story, Tells}
 use Rattle.lean_disk.specs.Told.{TellsOn}
-use Rattle.lean_edge.specs.Outside.{Held, Puts}
-use Rattle.lean_edge.specs.declared.sink.Put.{Put}
-use Rattle.lean_edge.specs.declared.sink.Put.TheVariants as put
+use Rattle.buffered_engine.specs.lean_edge.Outside.{Held, Puts}
+use Rattle.buffered_engine.specs.lean_edge.declared.sink.Put.{Put}
+use Rattle.buffered_engine.specs.lean_edge.declared.sink.Put.TheVariants as put
 use Rattle.lean_shell.specs.declared.failure.Failure.{Failure}
 use Rattle.lean_shell.specs.declared.failure.Failure.TheVariants.{Usage, DiskFault, Memory, AlreadyFormatted}
-use Rattle.disk_format.specs.Formatted.{FormatLeaves, HasMaster, IsNewDisk, IsUntouched}
-use Rattle.disk_format.specs.declared.shape.Shape.{Shape}
+use Rattle.buffered_engine.specs.disk_format.Formatted.{FormatLeaves, HasMaster, IsNewDisk, IsUntouched}
+use Rattle.buffered_engine.specs.disk_format.declared.shape.Shape.{Shape}
 
 -- the status of each failure; 0 is none, and 5 is that of a sink that failed
 abbrev pub number_of : Failure → ℕ

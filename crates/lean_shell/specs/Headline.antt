@@ -13,15 +13,15 @@ use Rattle.map_model.specs.Journals.{Journal, Name, Txn, Serial, IsClosed, after
 use Rattle.map_model.specs.Outputs.{Reply}
 use Rattle.map_model.specs.Pairings.{in_turn, script_of}
 use Rattle.map_model.specs.Transcripts.{journal}
-use Rattle.disk_runs.specs.image_model.Ends.{kept}
-use Rattle.disk_runs.specs.image_model.Entries.{Entry, is_commit}
-use Rattle.disk_runs.specs.image_model.Images.{map_of, won_by, found}
+use Rattle.buffered_engine.specs.image_model.Ends.{kept}
+use Rattle.buffered_engine.specs.image_model.Entries.{Entry, is_commit}
+use Rattle.buffered_engine.specs.image_model.Images.{map_of, won_by, found}
 use Rattle.lean_disk.specs.Moments.{LeavesOnly}
 use Rattle.lean_disk.specs.Story.{Crash, Story, areas_of}
-use Rattle.disk_runs.specs.disk_slots.declared.master.Master.{Master}
-use Rattle.disk_runs.specs.disk_image.Fair.{IsFairCrash}
-use Rattle.disk_runs.specs.disk_image.Masters.{IsOfRun}
-use Rattle.disk_runs.specs.disk_image.Shown.{image_by, DiskStandsFor, IsCleanDisk}
+use Rattle.buffered_engine.specs.disk_slots.declared.master.Master.{Master}
+use Rattle.buffered_engine.specs.disk_image.Fair.{IsFairCrash}
+use Rattle.buffered_engine.specs.disk_image.Masters.{IsOfRun}
+use Rattle.buffered_engine.specs.disk_image.Shown.{image_by, DiskStandsFor, IsCleanDisk}
 use Rattle.script_lang.specs.Replies.{reply_line}
 use Rattle.script_lang.specs.Text.{script_lines}
 use Rattle.transcripts.specs.Transcripts.{asked, transcript, durables, first_lines}

@@ -5,9 +5,9 @@ use Rattle.lean_disk.specs.Calls.{Noted}
 use Rattle.lean_disk.specs.Faults.{Rose}
 use Rattle.lean_disk.specs.Story.{Story}
 use Rattle.lean_disk.specs.Told.{TellsSame}
-use Rattle.lean_edge.specs.Outside.{Held, Puts}
-use Rattle.lean_edge.specs.declared.sink.Put.{Put}
-use Rattle.lean_edge.specs.declared.sink.Put.TheVariants as put
+use Rattle.buffered_engine.specs.lean_edge.Outside.{Held, Puts}
+use Rattle.buffered_engine.specs.lean_edge.declared.sink.Put.{Put}
+use Rattle.buffered_engine.specs.lean_edge.declared.sink.Put.TheVariants as put
 
 -- a line of the program's own
 abbrev pub line_of : Notice → List ℕ

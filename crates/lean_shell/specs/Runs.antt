@@ -1,37 +1,37 @@
 -- How a run of a script ended.
 use Rattle.std.specs.Prelude.{◌≡◌, ◌++◌, ◌+◌, ◌<◌, ◌≤◌, ◌^◌, ℕ, suc, Bool, true, false, List, [], ◌∷◌, length, take, IsTrue, Option, None, Some}
-use Rattle.disk_runs.specs.image_model.Images.{won_by, lost_by, map_of}
+use Rattle.buffered_engine.specs.image_model.Images.{won_by, lost_by, map_of}
 use Rattle.lean_disk.specs.Faults.{Rose}
 use Rattle.lean_disk.specs.Story.{Story, areas_of}
-use Rattle.lean_edge.specs.Outside.{Feed}
+use Rattle.buffered_engine.specs.lean_edge.Outside.{Feed}
 use Rattle.script_lang.specs.Notices.{Notice}
-use Rattle.disk_runs.specs.disk_slots.declared.master.Master.{Master}
-use Rattle.disk_runs.specs.disk_image.MasterSlots.{master_on}
-use Rattle.disk_runs.specs.disk_image.Runs.{Block, block_at}
-use Rattle.disk_runs.specs.disk_image.Shown.{Areas, image_by, IsCleanDisk, IsSoundDisk}
-use Rattle.disk_runs.specs.Logs.{IsLogOf}
-use Rattle.disk_runs.specs.log_block.Block.{records_text}
-use Rattle.disk_runs.specs.log_record.declared.record.Record.{Record}
-use Rattle.recovery.specs.Masters.{IsOpenable, next_master}
-use Rattle.recovery.specs.Opened.{IsRefusal, IsUntouched}
-use Rattle.recovery.specs.Telling.{TellsAll}
-use Rattle.recovery.specs.declared.opening.Unrecovered.{Unrecovered}
-use Rattle.recovery.specs.declared.opening.Unrecovered.TheVariants as why
-use Rattle.disk_runs.specs.core_crash.Crashes.{from_head, log_of}
-use Rattle.disk_runs.specs.core_state.Events.{Event}
-use Rattle.disk_runs.specs.core_state.Needs.{may, value_in}
-use Rattle.disk_runs.specs.core_state.Openings.{Opening, first_map}
-use Rattle.disk_runs.specs.core_state.States.{State}
-use Rattle.disk_runs.specs.core_state.Steps.{run, state_after}
-use Rattle.core_calls.specs.Deeds.{answered, asked}
-use Rattle.core_calls.specs.Fronts.{Done, front}
-use Rattle.core_calls.specs.LineCounts.{is_scan_call}
-use Rattle.core_calls.specs.Printed.{printed}
-use Rattle.core_calls.specs.Scans.{HoldsMet, is_scan}
-use Rattle.run_crashes.specs.Lines.{next_of}
-use Rattle.disk_runs.specs.worker_log.Accounts.{joined, spelled_from}
-use Rattle.disk_runs.specs.worker_log.Laws.{entries_onto}
-use Rattle.disk_runs.specs.worker_log.Logs.{Log}
+use Rattle.buffered_engine.specs.disk_slots.declared.master.Master.{Master}
+use Rattle.buffered_engine.specs.disk_image.MasterSlots.{master_on}
+use Rattle.buffered_engine.specs.disk_image.Runs.{Block, block_at}
+use Rattle.buffered_engine.specs.disk_image.Shown.{Areas, image_by, IsCleanDisk, IsSoundDisk}
+use Rattle.buffered_engine.specs.disk_runs.Logs.{IsLogOf}
+use Rattle.buffered_engine.specs.log_block.Block.{records_text}
+use Rattle.buffered_engine.specs.log_record.declared.record.Record.{Record}
+use Rattle.buffered_engine.specs.recovery.Masters.{IsOpenable, next_master}
+use Rattle.buffered_engine.specs.recovery.Opened.{IsRefusal, IsUntouched}
+use Rattle.buffered_engine.specs.recovery.Telling.{TellsAll}
+use Rattle.buffered_engine.specs.recovery.declared.opening.Unrecovered.{Unrecovered}
+use Rattle.buffered_engine.specs.recovery.declared.opening.Unrecovered.TheVariants as why
+use Rattle.buffered_engine.specs.core_crash.Crashes.{from_head, log_of}
+use Rattle.buffered_engine.specs.core_state.Events.{Event}
+use Rattle.buffered_engine.specs.core_state.Needs.{may, value_in}
+use Rattle.buffered_engine.specs.core_state.Openings.{Opening, first_map}
+use Rattle.buffered_engine.specs.core_state.States.{State}
+use Rattle.buffered_engine.specs.core_state.Steps.{run, state_after}
+use Rattle.buffered_engine.specs.core_calls.Deeds.{answered, asked}
+use Rattle.buffered_engine.specs.core_calls.Fronts.{Done, front}
+use Rattle.buffered_engine.specs.core_calls.LineCounts.{is_scan_call}
+use Rattle.buffered_engine.specs.core_calls.Printed.{printed}
+use Rattle.buffered_engine.specs.core_calls.Scans.{HoldsMet, is_scan}
+use Rattle.buffered_engine.specs.run_crashes.Lines.{next_of}
+use Rattle.buffered_engine.specs.worker_log.Accounts.{joined, spelled_from}
+use Rattle.buffered_engine.specs.worker_log.Laws.{entries_onto}
+use Rattle.buffered_engine.specs.worker_log.Logs.{Log}
 use Rattle.map_model.specs.Lists.{Has, keep}
 use Rattle.map_model.specs.Maps.{MapAnswer}
 use Rattle.map_model.specs.Outputs.{Reply}
@@ -45,14 +45,14 @@ use Rattle.script_run.specs.Runs.{Executes, IsLastCut, PrintsTo, calls_of, works
 use Rattle.script_run.specs.Texts.{LinesRead}
 use Rattle.script_run.specs.declared.stop.Stop.{Stop}
 use Rattle.script_run.specs.declared.stop.Stop.TheVariants as stops
-use Rattle.call_parts.specs.Memory.{Memory}
-use Rattle.paged_engine.specs.Openings.{Shows}
-use Rattle.paged_engine.specs.declared.opening.Size.{Size}
+use Rattle.buffered_engine.specs.call_parts.Memory.{Memory}
+use Rattle.buffered_engine.specs.paged_engine.Openings.{Shows}
+use Rattle.buffered_engine.specs.paged_engine.declared.opening.Size.{Size}
 use Rattle.lean_shell.specs.Crashes.{IsYoung, TellsCrashes, as_read}
 use Rattle.lean_shell.specs.Headline.{Survives}
 use Rattle.lean_shell.specs.Lines.{line_of, WentOut}
 use Rattle.lean_shell.specs.Starts.{AllAnswered, IsLeft, IsOfSize}
-use Rattle.recovery.specs.Starts.{IsStartOf}
+use Rattle.buffered_engine.specs.recovery.Starts.{IsStartOf}
 
 -- ## A disk that was not opened
 

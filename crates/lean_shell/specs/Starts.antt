@@ -1,30 +1,30 @@
 -- What stands of a run's calls on the disk that it leaves.
 use Rattle.std.specs.Prelude.{◌≡◌, ◌≤◌, ◌++◌, ◌+◌, ◌<◌, ◌%◌, ℕ, false, List, ◌∷◌, length, Option, Some, None}
-use Rattle.disk_runs.specs.image_model.Entries.{Contents, Entry}
-use Rattle.disk_runs.specs.image_model.Slots.{base_of}
+use Rattle.buffered_engine.specs.image_model.Entries.{Contents, Entry}
+use Rattle.buffered_engine.specs.image_model.Slots.{base_of}
 use Rattle.lean_disk.specs.Story.{Crash, Story, areas_of}
-use Rattle.disk_runs.specs.disk_slots.declared.master.Master.{Master}
-use Rattle.disk_runs.specs.disk_image.MasterSlots.{master_on}
-use Rattle.disk_runs.specs.disk_image.Shown.{Areas, image_by, shown_by}
-use Rattle.disk_runs.specs.core_disk.Held.{IsVersion}
-use Rattle.disk_runs.specs.core_disk.MasterFloors.{IsFloorOf}
-use Rattle.disk_runs.specs.Masters.{IsNoEarlier}
-use Rattle.recovery.specs.Crashes.{IsNextOf}
-use Rattle.recovery.specs.Starts.{IsStartOf}
-use Rattle.disk_runs.specs.core_state.Openings.{Opening}
-use Rattle.disk_runs.specs.core_state.Events.{Event}
-use Rattle.disk_runs.specs.core_state.States.{State}
-use Rattle.disk_runs.specs.core_state.Steps.{state_after}
-use Rattle.disk_runs.specs.core_crash.Crashes.{from_head, log_of}
-use Rattle.core_calls.specs.Deeds.{answered, asked}
-use Rattle.core_calls.specs.Fronts.{Done, front, outcomes}
-use Rattle.core_calls.specs.Printed.{durable_lines, printed}
-use Rattle.core_calls.specs.Runs.{EachTells, Tells}
-use Rattle.core_calls.specs.Steps.{call_behind, hindered_in}
-use Rattle.run_crashes.specs.Lines.{FellIn, NoneStopped}
-use Rattle.engine_trait.specs.Limits.{limits}
-use Rattle.call_parts.specs.Rooms.{IsRoomFor}
-use Rattle.paged_engine.specs.declared.opening.Size.{Size}
+use Rattle.buffered_engine.specs.disk_slots.declared.master.Master.{Master}
+use Rattle.buffered_engine.specs.disk_image.MasterSlots.{master_on}
+use Rattle.buffered_engine.specs.disk_image.Shown.{Areas, image_by, shown_by}
+use Rattle.buffered_engine.specs.core_disk.Held.{IsVersion}
+use Rattle.buffered_engine.specs.core_disk.MasterFloors.{IsFloorOf}
+use Rattle.buffered_engine.specs.disk_runs.Masters.{IsNoEarlier}
+use Rattle.buffered_engine.specs.recovery.Crashes.{IsNextOf}
+use Rattle.buffered_engine.specs.recovery.Starts.{IsStartOf}
+use Rattle.buffered_engine.specs.core_state.Openings.{Opening}
+use Rattle.buffered_engine.specs.core_state.Events.{Event}
+use Rattle.buffered_engine.specs.core_state.States.{State}
+use Rattle.buffered_engine.specs.core_state.Steps.{state_after}
+use Rattle.buffered_engine.specs.core_crash.Crashes.{from_head, log_of}
+use Rattle.buffered_engine.specs.core_calls.Deeds.{answered, asked}
+use Rattle.buffered_engine.specs.core_calls.Fronts.{Done, front, outcomes}
+use Rattle.buffered_engine.specs.core_calls.Printed.{durable_lines, printed}
+use Rattle.buffered_engine.specs.core_calls.Runs.{EachTells, Tells}
+use Rattle.buffered_engine.specs.core_calls.Steps.{call_behind, hindered_in}
+use Rattle.buffered_engine.specs.run_crashes.Lines.{FellIn, NoneStopped}
+use Rattle.buffered_engine.specs.engine_trait.Limits.{limits}
+use Rattle.buffered_engine.specs.call_parts.Rooms.{IsRoomFor}
+use Rattle.buffered_engine.specs.paged_engine.declared.opening.Size.{Size}
 use Rattle.map_model.specs.declared.call.Call.{Call}
 use Rattle.map_model.specs.Journals.{Name}
 use Rattle.map_model.specs.Lists.{Has}

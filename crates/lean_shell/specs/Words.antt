@@ -3,8 +3,8 @@ use Rattle.std.specs.Prelude.{◌≡◌, ◌≢◌, ◌≤◌, ◌<◌, ℕ, tru
 use Rattle.std.specs.declared.alloc.Global.{Global}
 use Rattle.std.specs.Fmt.{decimal}
 use Rattle.clap.specs.Words.{App, Row, Rule, fault_of, first_of, new_app, new_rule, subcommand_of, with_rule, with_subcommand}
-use Rattle.disk_format.specs.declared.shape.Shape.{Shape}
-use Rattle.paged_engine.specs.declared.opening.Size.{Size}
+use Rattle.buffered_engine.specs.disk_format.declared.shape.Shape.{Shape}
+use Rattle.buffered_engine.specs.paged_engine.declared.opening.Size.{Size}
 use Rattle.lean_shell.specs.declared.words.Command.{Command}
 use Rattle.lean_shell.specs.declared.words.Command.TheVariants.{Dump, Format, Run}
 

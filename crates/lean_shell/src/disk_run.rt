@@ -1,8 +1,8 @@
 // The run of a script.
 ghost use Rattle.std.specs.Prelude.{◌≡◌, ◌≤◌, ℕ, IsTrue};
 ghost use Rattle.lean_disk.specs.Faults.{HasCause, IsBlamed};
-ghost use Rattle.lean_edge.specs.Outside.{added};
-ghost use Rattle.recovery.specs.Telling.{TellsAll};
+ghost use Rattle.buffered_engine.specs.lean_edge.Outside.{added};
+ghost use Rattle.buffered_engine.specs.recovery.Telling.{TellsAll};
 ghost use Rattle.lean_shell.specs.Ends.{RunEnds};
 ghost use Rattle.lean_shell.specs.Headline.{Headline};
 ghost use Rattle.lean_shell.specs.Inside.Commands.{UnreadEnds};
@@ -13,12 +13,11 @@ ghost use Rattle.lean_shell.specs.Runs.{ended, status_of};
 use crate::engine_lines::{put_last, put_opened};
 use crate::lines::put_reason;
 use crate::program::Ended;
-use buffered_engine::{Engine, Hosts, Opened, Size, Unopened};
-use disk_runs::{core_commit, core_disk, disk_image, worker_log};
-use engine_front::calls::Calls;
+use buffered_engine::{
+    Engine, EngineFrontCalls as Calls, Hosts, Opened, Put, Sink, Size, Source, Unopened,
+    Unrecovered,
+};
 use lean_disk::Disk;
-use lean_edge::{Put, Sink, Source};
-use recovery::Unrecovered;
 use script_lang::LineReader;
 use script_run::{Stop, run_script};
 use std::alloc::Global;
@@ -127,16 +126,16 @@ pub fn run_disk<S: Source, K: Sink<D>, D: Hosts>(
 fn laws()
     ensures { Laws }
 {
-    core_commit::every_rise();
-    core_calls::every_line_count();
-    core_calls::every_printed();
-    core_calls::every_told();
-    core_calls::every_met();
-    core_calls::every_run_crash();
+    buffered_engine::every_rise();
+    buffered_engine::every_line_count();
+    buffered_engine::every_printed();
+    buffered_engine::every_told();
+    buffered_engine::every_met();
+    buffered_engine::every_run_crash();
     event_counts::every_draw();
     event_counts::every_scan_count();
-    core_disk::every_shown();
-    core_disk::every_version();
+    buffered_engine::every_shown();
+    buffered_engine::every_version();
     script_lang::replies_are_read_back();
     script_lang::notices_are_no_replies();
     transcripts::every_moment();
@@ -145,9 +144,9 @@ fn laws()
     transcripts::every_notice();
     transcripts::every_tail();
     script_run::every_script();
-    disk_image::every_agreement();
-    disk_image::every_block_in();
-    disk_image::every_sealed();
-    worker_log::every_kept();
-    worker_log::every_prefix();
+    buffered_engine::every_agreement();
+    buffered_engine::every_block_in();
+    buffered_engine::every_sealed();
+    buffered_engine::every_kept();
+    buffered_engine::every_prefix();
 }

@@ -2,20 +2,18 @@
 ghost use Rattle.std.specs.Prelude.{◌≡◌, length};
 ghost use Rattle.page_model.specs.Tree.{value};
 ghost use Rattle.lean_disk.specs.Faults.{HasCause, IsBlamed};
-ghost use Rattle.disk_runs.specs.disk_image.Formats.{format_of};
+ghost use Rattle.buffered_engine.specs.disk_image.Formats.{format_of};
 ghost use Rattle.node_tree.specs.Nodes.{nodes_of};
-ghost use Rattle.recovery.specs.Opened.{IsWhole};
+ghost use Rattle.buffered_engine.specs.recovery.Opened.{IsWhole};
 ghost use Rattle.lean_shell.specs.Dumps.{DumpEnds};
 ghost use Rattle.lean_shell.specs.Inside.Puts.{PutsDump, counts_of};
 
 use crate::disk_run::status_of;
 use crate::lines::{put_opened, put_reason};
 use crate::pairs::put_map;
-use disk_runs::image_model;
+use buffered_engine::{Put, Recovered, Sink, recover};
 use lean_disk::Disk;
-use lean_edge::{Put, Sink};
 use page_model::limits::SESSIONS;
-use recovery::{Recovered, recover};
 use std::alloc::Global;
 
 // Puts the line of the opening, each pair of the map that recovery gave, and `end`.
@@ -42,8 +40,8 @@ pub fn dump_disk<K: Sink<D>, D: Disk>(alloc: Global, sink: &mut K, disk: &mut D)
 {
     // What the recovered pages stand for.
     pair_walk::every_listing();
-    image_model::every_undone();
-    recovery::every_own();
+    buffered_engine::every_undone();
+    buffered_engine::every_own();
     let recovered = match recover(alloc, disk, SESSIONS) {
         Ok(recovered) => recovered,
         Err(reason) => {

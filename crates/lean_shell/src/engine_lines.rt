@@ -1,19 +1,18 @@
 // The lines that a run puts of itself, as an engine has the disk.
 ghost use Rattle.std.specs.Prelude.{◌≡◌, ◌≤◌, ℕ, List};
-ghost use Rattle.disk_runs.specs.core_state.Openings.{Opening};
-ghost use Rattle.core_calls.specs.Fronts.{Done};
+ghost use Rattle.buffered_engine.specs.core_state.Openings.{Opening};
+ghost use Rattle.buffered_engine.specs.core_calls.Fronts.{Done};
 ghost use Rattle.map_model.specs.Journals.{Name};
 ghost use Rattle.lean_disk.specs.Faults.{HasCause};
 ghost use Rattle.script_lang.specs.Notices.{Notice, NoticeFits};
 ghost use Rattle.script_run.specs.declared.stop.Stop.{Stop};
-ghost use Rattle.lean_edge.specs.Outside.{IsWholeLine};
+ghost use Rattle.buffered_engine.specs.lean_edge.Outside.{IsWholeLine};
 ghost use Rattle.lean_shell.specs.Lines.{IsPut, line_of};
 ghost use Rattle.lean_shell.specs.Inside.Openings.{EndsWith};
 ghost use Rattle.lean_shell.specs.Runs.{Counts, first_line, last_line};
 
-use engine_front::calls::Calls;
+use buffered_engine::{EngineFrontCalls as Calls, Put, Sink};
 use lean_disk::Disk;
-use lean_edge::{Put, Sink};
 use script_lang::{
     DISK_FAULT, READ_FAULT, REPLY, damaged_bytes, fixed_lines, notices_are_no_replies,
     opened_bytes, refused_bytes,

@@ -1,6 +1,6 @@
 // How a command ends, and the last line that it prints.
 ghost use Rattle.std.specs.Prelude.{◌≡◌};
-ghost use Rattle.lean_edge.specs.Outside.{IsWholeLine};
+ghost use Rattle.buffered_engine.specs.lean_edge.Outside.{IsWholeLine};
 ghost use Rattle.lean_shell.specs.Endings.{last_line, number_of};
 
 use script_lang::{

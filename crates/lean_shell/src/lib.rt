@@ -18,3 +18,12 @@ pub use failure::Failure;
 pub use gate::Gate;
 pub use program::{Ended, run};
 pub use words::{Command, read_words};
+
+// Passed on to the crates above.
+pub use buffered_engine::{
+    DiskFault, Durable, Engine, Hosts, MemSink, MemSource, Opened, Put, Record, Sink, Size, Stages,
+    StdSink, StdSource, Unanswered, Unopened, WorkerLog, block_bytes, every_master_in,
+    session_state_stage_end as stage_end,
+};
+pub use script_lang::LineReader;
+pub use script_run::{Stop, run_script};

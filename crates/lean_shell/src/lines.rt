@@ -2,14 +2,13 @@
 ghost use Rattle.std.specs.Prelude.{◌≡◌};
 ghost use Rattle.lean_disk.specs.Faults.{HasCause};
 ghost use Rattle.script_lang.specs.Notices.{Notice, NoticeFits};
-ghost use Rattle.recovery.specs.declared.opening.Unrecovered.{Unrecovered};
-ghost use Rattle.lean_edge.specs.Outside.{IsWholeLine};
+ghost use Rattle.buffered_engine.specs.recovery.declared.opening.Unrecovered.{Unrecovered};
+ghost use Rattle.buffered_engine.specs.lean_edge.Outside.{IsWholeLine};
 ghost use Rattle.lean_shell.specs.Lines.{IsPut, line_of};
 ghost use Rattle.lean_shell.specs.Runs.{first_line, notice_of};
 
+use buffered_engine::{Put, Sink, Unrecovered};
 use lean_disk::Disk;
-use lean_edge::{Put, Sink};
-use recovery::Unrecovered;
 use script_lang::{
     DISK_FAULT, END, NO_MEMORY, NOT_FORMATTED, REPLY, damaged_bytes, fixed_lines,
     notices_are_no_replies, opened_bytes, pair_bytes,

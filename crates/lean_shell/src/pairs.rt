@@ -4,16 +4,15 @@ ghost use Rattle.map_model.specs.Maps.{value_end};
 ghost use Rattle.page_model.specs.Needs.{key_at};
 ghost use Rattle.page_model.specs.Page.{word_at};
 ghost use Rattle.page_model.specs.Tree.{IsTree, value};
-ghost use Rattle.disk_runs.specs.disk_image.Formats.{format_of};
+ghost use Rattle.buffered_engine.specs.disk_image.Formats.{format_of};
 ghost use Rattle.node_tree.specs.Nodes.{nodes_of};
 ghost use Rattle.pair_walk.specs.Listings.{live};
 ghost use Rattle.lean_shell.specs.Dumps.{pair_lines};
 ghost use Rattle.lean_shell.specs.Inside.Puts.{ArePut, PutsMap, PutsPairs};
 
 use crate::lines::{put_end, put_pair};
-use disk_runs::btree_node::Node;
+use buffered_engine::{Node, Put, Sink};
 use lean_disk::Disk;
-use lean_edge::{Put, Sink};
 use page_model::limits::TOMBSTONE;
 use pair_walk::{every_listing, leaf_from};
 

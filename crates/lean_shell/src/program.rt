@@ -1,8 +1,8 @@
 // The program's one call.
 ghost use Rattle.std.specs.Prelude.{◌≡◌, ◌≤◌, IsTrue};
 ghost use Rattle.lean_disk.specs.Faults.{HasCause, IsBlamed};
-ghost use Rattle.lean_edge.specs.Outside.{added};
-ghost use Rattle.recovery.specs.Telling.{TellsAll};
+ghost use Rattle.buffered_engine.specs.lean_edge.Outside.{added};
+ghost use Rattle.buffered_engine.specs.recovery.Telling.{TellsAll};
 ghost use Rattle.lean_shell.specs.Dumps.{DumpEnds};
 ghost use Rattle.lean_shell.specs.Ends.{RunEnds};
 ghost use Rattle.lean_shell.specs.Headline.{Headline};
@@ -11,17 +11,16 @@ ghost use Rattle.lean_disk.specs.Told.{OnlyNotes};
 ghost use Rattle.lean_shell.specs.Inside.Commands.{CommandEnds};
 ghost use Rattle.lean_shell.specs.Words.{Asks, AsksNothing, texts};
 ghost use Rattle.lean_shell.specs.declared.words.Command.TheVariants.{Dump, Format, Run};
-ghost use Rattle.disk_format.specs.declared.shape.Shape.{Shape};
-ghost use Rattle.paged_engine.specs.declared.opening.Size.{Size};
+ghost use Rattle.buffered_engine.specs.disk_format.declared.shape.Shape.{Shape};
+ghost use Rattle.buffered_engine.specs.paged_engine.declared.opening.Size.{Size};
 
 use crate::Gate;
 use crate::disk_run::{run_disk, unread};
 use crate::dump::dump_disk;
 use crate::failure::Failure;
 use crate::words::{Command, read_words};
-use buffered_engine::{Formatted, Hosts, Shape, format};
+use buffered_engine::{Formatted, Hosts, Put, Shape, Sink, Source, format};
 use lean_disk::Disk;
-use lean_edge::{Put, Sink, Source};
 use script_lang::{REPLY, formatted_bytes, notices_are_no_replies};
 use std::alloc::Global;
 use std::sync::Wait;

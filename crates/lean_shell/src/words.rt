@@ -2,8 +2,8 @@
 ghost use Rattle.std.specs.Prelude.{◌≡◌, ◌^◌, ◌<◌, ℕ, ◌↔◌, IfOk, IfSome, IfNone, IsTrue};
 ghost use Rattle.std.specs.Fmt.{decimal};
 ghost use Rattle.clap.specs.Words.{found_of, rows_of, subcommand_rows_of};
-ghost use Rattle.disk_format.specs.declared.shape.Shape.{Shape};
-ghost use Rattle.paged_engine.specs.declared.opening.Size.{Size};
+ghost use Rattle.buffered_engine.specs.disk_format.declared.shape.Shape.{Shape};
+ghost use Rattle.buffered_engine.specs.paged_engine.declared.opening.Size.{Size};
 ghost use Rattle.lean_shell.specs.Inside.CommandLines.{AsksAs, AsksBy, GivesShape};
 ghost use Rattle.lean_shell.specs.Words.{Asks, AsksNothing, Gives, GivesSize, IsNumberIn, IsPlain, texts};
 ghost use Rattle.lean_shell.specs.declared.words.Command.{Command};

@@ -16,13 +16,13 @@ use Rattle.disk_runs.specs.worker_log.Calls.{flushed_log}
 use Rattle.disk_runs.specs.worker_log.Kept.{IsKept, flushed}
 use Rattle.disk_runs.specs.worker_log.Laws.{EveryKept, EveryPrefix}
 use Rattle.disk_runs.specs.worker_log.Logs.{Log}
-use Rattle.disk_runs.proofs.worker_log_lemmas.ListLemmas.{has_first, rise-has, none_left, fit_blocks-drop, joined-dropped}
+use Rattle.disk_runs.proofs.worker_log.ListLemmas.{has_first, rise-has, none_left, fit_blocks-drop, joined-dropped}
 use Rattle.disk_runs.specs.core_state.Openings.{Opening}
 use Rattle.disk_runs.specs.core_state.States.{State, start}
 use Rattle.disk_runs.specs.core_state.Events.{Event}
 use Rattle.disk_runs.specs.core_state.Needs.{may}
 use Rattle.disk_runs.specs.core_state.Steps.{AllMet, happens, state_after}
-use Rattle.disk_runs.proofs.core_state_lemmas.Runs.{run_more}
+use Rattle.disk_runs.proofs.core_state.Runs.{run_more}
 use Rattle.disk_runs.specs.core_disk.Versions.{then}
 use Rattle.disk_runs.specs.Laws.{with_log}
 use Rattle.disk_runs.specs.Logs.{Flushes}

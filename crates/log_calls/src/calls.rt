@@ -10,9 +10,7 @@ ghost use Rattle.disk_runs.specs.worker_log.Logs.{used};
 ghost use Rattle.log_calls.specs.Calls.{FlushesOn, KeepsMoments, KeepsNotes, KeepsWithin, StagesOn};
 
 use crate::parts::{flush_on, stage_end_on, stage_on};
-use disk_runs::log_record::Record;
-use disk_runs::worker_log::{DiskFault, Staging, WorkerLog};
-use disk_runs::{core_disk, disk_image, worker_log};
+use disk_runs::{DiskFault, Record, Staging, WorkerLog};
 use lean_disk::Disk;
 
 /// Puts the record of a change into log `number`.
@@ -42,11 +40,11 @@ pub fn stage<D: Disk>(
     ensures cause_log_full { IsErrAnd result IsLogFull ↔ IsFull log.old }
     ensures cause_disk_fault { HasCause (D.faults disk.old) (D.faults disk.new) (result ≡ Err Staging.DiskFault) }
 {
-    core_disk::every_version();
-    worker_log::every_staged();
-    worker_log::every_kept();
-    worker_log::every_prefix();
-    disk_image::every_sealed();
+    disk_runs::every_version();
+    disk_runs::every_staged();
+    disk_runs::every_kept();
+    disk_runs::every_prefix();
+    disk_runs::every_sealed();
     stage_on(disk, log, number, entry)
 }
 
@@ -74,11 +72,11 @@ pub fn stage_end<D: Disk>(
 
     ensures cause_disk_fault { HasCause (D.faults disk.old) (D.faults disk.new) (IsErr result) }
 {
-    core_disk::every_version();
-    worker_log::every_staged();
-    worker_log::every_kept();
-    worker_log::every_prefix();
-    disk_image::every_sealed();
+    disk_runs::every_version();
+    disk_runs::every_staged();
+    disk_runs::every_kept();
+    disk_runs::every_prefix();
+    disk_runs::every_sealed();
     stage_end_on(disk, log, number, entry)
 }
 
@@ -97,10 +95,10 @@ pub fn flush<D: Disk>(disk: &mut D, log: &mut WorkerLog, number: u32) -> Result<
 
     ensures cause_disk_fault { HasCause (D.faults disk.old) (D.faults disk.new) (IsErr result) }
 {
-    core_disk::every_version();
-    worker_log::every_flushed();
-    worker_log::every_kept();
-    worker_log::every_prefix();
-    disk_image::every_sealed();
+    disk_runs::every_version();
+    disk_runs::every_flushed();
+    disk_runs::every_kept();
+    disk_runs::every_prefix();
+    disk_runs::every_sealed();
     flush_on(disk, log, number)
 }

@@ -6,8 +6,7 @@ ghost use Rattle.log_calls.specs.Calls.{Anything};
 ghost use Rattle.log_calls.specs.Cuts.{CutsOn, KeepsCut};
 
 use crate::syncs::write_on;
-use disk_runs::disk_slots::Master;
-use disk_runs::{core_disk, disk_image, worker_log};
+use disk_runs::Master;
 use lean_disk::{Did, Disk};
 
 /// Writes the master of a cut, the next one of the run, and syncs it. Behind it the head of each log passes the blocks that
@@ -21,11 +20,11 @@ pub fn cut_master<D: Disk>(disk: &mut D, master: &Master) -> Did
 
     ensures cause { HasCause (D.faults disk.old) (D.faults disk.new) (result ≡ Did.Failed) }
 {
-    core_disk::every_version();
-    worker_log::every_cut();
-    worker_log::every_passed();
-    worker_log::every_kept();
-    worker_log::every_prefix();
-    disk_image::every_sealed();
+    disk_runs::every_version();
+    disk_runs::worker_log_every_cut();
+    disk_runs::every_passed();
+    disk_runs::every_kept();
+    disk_runs::every_prefix();
+    disk_runs::every_sealed();
     write_on(disk, master)
 }

@@ -10,8 +10,7 @@ ghost use Rattle.disk_runs.specs.worker_log.Causes.{IsFull, IsLogFull};
 ghost use Rattle.disk_runs.specs.worker_log.Kept.{IsInRange, IsKept, LeavesBlocks, StagesTo, flushed};
 ghost use Rattle.disk_runs.specs.worker_log.Logs.{used};
 
-use disk_runs::log_record::Record;
-use disk_runs::worker_log::{DiskFault, Staging, WorkerLog};
+use disk_runs::{DiskFault, Record, Staging, WorkerLog};
 use lean_disk::{AreaOf, Disk};
 
 pub(crate) fn stage_on<D: Disk>(

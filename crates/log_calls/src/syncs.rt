@@ -9,9 +9,7 @@ ghost use Rattle.disk_runs.specs.master_store.Masters.{WritesOnce};
 ghost use Rattle.log_calls.specs.Calls.{Anything};
 ghost use Rattle.log_calls.specs.Syncs.{KeepsEither, SyncsOn};
 
-use disk_runs::disk_slots::Master;
-use disk_runs::master_store::write_next;
-use disk_runs::{core_disk, disk_image, worker_log};
+use disk_runs::{Master, write_next};
 use lean_disk::{AreaOf, Did, Disk};
 
 pub(crate) fn write_on<D: Disk>(disk: &mut D, master: &Master) -> Did
@@ -34,9 +32,9 @@ pub fn sync_master<D: Disk>(disk: &mut D, master: &Master) -> Did
 
     ensures cause { HasCause (D.faults disk.old) (D.faults disk.new) (result ≡ Did.Failed) }
 {
-    core_disk::every_version();
-    worker_log::every_kept();
-    worker_log::every_prefix();
-    disk_image::every_sealed();
+    disk_runs::every_version();
+    disk_runs::every_kept();
+    disk_runs::every_prefix();
+    disk_runs::every_sealed();
     write_on(disk, master)
 }

@@ -8,8 +8,7 @@ ghost use Rattle.log_calls.specs.Calls.{KeepsMoments, KeepsNotes, KeepsWithin};
 ghost use Rattle.log_calls.specs.Wholes.{FlushesWhole};
 
 use crate::calls::flush;
-use disk_runs::worker_log::{DiskFault, WorkerLog};
-use disk_runs::{disk_image, worker_log};
+use disk_runs::{DiskFault, WorkerLog};
 use lean_disk::Disk;
 
 /// Flushes log `number`, if something of it is not flushed yet: nothing is left then, and no device is called where nothing was.
@@ -29,9 +28,9 @@ pub fn flush_whole<D: Disk>(disk: &mut D, log: &mut WorkerLog, number: u32) -> R
 
     ensures cause_disk_fault { HasCause (D.faults disk.old) (D.faults disk.new) (IsErr result) }
 {
-    worker_log::every_kept();
-    worker_log::every_prefix();
-    disk_image::every_sealed();
+    disk_runs::every_kept();
+    disk_runs::every_prefix();
+    disk_runs::every_sealed();
     if log.last() == log.flushed() {
         return Ok(());
     }

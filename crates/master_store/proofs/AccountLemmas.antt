@@ -4,12 +4,12 @@ use Rattle.std.proofs.lemmas.Option.{none-some}
 use Rattle.std.proofs.lemmas.Bool.{cases_eq}
 use Rattle.map_model.specs.Lists.{Has}
 use Rattle.page_store.specs.image_model.Fair.{piece, IsFair, IsWritten}
-use Rattle.page_store.proofs.image_model_lemmas.FairLemmas.{IsOfOne, among_more, exactly, narrow}
+use Rattle.page_store.proofs.image_model.FairLemmas.{IsOfOne, among_more, exactly, narrow}
 use Rattle.lean_disk.specs.Area.{Area, Leaves, Write, put_over, synced, torn, written}
 use Rattle.page_store.specs.disk_slots.Masters.{master_slot}
 use Rattle.page_store.specs.disk_slots.Slots.{IsSealed}
 use Rattle.page_store.specs.disk_slots.declared.master.Master.{Master}
-use Rattle.page_store.proofs.disk_slots_lemmas.LawLemmas.{every_master}
+use Rattle.page_store.proofs.disk_slots.LawLemmas.{every_master}
 use Rattle.page_store.specs.disk_image.MasterSlots.{master_in, master_on}
 use Rattle.page_store.proofs.PieceLemmas.{write_here, write_other}
 use Rattle.master_store.specs.Laws.{EverySettled}

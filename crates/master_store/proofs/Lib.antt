@@ -3,7 +3,7 @@ pub mod AccountLemmas
 pub mod WriteLemmas
 pub mod ReadLemmas
 -- Passed on to the crates above.
-pub use Rattle.page_store.proofs as page_store_lemmas
-pub use Rattle.page_store.proofs.disk_image_lemmas as disk_image_lemmas
-pub use Rattle.page_store.proofs.disk_slots_lemmas as disk_slots_lemmas
-pub use Rattle.page_store.proofs.image_model_lemmas as image_model_lemmas
+pub use Rattle.page_store.proofs as page_store
+pub use Rattle.page_store.proofs.disk_image as disk_image
+pub use Rattle.page_store.proofs.disk_slots as disk_slots
+pub use Rattle.page_store.proofs.image_model as image_model

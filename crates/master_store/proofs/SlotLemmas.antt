@@ -6,9 +6,9 @@ use Rattle.page_store.specs.image_model.Fair.{piece}
 use Rattle.lean_disk.specs.Area.{Area, Leaves, torn, IsApart}
 use Rattle.page_store.specs.disk_slots.Masters.{IsMaster, IsMasterSlot, master_slot}
 use Rattle.page_store.specs.disk_slots.declared.master.Master.{Master}
-use Rattle.page_store.proofs.disk_slots_lemmas.LawLemmas.{every_master}
+use Rattle.page_store.proofs.disk_slots.LawLemmas.{every_master}
 use Rattle.page_store.specs.disk_image.MasterSlots.{master_in, master_on, newer}
-use Rattle.page_store.proofs.disk_image_lemmas.MasterSlotLemmas.{every_master_in}
+use Rattle.page_store.proofs.disk_image.MasterSlotLemmas.{every_master_in}
 use Rattle.page_store.proofs.PieceLemmas.{same_piece, piece_within}
 use Rattle.master_store.specs.Masters.{IsOfSlot}
 

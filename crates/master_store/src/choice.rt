@@ -9,8 +9,7 @@ ghost use Rattle.page_store.specs.disk_image.MasterSlots as slots;
 ghost use Rattle.master_store.specs.Masters.{IsOfSlot};
 
 use lean_disk::{Part, Read};
-use page_store::disk_image::every_master_in;
-use page_store::disk_slots::{Master, every_master, read_master};
+use page_store::{Master, every_master, every_master_in, read_master};
 
 /// The disk answered no.
 #[derive(Clone, Copy, Debug, PartialEq, Eq)]

@@ -8,7 +8,7 @@ ghost use Rattle.page_store.specs.disk_slots.Masters.{master_slot};
 ghost use Rattle.master_store.specs.Masters.{Account, IsKept, IsNextOf, LeavesMasters, WritesOnce, wrote};
 
 use lean_disk::{Did, Part};
-use page_store::disk_slots::{Master, master_bytes};
+use page_store::{Master, master_bytes};
 
 /// Writes a master to the slot of its sequence number, and syncs it.
 pub fn write_next<P: Part>(dev: &mut P, master: &Master) -> Did

@@ -13,7 +13,7 @@ use Rattle.core_commit.specs.core_state.Events.{Event}
 use Rattle.core_commit.specs.core_state.Lists.{is_empty}
 use Rattle.core_commit.specs.core_state.Needs.{is_worker, holds_row, is_held_by, is_reader, may_hold, may, is_value, value_in}
 use Rattle.core_commit.specs.core_state.Steps.{happens, state_after}
-use Rattle.core_commit.proofs.core_state_lemmas.Runs.{run_more}
+use Rattle.core_commit.proofs.core_state.Runs.{run_more}
 use Rattle.core_commit.proofs.FloorLemmas.{every_floor}
 use Rattle.core_commit.proofs.HolderLemmas.{every_holder}
 use Rattle.transactions.specs.declared.hindrance.Hindrance.{Hindrance}

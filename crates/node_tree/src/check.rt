@@ -10,7 +10,7 @@ ghost use Rattle.node_tree.specs.Inside.{IsNamedBelow, stands_below, fence_behin
 
 use crate::form::is_formed;
 use crate::marks::named_pages;
-use disk_image::btree_node::Node;
+use disk_image::Node;
 use std::alloc::{AllocError, Global};
 
 /// The least page that breaks the rule of the tree.

@@ -6,7 +6,7 @@ ghost use Rattle.disk_image.specs.Formats.{format_of};
 ghost use Rattle.node_tree.specs.Nodes.{nodes_of};
 ghost use Rattle.node_tree.specs.Inside.{IsOnWay};
 
-use disk_image::btree_node::Node;
+use disk_image::Node;
 use page_model::every_tree;
 
 /// The page of the leaf that has the key within its fences.

@@ -7,7 +7,7 @@ ghost use Rattle.page_model.specs.Check as model;
 ghost use Rattle.disk_image.specs.Formats.{format_of};
 ghost use Rattle.node_tree.specs.Inside.{word_fits};
 
-use disk_image::btree_node::Node;
+use disk_image::Node;
 
 /// The word of a tombstone.
 const TOMBSTONE: u64 = 1 << 63;

@@ -5,7 +5,7 @@ ghost use Rattle.page_model.specs.Records.{any};
 ghost use Rattle.page_model.specs.Check.{names_page};
 ghost use Rattle.node_tree.specs.Inside.{Gains, IsNamedBelow};
 
-use disk_image::btree_node::Node;
+use disk_image::Node;
 use std::alloc::{AllocError, Global};
 
 /// A mark for each page, set where an inner node names it.

@@ -12,9 +12,7 @@ ghost use Rattle.page_calls.specs.Calls.{IsDamaged, KeepsMoments, KeepsWithin, L
 ghost use Rattle.page_calls.specs.Mirrors.{FailsMirrors, LoadsMirrored, KeepsMirrors, SavesMirrors};
 
 use crate::slots::{Slots, last_slot};
-use disk_runs::btree_node::Node;
-use disk_runs::page_store::{Bounds, Lost, fetch_known};
-use disk_runs::{core_disk, disk_image, disk_slots, page_store, worker_log};
+use disk_runs::{Bounds, Lost, Node, fetch_known};
 use lean_disk::{Did, Part};
 
 // The slot that is not this one.
@@ -44,16 +42,16 @@ pub fn save<P: Part>(dev: &mut P, slots: &mut Slots, node: &Node, buffer: &mut [
 
     ensures cause_failed { HasCause (P.faults dev.old) (P.faults dev.new) (result ≡ Did.Failed) }
 {
-    core_disk::every_version();
-    worker_log::every_kept();
-    worker_log::every_prefix();
-    disk_image::every_sealed();
-    disk_slots::every_page();
-    page_store::every_read();
+    disk_runs::every_version();
+    disk_runs::every_kept();
+    disk_runs::every_prefix();
+    disk_runs::every_sealed();
+    disk_runs::every_page();
+    disk_runs::page_store_every_read();
     let _pages = slots.len();
     let page = node.number() as u32;
     let slot = slots.of(page);
-    let Did::Done = page_store::save(dev, other(slot.second), node, buffer) else {
+    let Did::Done = disk_runs::save(dev, other(slot.second), node, buffer) else {
         return Did::Failed;
     };
     slots.note(page);
@@ -74,10 +72,10 @@ pub fn settle<P: Part>(dev: &mut P, slots: &mut Slots) -> Did
 
     ensures cause_failed { HasCause (P.faults dev.old) (P.faults dev.new) (result ≡ Did.Failed) }
 {
-    core_disk::every_version();
-    worker_log::every_kept();
-    worker_log::every_prefix();
-    disk_image::every_sealed();
+    disk_runs::every_version();
+    disk_runs::every_kept();
+    disk_runs::every_prefix();
+    disk_runs::every_sealed();
     let Did::Done = dev.sync() else {
         return Did::Failed;
     };
@@ -111,10 +109,10 @@ pub fn load<P: Part>(
         IsDamaged slots.now generation page ((P.story dev.old).area 1).bytes counts other }
     ensures cause_disk_fault { HasCause (P.faults dev.old) (P.faults dev.new) (result ≡ Err Lost.DiskFault) }
 {
-    worker_log::every_kept();
-    worker_log::every_prefix();
-    disk_image::every_sealed();
-    page_store::every_seal();
+    disk_runs::every_kept();
+    disk_runs::every_prefix();
+    disk_runs::every_sealed();
+    disk_runs::every_seal();
     let bounds = Bounds {
         pages: slots.len(),
         generation,

@@ -11,7 +11,6 @@ mod calls;
 mod slots;
 
 pub use calls::{load, save, settle};
-use disk_runs::page_store;
 use lean_disk::{Disk, Part};
 pub use slots::{Slot, Slots};
 
@@ -29,7 +28,7 @@ pub fn every_held<P: Part>(now: &P)
 pub fn every_mirrored<P: Part>(now: &P)
     ensures { EveryMirrored (P.story now.now) }
 {
-    page_store::every_whole();
+    disk_runs::every_whole();
 }
 
 /// Slots that are made of the numbers of the firm ones hold what these do.

@@ -20,8 +20,8 @@ use Rattle.lean_proto.specs.row_words.Moments.{Moment, event_of, actor_of, pager
 use Rattle.lean_proto.specs.row_words.Openings.{opening}
 use Rattle.lean_proto.specs.row_words.Sealed.{stepped, Shown, changes}
 use Rattle.lean_proto.specs.row_words.Words.{ShowsPage, publishes_frame}
-use Rattle.lean_proto.proofs.row_words_lemmas.Stays as words
-use Rattle.lean_proto.proofs.row_words_lemmas.SealedLemmas.{run_append, calm_tame}
+use Rattle.lean_proto.proofs.row_words.Stays as words
+use Rattle.lean_proto.proofs.row_words.SealedLemmas.{run_append, calm_tame}
 use Rattle.lean_proto.specs.rows_trait.declared.view.View.{View}
 use Rattle.lean_proto.specs.rows_trait.Layout.{width}
 use Rattle.lean_proto.specs.rows_trait.Views.{Shape, Spells, state, after_all, holds, held_at, may}

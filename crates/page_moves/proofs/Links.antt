@@ -13,7 +13,7 @@ use Rattle.lean_proto.specs.btree_node.Words.{words_of}
 use Rattle.lean_proto.specs.core_state.Openings.{Opening}
 use Rattle.lean_proto.specs.core_state.States.{Place, State, nodes_of, is_cooling, in_frame}
 use Rattle.lean_proto.specs.core_state.Local.{publishes_row}
-use Rattle.lean_proto.proofs.core_commit_lemmas.Events.{names_to}
+use Rattle.lean_proto.proofs.core_commit.Events.{names_to}
 use Rattle.lean_proto.specs.core_paging.Paging.{Residence}
 use Rattle.lean_proto.specs.row_words.declared.event.Event.{Event}
 use Rattle.lean_proto.specs.row_words.declared.given.Given.{Given}
@@ -21,8 +21,8 @@ use Rattle.lean_proto.specs.row_words.Moments.{Moment, event_of}
 use Rattle.lean_proto.specs.row_words.Openings.{opening}
 use Rattle.lean_proto.specs.row_words.Sealed.{Shown, changes}
 use Rattle.lean_proto.specs.row_words.Words.{swip, swips, framed, framed_page, is_inner, ShowsPage, has_parent_in, publishes_frame}
-use Rattle.lean_proto.proofs.row_words_lemmas.Frames.{framed_inner, framed_same, swips_length}
-use Rattle.lean_proto.proofs.row_words_lemmas.Stays as words
+use Rattle.lean_proto.proofs.row_words.Frames.{framed_inner, framed_same, swips_length}
+use Rattle.lean_proto.proofs.row_words.Stays as words
 use Rattle.lean_proto.proofs.Lengths.{words-length}
 use Rattle.lean_proto.proofs.Loads.{names_from}
 use Rattle.lean_proto.proofs.Moves.{links, parent_in, any_of, first_of}

@@ -28,9 +28,9 @@ use Rattle.lean_proto.specs.row_words.Moments.{Moment, event_of}
 use Rattle.lean_proto.specs.row_words.Openings.{opening}
 use Rattle.lean_proto.specs.row_words.Sealed.{begun, stepped, Shown, changes}
 use Rattle.lean_proto.specs.row_words.Words.{swip, swips, framed, framed_page, is_inner, ShowsPage, has_parent_in, publishes_frame}
-use Rattle.lean_proto.proofs.row_words_lemmas.Frames.{hot_place}
-use Rattle.lean_proto.proofs.row_words_lemmas.SealedLemmas.{run_append, calm_tame}
-use Rattle.lean_proto.proofs.row_words_lemmas.Stays as words
+use Rattle.lean_proto.proofs.row_words.Frames.{hot_place}
+use Rattle.lean_proto.proofs.row_words.SealedLemmas.{run_append, calm_tame}
+use Rattle.lean_proto.proofs.row_words.Stays as words
 use Rattle.lean_proto.specs.rows_trait.declared.view.View.{View}
 use Rattle.lean_proto.specs.rows_trait.Layout.{width}
 use Rattle.lean_proto.specs.rows_trait.Views.{Shape, Spells, state, after_all, holds, held_at}

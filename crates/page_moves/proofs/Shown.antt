@@ -12,7 +12,7 @@ use Rattle.lean_proto.specs.row_words.Moments.{Moment, event_of}
 use Rattle.lean_proto.specs.row_words.Openings.{opening}
 use Rattle.lean_proto.specs.row_words.Sealed.{stepped, Shown}
 use Rattle.lean_proto.specs.row_words.Words.{ShowsPage}
-use Rattle.lean_proto.proofs.row_words_lemmas.Stays.{below_false, not_true}
+use Rattle.lean_proto.proofs.row_words.Stays.{below_false, not_true}
 use Rattle.swips.specs.Hints.{mark}
 
 -- what a row shows of the page that stands in it

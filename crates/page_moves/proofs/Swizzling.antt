@@ -12,7 +12,7 @@ use Rattle.lean_proto.specs.core_state.Needs as core
 use Rattle.lean_proto.specs.core_state.Needs.{is_inside, has_hot_child, has_hot_parent}
 use Rattle.lean_proto.specs.core_state.Local.{publishes_row}
 use Rattle.lean_proto.specs.core_paging.Paging.{Residence}
-use Rattle.lean_proto.proofs.core_paging_lemmas.Places.{framed, framed_not_cold, own_frame}
+use Rattle.lean_proto.proofs.core_paging.Places.{framed, framed_not_cold, own_frame}
 use Rattle.lean_proto.specs.row_words.declared.event.Event.{Event}
 use Rattle.lean_proto.specs.row_words.declared.event.Event.TheVariants as told
 use Rattle.lean_proto.specs.row_words.declared.given.Given.{Given}
@@ -20,8 +20,8 @@ use Rattle.lean_proto.specs.row_words.Moments.{Moment, event_of, actor_of, pager
 use Rattle.lean_proto.specs.row_words.Openings.{opening}
 use Rattle.lean_proto.specs.row_words.Sealed.{begun, stepped, Shown, changes}
 use Rattle.lean_proto.specs.row_words.Words.{swip, is_inner}
-use Rattle.lean_proto.proofs.row_words_lemmas.Frames.{hot_place}
-use Rattle.lean_proto.proofs.row_words_lemmas.SealedLemmas.{run_append, calm_tame}
+use Rattle.lean_proto.proofs.row_words.Frames.{hot_place}
+use Rattle.lean_proto.proofs.row_words.SealedLemmas.{run_append, calm_tame}
 use Rattle.lean_proto.specs.rows_trait.declared.view.View.{View}
 use Rattle.lean_proto.specs.rows_trait.Layout.{width}
 use Rattle.lean_proto.specs.rows_trait.Views.{Shape, Spells, state, after_all, holds, held_at, may}

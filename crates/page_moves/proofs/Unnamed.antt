@@ -19,9 +19,9 @@ use Rattle.lean_proto.specs.core_state.Needs as core
 use Rattle.lean_proto.specs.core_state.Needs.{has_hot_parent, has_hot_child, is_empty_frame, is_inside}
 use Rattle.lean_proto.specs.core_state.Steps.{happens}
 use Rattle.lean_proto.specs.core_state.Local.{publishes_row}
-use Rattle.lean_proto.proofs.core_commit_lemmas.Events.{names_to}
+use Rattle.lean_proto.proofs.core_commit.Events.{names_to}
 use Rattle.lean_proto.specs.core_paging.Paging.{Residence}
-use Rattle.lean_proto.proofs.core_paging_lemmas.Places.{own_frame, framed_not_cold}
+use Rattle.lean_proto.proofs.core_paging.Places.{own_frame, framed_not_cold}
 use Rattle.lean_proto.specs.row_words.declared.event.Event.{Event}
 use Rattle.lean_proto.specs.row_words.declared.event.Event.TheVariants as told
 use Rattle.lean_proto.specs.row_words.declared.given.Given.{Given}
@@ -29,8 +29,8 @@ use Rattle.lean_proto.specs.row_words.Moments.{Moment, event_of, actor_of, pager
 use Rattle.lean_proto.specs.row_words.Openings.{opening}
 use Rattle.lean_proto.specs.row_words.Sealed.{begun, stepped, Shown, changes}
 use Rattle.lean_proto.specs.row_words.Words.{framed, framed_page, is_inner, ShowsPage, has_parent_in, publishes_frame}
-use Rattle.lean_proto.proofs.row_words_lemmas.SealedLemmas.{run_append, calm_tame}
-use Rattle.lean_proto.proofs.row_words_lemmas.Stays as words
+use Rattle.lean_proto.proofs.row_words.SealedLemmas.{run_append, calm_tame}
+use Rattle.lean_proto.proofs.row_words.Stays as words
 use Rattle.lean_proto.specs.rows_trait.declared.view.View.{View}
 use Rattle.lean_proto.specs.rows_trait.Layout.{width}
 use Rattle.lean_proto.specs.rows_trait.Views.{Shape, Spells, state, after_all, holds, held_at}

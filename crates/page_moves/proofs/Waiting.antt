@@ -8,7 +8,7 @@ use Rattle.lean_proto.specs.row_words.Moments.{Moment, pager}
 use Rattle.lean_proto.specs.row_words.Openings.{opening}
 use Rattle.lean_proto.specs.rows_trait.declared.view.View.{View}
 use Rattle.lean_proto.specs.rows_trait.Views.{Shape, after_all, state}
-use Rattle.lean_proto.proofs.version_latch_lemmas.Keeping.{may_ran}
+use Rattle.lean_proto.proofs.version_latch.Keeping.{may_ran}
 use Rattle.lean_proto.proofs.Moves.{Stays, stays_all}
 use Rattle.held_rows.specs.Rows.{Waited}
 use Rattle.held_rows.specs.Waits.{moment_is}

@@ -12,7 +12,7 @@ use Rattle.page_model.proofs.Tree.{only}
 use Rattle.lean_proto.specs.btree_node.Words.{flat, pair_words, words_of}
 use Rattle.lean_proto.specs.core_state.States.{Place}
 use Rattle.lean_proto.specs.row_words.Words.{swip, swips, is_inner}
-use Rattle.lean_proto.proofs.row_words_lemmas.Stays as words
+use Rattle.lean_proto.proofs.row_words.Stays as words
 
 -- pair i with another word
 abbrev pub reword : List Pair → ℕ → ℕ → List Pair

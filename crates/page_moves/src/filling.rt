@@ -7,9 +7,7 @@ ghost use Rattle.page_moves.specs.Moves.{CanFill};
 
 use crate::events::Loads;
 use held_rows::{publish_two, set_word, store};
-use lean_proto::btree_node::Node;
-use lean_proto::rows_trait::rows::Rows;
-use lean_proto::version_latch::Hold;
+use lean_proto::{Hold, Node, Rows};
 use swips::Swip;
 
 /// The page, as it was saved, comes into the empty row `own`: pair `at` of the node in the row `parent`, which named its number, names

@@ -7,9 +7,7 @@ ghost use Rattle.page_moves.specs.Moves.{CanChill, CanFillFree, CanRevive};
 
 use crate::events::{Cools, Loads, Rescues};
 use held_rows::{publish_one, set_word, store};
-use lean_proto::btree_node::Node;
-use lean_proto::rows_trait::rows::Rows;
-use lean_proto::version_latch::Hold;
+use lean_proto::{Hold, Node, Rows};
 use swips::{MARK, NO_HINT};
 
 /// The free page in the row cools.

@@ -7,8 +7,7 @@ ghost use Rattle.page_moves.specs.Moves.{CanUnlink, CanRelink};
 
 use crate::events::{Cools, Rescues};
 use held_rows::{publish_two, set_word};
-use lean_proto::rows_trait::rows::Rows;
-use lean_proto::version_latch::Hold;
+use lean_proto::{Hold, Rows};
 use swips::{MARK, Swip};
 
 /// The page in the row `own` cools: pair `at` of the node in the row `parent`, which named its frame, names its number.

@@ -7,8 +7,7 @@ ghost use Rattle.page_moves.specs.Moves.{CanEvict, CanSave};
 
 use crate::events::{Evicts, Saves};
 use held_rows::{publish_one, set_word};
-use lean_proto::rows_trait::rows::Rows;
-use lean_proto::version_latch::Hold;
+use lean_proto::{Hold, Rows};
 
 /// Notes that the page in the held row was saved as it stands: its number is that of what is saved, and so the page is clean.
 pub fn note_saved<R: Rows>(rows: &mut R, seat: &mut R::Seat, mut hold: Hold, page: u32, number: u64)

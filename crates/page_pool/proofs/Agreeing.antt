@@ -11,10 +11,10 @@ use Rattle.lean_proto.specs.core_state.Events.{Event}
 use Rattle.lean_proto.specs.core_state.Needs.{may, has_hot_parent, has_hot_child, is_empty_frame, is_dirty, is_inside}
 use Rattle.lean_proto.specs.core_state.Steps.{happens}
 use Rattle.lean_proto.specs.core_paging.Paging.{Residence}
-use Rattle.lean_proto.proofs.core_paging_lemmas.Places.{own_frame, framed, cooling_not_cold, hot_not_cold, hot_not_cooling, in_own}
+use Rattle.lean_proto.proofs.core_paging.Places.{own_frame, framed, cooling_not_cold, hot_not_cold, hot_not_cooling, in_own}
 use Rattle.lean_proto.specs.row_words.declared.given.Given.{Given}
 use Rattle.lean_proto.specs.row_words.Openings.{opening}
-use Rattle.lean_proto.proofs.row_words_lemmas.Stays as words
+use Rattle.lean_proto.proofs.row_words.Stays as words
 use Rattle.lean_proto.specs.rows_trait.Views.{state}
 use Rattle.cooling_stage.specs.declared.stage.Cooling.{Cooling}
 use Rattle.cooling_stage.specs.Queue.{without}

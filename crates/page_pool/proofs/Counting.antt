@@ -8,7 +8,7 @@ use Rattle.lean_proto.specs.core_state.Openings.{Opening}
 use Rattle.lean_proto.specs.core_state.States.{Place, State, is_hot, is_cooling, in_frame, frame_of}
 use Rattle.lean_proto.specs.core_state.Needs.{is_empty_frame}
 use Rattle.lean_proto.specs.core_paging.Paging.{Residence}
-use Rattle.lean_proto.proofs.row_words_lemmas.Stays as words
+use Rattle.lean_proto.proofs.row_words.Stays as words
 use Rattle.cooling_stage.specs.declared.stage.Cooling.{Cooling}
 use Rattle.page_pool.specs.Pools.{Pool, Agrees, AreOnce}
 use Rattle.page_pool.specs.Counts.{EveryFrame}

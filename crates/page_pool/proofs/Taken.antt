@@ -4,8 +4,8 @@ use Rattle.page_model.specs.Check.{names_page}
 use Rattle.page_model.specs.Tree.{IsTree}
 use Rattle.lean_proto.specs.core_state.Openings.{Opening}
 use Rattle.lean_proto.specs.core_state.States.{Place, State, nodes_of, is_hot, is_cooling, in_frame}
-use Rattle.lean_proto.proofs.core_commit_lemmas.Events.{names_to}
-use Rattle.lean_proto.proofs.row_words_lemmas.Stays as words
+use Rattle.lean_proto.proofs.core_commit.Events.{names_to}
+use Rattle.lean_proto.proofs.row_words.Stays as words
 use Rattle.page_pool.specs.Full.{IsWay, NoCandidate, EveryFull}
 
 module _ (g : Opening) (s : State) (way : ℕ → Bool) (tree : IsTree g.format (nodes_of s)) (closed : IsWay g s way) (none : NoCandidate g s way) where

@@ -15,7 +15,7 @@ use Rattle.btree_descent.specs.row_words.declared.event.Event.{Event}
 use Rattle.btree_descent.specs.row_words.declared.event.Event.TheVariants as told
 use Rattle.btree_descent.specs.row_words.Moments.{Moment, actor_of, by, event_of, pager}
 use Rattle.btree_descent.specs.row_words.Openings.{opening}
-use Rattle.btree_descent.proofs.row_words_lemmas.Stays as words
+use Rattle.btree_descent.proofs.row_words.Stays as words
 use Rattle.btree_descent.specs.rows_trait.declared.view.View.{View}
 use Rattle.btree_descent.specs.rows_trait.Turns.{Ran}
 use Rattle.btree_descent.specs.rows_trait.Views.{Shape, after_all, may, state}

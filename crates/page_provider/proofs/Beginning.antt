@@ -47,7 +47,7 @@ all_true (suc n) P each = Rattle.std.proofs.lemmas.Bool.and_from (P n) (all_belo
 
 all_at : (n : ℕ) (P : ℕ → Bool) → all_below n P ≡ true → (p : ℕ) → p < n → P p ≡ true
 all_at zero P a p lt = absurd (omega arith)
-all_at (suc n) P a p lt = let k = Rattle.btree_descent.proofs.row_words_lemmas.Stays.and_true (P n) (all_below n P) a in elim (cases_eq p n) [
+all_at (suc n) P a p lt = let k = Rattle.btree_descent.proofs.row_words.Stays.and_true (P n) (all_below n P) a in elim (cases_eq p n) [
   | inl e ↦ ap P e ∙ k.0
   | inr ne ↦ all_at n P k.1 p (omega arith)
 ]

@@ -22,14 +22,14 @@ use Rattle.btree_descent.specs.row_words.declared.given.Given.{Given}
 use Rattle.btree_descent.specs.row_words.Moments.{Moment, actor_of, by, event_of, pager}
 use Rattle.btree_descent.specs.row_words.Openings.{opening}
 use Rattle.btree_descent.specs.row_words.Sealed.{run, stepped}
-use Rattle.btree_descent.proofs.row_words_lemmas.Frames.{framed_live}
-use Rattle.btree_descent.proofs.row_words_lemmas.SealedLemmas.{by_append}
+use Rattle.btree_descent.proofs.row_words.Frames.{framed_live}
+use Rattle.btree_descent.proofs.row_words.SealedLemmas.{by_append}
 use Rattle.btree_descent.specs.rows_trait.declared.view.View.{View}
 use Rattle.btree_descent.specs.rows_trait.Turns.{Ran}
 use Rattle.btree_descent.specs.rows_trait.Views.{AreApart, NoSync, Shape, after_all, held_at, may, state}
-use Rattle.btree_descent.proofs.rows_trait_lemmas.EventLemmas.{apart_sync, by_none, none_apart, sync_append}
-use Rattle.btree_descent.proofs.rows_trait_lemmas.Runs.{ran_append}
-use Rattle.btree_descent.proofs.version_latch_lemmas.Keeping.{may_ran}
+use Rattle.btree_descent.proofs.rows_trait.EventLemmas.{apart_sync, by_none, none_apart, sync_append}
+use Rattle.btree_descent.proofs.rows_trait.Runs.{ran_append}
+use Rattle.btree_descent.proofs.version_latch.Keeping.{may_ran}
 use Rattle.btree_descent.specs.Known.{IsSound, Sound}
 use Rattle.held_rows.specs.Publishing.{Went}
 use Rattle.held_rows.specs.Rows.{IsFrame}

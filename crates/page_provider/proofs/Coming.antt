@@ -25,7 +25,7 @@ use Rattle.btree_descent.specs.row_words.declared.given.Given.{Given}
 use Rattle.btree_descent.specs.row_words.Moments.{Moment, event_of, actor_of, pager, by}
 use Rattle.btree_descent.specs.row_words.Openings.{opening}
 use Rattle.btree_descent.specs.row_words.Sealed.{stepped, run}
-use Rattle.btree_descent.proofs.row_words_lemmas.Stays.{and_true}
+use Rattle.btree_descent.proofs.row_words.Stays.{and_true}
 use Rattle.btree_descent.specs.rows_trait.declared.view.View.{View}
 use Rattle.btree_descent.specs.rows_trait.Views.{Shape, state}
 use Rattle.btree_descent.specs.rows_trait.Turns.{Ran}

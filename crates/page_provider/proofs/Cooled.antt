@@ -4,7 +4,7 @@ use Rattle.std.specs.Option.{is_some}
 use Rattle.page_model.specs.Tree.{IsTree}
 use Rattle.btree_descent.specs.core_state.Openings.{Opening}
 use Rattle.btree_descent.specs.core_state.States.{State, is_hot, nodes_of}
-use Rattle.btree_descent.proofs.core_paging_lemmas.ResidenceKept.{named_below}
+use Rattle.btree_descent.proofs.core_paging.ResidenceKept.{named_below}
 use Rattle.btree_descent.specs.row_words.declared.event.Event.TheVariants as told
 use Rattle.btree_descent.specs.row_words.declared.given.Given.{Given}
 use Rattle.btree_descent.specs.row_words.Moments.{Moment}
@@ -12,7 +12,7 @@ use Rattle.btree_descent.specs.row_words.Openings.{opening}
 use Rattle.btree_descent.specs.rows_trait.declared.view.View.{View}
 use Rattle.btree_descent.specs.rows_trait.Turns.{Ran}
 use Rattle.btree_descent.specs.rows_trait.Views.{Shape, state}
-use Rattle.btree_descent.proofs.rows_trait_lemmas.Runs.{ran_append, ran_none}
+use Rattle.btree_descent.proofs.rows_trait.Runs.{ran_append, ran_none}
 use Rattle.row_image.specs.declared.sight.Sight.{Sight}
 use Rattle.row_image.specs.Hot.{IsHotIn}
 use Rattle.cooling_stage.specs.declared.stage.Cooling.{Cooling}

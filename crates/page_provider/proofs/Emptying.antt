@@ -25,7 +25,7 @@ use Rattle.page_provider.proofs.Judging.{as_there, entry_is, none_same, tells}
 use Rattle.page_provider.proofs.Keeping.{keeps_ran}
 use Rattle.page_provider.proofs.Unsaved.{few_none, few_quiet, misses_none, misses_quiet}
 use Rattle.page_provider.proofs.Moving.{halts_refused, missed_halts, refused_then, refused_up, stalls_refused}
-use Rattle.btree_descent.proofs.rows_trait_lemmas.Runs.{ran_append}
+use Rattle.btree_descent.proofs.rows_trait.Runs.{ran_append}
 
 -- ## Refusals
 

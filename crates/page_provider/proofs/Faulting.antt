@@ -21,11 +21,11 @@ use Rattle.btree_descent.specs.row_words.declared.event.Event.TheVariants as tol
 use Rattle.btree_descent.specs.row_words.Openings.{opening}
 use Rattle.btree_descent.specs.row_words.Words.{framed_page}
 use Rattle.btree_descent.specs.row_words.declared.given.Given.{Given}
-use Rattle.btree_descent.proofs.row_words_lemmas.Stays.{below_false}
+use Rattle.btree_descent.proofs.row_words.Stays.{below_false}
 use Rattle.btree_descent.specs.rows_trait.declared.view.View.{View}
 use Rattle.btree_descent.specs.rows_trait.Views.{Shape, state}
 use Rattle.btree_descent.specs.rows_trait.Turns.{Ran}
-use Rattle.btree_descent.proofs.rows_trait_lemmas.Runs.{ran_append}
+use Rattle.btree_descent.proofs.rows_trait.Runs.{ran_append}
 use Rattle.btree_descent.specs.Known.{Sound}
 use Rattle.lean_disk.specs.Story.{IsLawful, Story}
 use Rattle.btree_descent.specs.lean_proto.Still.{Stood}

@@ -33,11 +33,11 @@ use Rattle.btree_descent.specs.row_words.declared.given.Given.{Given}
 use Rattle.btree_descent.specs.row_words.Moments.{Moment, event_of, events_of, pager, pairs_of}
 use Rattle.btree_descent.specs.row_words.Openings.{opening}
 use Rattle.row_opening.specs.Opened.{entries_of}
-use Rattle.btree_descent.proofs.row_words_lemmas.SealedLemmas.{calm_tame, silent_changes, silent_sets}
+use Rattle.btree_descent.proofs.row_words.SealedLemmas.{calm_tame, silent_changes, silent_sets}
 use Rattle.btree_descent.specs.rows_trait.declared.view.View.{View}
 use Rattle.btree_descent.specs.rows_trait.Turns.{Heard, Ran}
 use Rattle.btree_descent.specs.rows_trait.Views.{AreAside, BeginsTame, Shape, may, state}
-use Rattle.btree_descent.proofs.rows_trait_lemmas.Runs.{ran_append, ran_goes, ran_none}
+use Rattle.btree_descent.proofs.rows_trait.Runs.{ran_append, ran_goes, ran_none}
 use Rattle.page_calls.specs.Mirrors.{KeepsMirrors, Mirrors}
 use Rattle.page_moves.specs.Moves.{contents_of}
 use Rattle.page_pool.specs.Pools.{Agrees, Pool}

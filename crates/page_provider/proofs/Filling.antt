@@ -26,7 +26,7 @@ use Rattle.page_provider.specs.Providers.{Provider, Keeps}
 use Rattle.page_provider.specs.Refusals.{Caused, IsOfEvict, IsOfRow, IsOthers, breaks}
 use Rattle.lean_disk.specs.Story.{Story}
 use Rattle.page_calls.specs.Calls.{IsOn}
-use Rattle.btree_descent.proofs.rows_trait_lemmas.Runs.{ran_none}
+use Rattle.btree_descent.proofs.rows_trait.Runs.{ran_none}
 use Rattle.page_provider.specs.Disks.{Disked, told}
 use Rattle.page_provider.specs.Laws.{DiskLaws}
 use Rattle.page_provider.proofs.Keeping.{keeps_slots}
@@ -165,7 +165,7 @@ module _ {z : Shape} {path : List ℕ} {v u : View} {was mid : Provider} {frame 
   all_to : (n : ℕ) (P Q : ℕ → Bool) → ((q : ℕ) → q < n → P q ≡ true → Q q ≡ true) → all_below n P ≡ true → all_below n Q ≡ true
   all_to zero P Q f a = refl
   all_to (suc n) P Q f a =
-      let k = Rattle.btree_descent.proofs.row_words_lemmas.Stays.and_true (P n) (all_below n P) a in
+      let k = Rattle.btree_descent.proofs.row_words.Stays.and_true (P n) (all_below n P) a in
       and_from (Q n) (all_below n Q) (f n (omega arith) k.0) (all_to n P Q (λ q l. f q (omega arith)) k.1)
 
   pub parent_on : (page : ℕ) → z.alone ≡ true → LeadsTo z v path page → has_hot_parent (opening v.given) (state v).core page ≡ true → has_hot_parent (opening u.given) (state u).core page ≡ true

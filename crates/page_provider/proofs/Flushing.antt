@@ -8,7 +8,7 @@ use Rattle.btree_descent.specs.row_words.Openings.{opening}
 use Rattle.btree_descent.specs.rows_trait.declared.view.View.{View}
 use Rattle.btree_descent.specs.rows_trait.Turns.{Heard, Ran}
 use Rattle.btree_descent.specs.rows_trait.Views.{Shape, NoSync, after_all, state}
-use Rattle.btree_descent.proofs.rows_trait_lemmas.Runs.{ran_append, ran_goes}
+use Rattle.btree_descent.proofs.rows_trait.Runs.{ran_append, ran_goes}
 use Rattle.page_provider.specs.Laws.{RowLaws}
 use Rattle.page_provider.specs.Leaves.{IsFlushed}
 use Rattle.page_provider.specs.Providers.{Provider, Keeps}

@@ -14,12 +14,12 @@ use Rattle.btree_descent.specs.rows_trait.Causes.{HasFound, HasMoved, IsLatched}
 use Rattle.btree_descent.specs.rows_trait.Layout.{width}
 use Rattle.btree_descent.specs.rows_trait.Turns.{Looked, Ran}
 use Rattle.btree_descent.specs.rows_trait.Views.{Shape, IsEven, Spells, held_at, hold, holds, latest, may, state}
-use Rattle.btree_descent.proofs.rows_trait_lemmas.Runs.{ran_append}
+use Rattle.btree_descent.proofs.rows_trait.Runs.{ran_append}
 use Rattle.btree_descent.specs.version_latch.Named.{missed, checked}
 use Rattle.btree_descent.specs.version_latch.declared.glimpse.Latched.{Latched}
 use Rattle.btree_descent.specs.version_latch.declared.glimpse.Moved.{Moved}
-use Rattle.btree_descent.proofs.version_latch_lemmas.Naming.{checked_other, missed_even, missed_odd}
-use Rattle.btree_descent.proofs.version_latch_lemmas.Keeping.{looked_ran, may_ran}
+use Rattle.btree_descent.proofs.version_latch.Naming.{checked_other, missed_even, missed_odd}
+use Rattle.btree_descent.proofs.version_latch.Keeping.{looked_ran, may_ran}
 use Rattle.held_rows.specs.Latching as latching
 use Rattle.held_rows.specs.Latching.{Refused, Took}
 use Rattle.held_rows.specs.declared.latching.Refusal.TheVariants.{RowSpent}

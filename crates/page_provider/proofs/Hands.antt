@@ -10,7 +10,7 @@ use Rattle.btree_descent.specs.core_state.Openings.{Opening}
 use Rattle.btree_descent.specs.core_state.Needs.{has_hot_child}
 use Rattle.btree_descent.specs.core_state.States.{Place, State, frame_of, in_frame, is_hot}
 use Rattle.btree_descent.specs.core_paging.Paging.{Residence}
-use Rattle.btree_descent.proofs.core_paging_lemmas.Places.{below}
+use Rattle.btree_descent.proofs.core_paging.Places.{below}
 use Rattle.btree_descent.specs.row_words.declared.event.Event.{Event}
 use Rattle.btree_descent.specs.row_words.declared.event.Event.TheVariants as told
 use Rattle.btree_descent.specs.row_words.declared.given.Given.{Given}
@@ -18,7 +18,7 @@ use Rattle.btree_descent.specs.row_words.Openings.{opening}
 use Rattle.btree_descent.specs.rows_trait.declared.view.View.{View}
 use Rattle.btree_descent.specs.rows_trait.Views.{Shape, after_all, state}
 use Rattle.btree_descent.specs.rows_trait.Turns.{Ran}
-use Rattle.btree_descent.proofs.rows_trait_lemmas.Runs.{ran_append, ran_none}
+use Rattle.btree_descent.proofs.rows_trait.Runs.{ran_append, ran_none}
 use Rattle.btree_descent.specs.lean_proto.Still.{Stood}
 use Rattle.row_image.specs.declared.sight.Sight.{Sight}
 use Rattle.row_image.specs.Hot.{IsHotIn}

@@ -10,17 +10,17 @@ use Rattle.btree_descent.specs.row_words.declared.given.Given.{Given}
 use Rattle.btree_descent.specs.row_words.Moments.{Moment, actor_of, by, event_of, pager}
 use Rattle.btree_descent.specs.row_words.Openings.{opening}
 use Rattle.btree_descent.specs.row_words.Sealed.{run, stepped}
-use Rattle.btree_descent.proofs.row_words_lemmas.SealedLemmas.{by_append}
+use Rattle.btree_descent.proofs.row_words.SealedLemmas.{by_append}
 use Rattle.held_rows.specs.Steps as held
 use Rattle.btree_descent.specs.rows_trait.declared.view.View.{View}
 use Rattle.btree_descent.specs.rows_trait.Views.{NoSync, may, state}
 use Rattle.btree_descent.specs.rows_trait.Turns.{Ran}
-use Rattle.btree_descent.proofs.rows_trait_lemmas.EventLemmas.{sync_append}
+use Rattle.btree_descent.proofs.rows_trait.EventLemmas.{sync_append}
 use Rattle.page_provider.specs.Moves.{AreMet, ArePagers, AreTicked, others_in}
 use Rattle.page_provider.specs.Steps.{AreMisses, IsMissAtMost}
 use Rattle.page_provider.proofs.Keeping.{plays}
 use Rattle.page_provider.proofs.Standing.{onward, ran_state, state_on}
-use Rattle.btree_descent.proofs.rows_trait_lemmas.Runs.{stepped_then}
+use Rattle.btree_descent.proofs.rows_trait.Runs.{stepped_then}
 
 -- ## One list behind another
 

@@ -12,8 +12,8 @@ use Rattle.btree_descent.specs.rows_trait.Causes.{Finds, HasFound, HasMoved, IsL
 use Rattle.btree_descent.specs.rows_trait.Turns.{Ran, Released}
 use Rattle.btree_descent.specs.rows_trait.Views.{Shape, hold, held_at, holds, latest, state}
 use Rattle.btree_descent.specs.rows_trait.declared.view.Hold.{Hold}
-use Rattle.btree_descent.proofs.rows_trait_lemmas.Causes.{finds_newer, finds_older}
-use Rattle.btree_descent.proofs.rows_trait_lemmas.Runs.{ran_none}
+use Rattle.btree_descent.proofs.rows_trait.Causes.{finds_newer, finds_older}
+use Rattle.btree_descent.proofs.rows_trait.Runs.{ran_none}
 use Rattle.btree_descent.specs.version_latch.declared.glimpse.Moved.{Moved}
 use Rattle.btree_descent.specs.version_latch.declared.glimpse.Latched.{Latched}
 use Rattle.btree_descent.specs.Known.{IsSound}

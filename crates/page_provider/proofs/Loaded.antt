@@ -5,7 +5,7 @@ use Rattle.btree_descent.specs.rows_trait.declared.view.Act.TheVariants.{Look, L
 use Rattle.btree_descent.specs.rows_trait.declared.view.View.{View}
 use Rattle.btree_descent.specs.rows_trait.Causes.{AreLoads, HasFound, HasMoved, IsLatched}
 use Rattle.btree_descent.specs.rows_trait.Turns.{Stepped}
-use Rattle.btree_descent.proofs.rows_trait_lemmas.Causes.{finds_newer}
+use Rattle.btree_descent.proofs.rows_trait.Causes.{finds_newer}
 use Rattle.page_provider.specs.declared.refusal.Refusal.{Refusal}
 use Rattle.page_provider.specs.declared.refusal.Refusal.TheVariants as refusal
 use Rattle.page_provider.specs.Refusals.{Caused, HasLoaded, HasLoadedTwo, IsOthers, NoSet, SpentAt}

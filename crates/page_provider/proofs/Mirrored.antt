@@ -31,7 +31,7 @@ use Rattle.btree_descent.specs.row_words.Sealed.{run, stepped}
 use Rattle.btree_descent.specs.rows_trait.declared.view.View.{View}
 use Rattle.btree_descent.specs.rows_trait.Turns.{Ran}
 use Rattle.btree_descent.specs.rows_trait.Views.{Shape, may, state}
-use Rattle.btree_descent.proofs.rows_trait_lemmas.Runs.{ran_append}
+use Rattle.btree_descent.proofs.rows_trait.Runs.{ran_append}
 use Rattle.page_provider.specs.Comes.{IsUnseen}
 use Rattle.page_provider.specs.Cools.{CoolsOrNot}
 use Rattle.page_provider.specs.Disks as disks

@@ -14,7 +14,7 @@ use Rattle.btree_descent.specs.row_words.Openings.{opening}
 use Rattle.btree_descent.specs.rows_trait.declared.view.View.{View}
 use Rattle.btree_descent.specs.rows_trait.Turns.{Ran}
 use Rattle.btree_descent.specs.rows_trait.Views.{Shape, may, state}
-use Rattle.btree_descent.proofs.rows_trait_lemmas.Runs.{ran_append, ran_none}
+use Rattle.btree_descent.proofs.rows_trait.Runs.{ran_append, ran_none}
 use Rattle.row_image.specs.Images.{StaysIn}
 use Rattle.page_calls.specs.declared.slots.Slot.{Slot}
 use Rattle.page_moves.specs.Moves.{IsMet, IsPager}

@@ -13,13 +13,13 @@ use Rattle.btree_descent.specs.core_state.Needs.{has_hot_parent, is_empty_frame}
 use Rattle.btree_descent.specs.row_words.declared.given.Given.{Given}
 use Rattle.btree_descent.specs.row_words.Openings.{opening}
 use Rattle.btree_descent.specs.row_words.Words.{framed_page}
-use Rattle.btree_descent.proofs.row_words_lemmas.Stays.{and_true}
+use Rattle.btree_descent.proofs.row_words.Stays.{and_true}
 use Rattle.btree_descent.specs.rows_trait.declared.view.View.{View}
 use Rattle.btree_descent.specs.rows_trait.Views.{Shape, state}
 use Rattle.btree_descent.specs.rows_trait.Turns.{Ran}
-use Rattle.btree_descent.proofs.rows_trait_lemmas.Runs.{ran_append}
+use Rattle.btree_descent.proofs.rows_trait.Runs.{ran_append}
 use Rattle.btree_descent.specs.Known.{IsSound}
-use Rattle.btree_descent.proofs.lean_proto_lemmas.Loads.{names_from}
+use Rattle.btree_descent.proofs.lean_proto.Loads.{names_from}
 use Rattle.cooling_stage.specs.declared.stage.Cooling.{Cooling}
 use Rattle.cooling_stage.specs.Queue.{found}
 use Rattle.page_moves.specs.Moves.{CanFill, CanRelink, HasLink}

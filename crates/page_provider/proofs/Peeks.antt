@@ -6,7 +6,7 @@ use Rattle.page_model.specs.Page as stored
 use Rattle.page_model.specs.Page.{word_at}
 use Rattle.page_model.specs.Nodes.{Node}
 use Rattle.btree_descent.specs.btree_node.Words.{words_of, Fits}
-use Rattle.btree_descent.proofs.btree_node_lemmas.SpellingLemmas.{page_of-words_of, spells-count, spells-word}
+use Rattle.btree_descent.proofs.btree_node.SpellingLemmas.{page_of-words_of, spells-count, spells-word}
 use Rattle.btree_descent.specs.row_words.Moments.{Moment}
 use Rattle.btree_descent.specs.row_words.Openings.{opening}
 use Rattle.btree_descent.specs.row_words.Words.{framed_page, is_inner}
@@ -14,7 +14,7 @@ use Rattle.btree_descent.specs.row_words.declared.given.Given.{Given}
 use Rattle.btree_descent.specs.rows_trait.declared.view.Act.{Act}
 use Rattle.btree_descent.specs.rows_trait.declared.view.View.{View}
 use Rattle.btree_descent.specs.rows_trait.Views.{Shape, Knows, state}
-use Rattle.btree_descent.proofs.rows_trait_lemmas.Runs.{ran_append}
+use Rattle.btree_descent.proofs.rows_trait.Runs.{ran_append}
 use Rattle.btree_descent.specs.version_latch.declared.glimpse.Glimpse.{Glimpse}
 use Rattle.btree_descent.specs.swips.declared.hint.TheConstants.{MARK}
 use Rattle.btree_descent.specs.Inside.{Agrees}

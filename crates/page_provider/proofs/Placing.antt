@@ -1,6 +1,6 @@
 -- A page that comes into a frame, or is in none: what a fault says of it.
 use Rattle.std.proofs.Common.{◌≡◌, ◌<◌, ◌≤◌, ◌&&◌, ◌⊎◌, inl, inr, not, ℕ, Bool, true, false, List, [], ◌∷◌, length, Some, refl, sym, ap, subst, ◌∙◌, arith, true≢false}
-use Rattle.btree_descent.proofs.row_words_lemmas.Stays.{and_true}
+use Rattle.btree_descent.proofs.row_words.Stays.{and_true}
 use Rattle.btree_descent.specs.core_state.Needs.{has_hot_parent}
 use Rattle.btree_descent.specs.core_state.States.{Place, is_cold, is_cooling, is_hot}
 use Rattle.cooling_stage.specs.declared.stage.Cooling.{Cooling}

@@ -5,7 +5,7 @@ use Rattle.btree_descent.specs.rows_trait.declared.view.View.{View}
 use Rattle.btree_descent.specs.row_words.declared.given.Given.{Given}
 use Rattle.btree_descent.specs.row_words.Openings.{opening}
 use Rattle.btree_descent.specs.rows_trait.Views.{Shape, state}
-use Rattle.btree_descent.proofs.rows_trait_lemmas.Runs.{ran_append, ran_none}
+use Rattle.btree_descent.proofs.rows_trait.Runs.{ran_append, ran_none}
 use Rattle.btree_descent.specs.core_state.Needs.{is_dirty}
 use Rattle.page_pool.specs.Full.{NoneRipe}
 use Rattle.page_provider.specs.declared.leaving.Chosen.TheVariants as chosen

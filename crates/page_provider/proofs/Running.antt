@@ -1,7 +1,7 @@
 -- The disk under a run, where nobody else steps: how the pager's calls follow one another.
 use Rattle.std.proofs.Common.{◌≡◌, Bool, true, false, List, [], ◌∷◌, ◌++◌, append-nil, append_assoc, refl, sym, ap, subst, ◌∙◌}
 use Rattle.map_model.specs.Lists.{all}
-use Rattle.btree_descent.proofs.row_words_lemmas.Stays.{and_true}
+use Rattle.btree_descent.proofs.row_words.Stays.{and_true}
 use Rattle.btree_descent.specs.core_state.Openings.{Opening}
 use Rattle.btree_descent.specs.core_state.Events as happening
 use Rattle.lean_disk.specs.Moments.{LeavesOnly}

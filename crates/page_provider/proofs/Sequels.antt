@@ -18,7 +18,7 @@ use Rattle.page_provider.specs.Laws.{RowLaws}
 use Rattle.page_provider.specs.Moves.{ArePagers, Moved, is_pagers}
 use Rattle.page_provider.specs.Providers.{Keeps, Provider}
 use Rattle.btree_descent.specs.core_state.Needs.{has_hot_parent, is_empty_frame}
-use Rattle.btree_descent.proofs.row_words_lemmas.SealedLemmas.{run_append}
+use Rattle.btree_descent.proofs.row_words.SealedLemmas.{run_append}
 use Rattle.btree_descent.specs.row_words.Moments.{Moment}
 use Rattle.btree_descent.specs.row_words.Sealed.{begun, run, stepped}
 use Rattle.std.proofs.Common.{true≢false, if◌then◌else◌}
@@ -29,7 +29,7 @@ use Rattle.cold_pages.specs.Laws.{IsButEntries}
 use Rattle.btree_descent.specs.image_model.Entries.{Contents}
 use Rattle.page_model.specs.Nodes.{Node, is_leaf}
 use Rattle.page_model.specs.Pairs.{Pair}
-use Rattle.btree_descent.proofs.core_commit_lemmas.Fetched.{fetch_is}
+use Rattle.btree_descent.proofs.core_commit.Fetched.{fetch_is}
 use Rattle.btree_descent.specs.core_state.Events as happening
 use Rattle.btree_descent.specs.core_state.Steps.{with_pairs}
 use Rattle.btree_descent.specs.row_words.Moments.{pairs_of}

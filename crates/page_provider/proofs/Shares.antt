@@ -19,7 +19,7 @@ use Rattle.btree_descent.specs.row_words.Sealed.{run, stepped}
 use Rattle.btree_descent.specs.rows_trait.declared.view.View.{View}
 use Rattle.btree_descent.specs.rows_trait.Turns.{Ran}
 use Rattle.btree_descent.specs.rows_trait.Views.{Shape, state}
-use Rattle.btree_descent.proofs.rows_trait_lemmas.Runs.{ran_append}
+use Rattle.btree_descent.proofs.rows_trait.Runs.{ran_append}
 use Rattle.cooling_stage.specs.declared.stage.Cooling.{Cooling}
 use Rattle.cooling_stage.specs.Queue.{IsOnce, found, without}
 use Rattle.page_pool.specs.Full.{IsHeldBack, NoneRipe}

@@ -15,11 +15,11 @@ use Rattle.btree_descent.specs.rows_trait.declared.view.View.{View}
 use Rattle.btree_descent.specs.rows_trait.Causes.{HasFound}
 use Rattle.btree_descent.specs.rows_trait.Turns.{Ran}
 use Rattle.btree_descent.specs.rows_trait.Views.{Shape, after_all, latest, may, state}
-use Rattle.btree_descent.proofs.rows_trait_lemmas.Causes.{found_before}
-use Rattle.btree_descent.proofs.rows_trait_lemmas.Runs.{ran_append}
+use Rattle.btree_descent.proofs.rows_trait.Causes.{found_before}
+use Rattle.btree_descent.proofs.rows_trait.Runs.{ran_append}
 use Rattle.btree_descent.specs.version_latch.declared.glimpse.Latched.{Latched}
 use Rattle.btree_descent.specs.version_latch.declared.glimpse.Moved.{Moved}
-use Rattle.btree_descent.proofs.version_latch_lemmas.Keeping.{may_ran}
+use Rattle.btree_descent.proofs.version_latch.Keeping.{may_ran}
 use Rattle.btree_descent.specs.Descents.{Sized}
 use Rattle.btree_descent.specs.Known.{IsSound, Sound}
 use Rattle.btree_descent.proofs.Calls.{sound_after}

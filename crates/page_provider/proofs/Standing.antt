@@ -10,7 +10,7 @@ use Rattle.btree_descent.specs.row_words.declared.given.Given.{Given}
 use Rattle.btree_descent.specs.row_words.Moments.{Moment, event_of, actor_of, pager, by}
 use Rattle.btree_descent.specs.row_words.Openings.{opening}
 use Rattle.btree_descent.specs.row_words.Sealed.{begun, stepped, run}
-use Rattle.btree_descent.proofs.row_words_lemmas.SealedLemmas.{run_append}
+use Rattle.btree_descent.proofs.row_words.SealedLemmas.{run_append}
 use Rattle.btree_descent.specs.rows_trait.declared.view.View.{View}
 use Rattle.btree_descent.specs.rows_trait.Views.{Shape, after_all, state}
 use Rattle.btree_descent.specs.rows_trait.Turns.{Ran}

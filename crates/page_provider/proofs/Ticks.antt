@@ -19,8 +19,8 @@ use Rattle.btree_descent.specs.rows_trait.declared.view.View.{View}
 use Rattle.btree_descent.specs.rows_trait.Causes.{OnlyLoads}
 use Rattle.btree_descent.specs.rows_trait.Turns.{Ran}
 use Rattle.btree_descent.specs.rows_trait.Views.{Shape, latest, state}
-use Rattle.btree_descent.proofs.rows_trait_lemmas.Causes.{found_after}
-use Rattle.btree_descent.proofs.rows_trait_lemmas.Runs.{ran_append}
+use Rattle.btree_descent.proofs.rows_trait.Causes.{found_after}
+use Rattle.btree_descent.proofs.rows_trait.Runs.{ran_append}
 use Rattle.epochs.specs.Epochs.{HasTicked, IsStamp}
 use Rattle.btree_descent.specs.lean_proto.Still.{Stood}
 use Rattle.row_image.specs.declared.sight.Sight.{Sight}

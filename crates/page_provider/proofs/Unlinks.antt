@@ -19,8 +19,8 @@ use Rattle.btree_descent.specs.rows_trait.declared.view.Act.{Act}
 use Rattle.btree_descent.specs.rows_trait.declared.view.View.{View}
 use Rattle.btree_descent.specs.rows_trait.Turns.{Ran}
 use Rattle.btree_descent.specs.rows_trait.Views.{Shape, after_all, held_at, state}
-use Rattle.btree_descent.proofs.rows_trait_lemmas.Causes.{found_after, found_before, stepped_loads}
-use Rattle.btree_descent.proofs.rows_trait_lemmas.Runs.{ran_append}
+use Rattle.btree_descent.proofs.rows_trait.Causes.{found_after, found_before, stepped_loads}
+use Rattle.btree_descent.proofs.rows_trait.Runs.{ran_append}
 use Rattle.btree_descent.specs.Known.{Sound}
 use Rattle.held_rows.specs.Publishing.{Went}
 use Rattle.held_rows.specs.Steps.{MissedUpTo}

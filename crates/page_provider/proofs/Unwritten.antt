@@ -23,7 +23,7 @@ use Rattle.page_provider.specs.Sequels.{EveryAreaRest, EveryAreaSequel, EveryUns
 use Rattle.page_provider.specs.Finds.{Standing}
 use Rattle.page_provider.proofs.Faulting.{standing_ran}
 use Rattle.page_provider.proofs.Sightings.{missed_before}
-use Rattle.btree_descent.proofs.rows_trait_lemmas.Runs.{ran_append}
+use Rattle.btree_descent.proofs.rows_trait.Runs.{ran_append}
 use Rattle.row_image.specs.Looks.{Watched}
 use Rattle.page_provider.proofs.Framing.{framed_then, within_none, within_then}
 

@@ -25,9 +25,7 @@ use crate::finding::{named, standing};
 use crate::laws::laws;
 use crate::pager::Pager;
 use crate::refusal::Refusal;
-use btree_descent::btree_node::Node;
-use btree_descent::lean_proto::path::Path;
-use btree_descent::rows_trait::rows::Rows;
+use btree_descent::{BtreeNodeNode as Node, Path, Rows};
 use cooling_stage::Cooling;
 use lean_disk::Part;
 

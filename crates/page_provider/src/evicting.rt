@@ -19,7 +19,7 @@ use crate::looking::{is_dirty, page_in};
 use crate::pager::Pager;
 use crate::refusal::Refusal;
 use crate::taking::take;
-use btree_descent::rows_trait::rows::Rows;
+use btree_descent::Rows;
 use cooling_stage::Cooling;
 use lean_disk::Part;
 

@@ -5,9 +5,7 @@ ghost use Rattle.btree_descent.specs.row_words.Moments.{pager};
 ghost use Rattle.btree_descent.specs.rows_trait.Views.{may};
 ghost use Rattle.page_provider.specs.Fetches.{HasTold};
 
-use btree_descent::btree_node::Node;
-use btree_descent::rows_trait::names::Names;
-use btree_descent::rows_trait::rows::Rows;
+use btree_descent::{BtreeNodeNode as Node, Names, Rows};
 
 // A page with what was read of it.
 #[derive(Drop)]

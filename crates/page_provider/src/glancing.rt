@@ -18,10 +18,7 @@ ghost use Rattle.page_provider.specs.Refusals.{IsOthers};
 
 use crate::looking::PAGER;
 use crate::refusal::Refusal;
-use btree_descent::rows_trait::rows::Rows;
-use btree_descent::swips::MARK;
-use btree_descent::version_latch::Glimpse;
-use btree_descent::version_latch::events::{Checks, Misses};
+use btree_descent::{Checks, Glimpse, MARK, Misses, Rows};
 use row_image::refusal::Unseen;
 
 // Begins to look at a row.

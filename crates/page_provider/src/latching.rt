@@ -10,8 +10,7 @@ ghost use Rattle.page_provider.specs.Finds.{IsSeen, SinceBoth, SinceFound, Stopp
 use crate::laws::laws;
 use crate::looking::PAGER;
 use crate::refusal::Refusal;
-use btree_descent::rows_trait::rows::Rows;
-use btree_descent::version_latch::{Hold, Unheld};
+use btree_descent::{Hold, Rows, Unheld};
 use held_rows::{Refusal as Unlatched, latch};
 use row_image::frame;
 use row_image::sight::Sight;

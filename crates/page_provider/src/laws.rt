@@ -1,16 +1,13 @@
 // What the pager's calls rest on.
 ghost use Rattle.page_provider.specs.Laws.{DiskLaws, RowLaws};
 
-use btree_descent::lean_proto;
-use disk_runs::{core_disk, disk_image, disk_slots, worker_log};
-
 // The laws of rows, of what the pager knows of them, and of the disk under a run.
 pub(crate) fn laws()
     ensures rows { RowLaws }
     ensures disk { DiskLaws }
 {
-    lean_proto::every_stood();
-    lean_proto::every_load();
+    btree_descent::every_stood();
+    btree_descent::every_load();
     row_image::every_stay();
     row_image::every_sight();
     row_image::every_pair();
@@ -23,13 +20,13 @@ pub(crate) fn laws()
     page_pool::every_chill();
     page_pool::every_full();
     cooling_stage::every_place();
-    disk_slots::every_page();
+    disk_runs::every_page();
     row_image::every_pair();
     page_pool::every_queue();
-    core_disk::every_version();
-    worker_log::every_kept();
-    worker_log::every_prefix();
-    disk_image::every_sealed();
+    disk_runs::every_version();
+    disk_runs::every_kept();
+    disk_runs::every_prefix();
+    disk_runs::every_sealed();
     disk_runs::every_quiet();
     disk_runs::every_among();
     disk_runs::every_master_line();

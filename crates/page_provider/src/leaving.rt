@@ -10,8 +10,7 @@ use crate::laws::laws;
 use crate::looking::{is_dirty, number};
 use crate::pager::Pager;
 use crate::refusal::Refusal;
-use btree_descent::rows_trait::names::Nothing;
-use btree_descent::rows_trait::rows::Rows;
+use btree_descent::{Nothing, Rows};
 use cooling_stage::Cooling;
 use epochs::{Ripeness, ripe};
 

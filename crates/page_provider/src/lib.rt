@@ -29,8 +29,6 @@ ghost use Rattle.page_provider.specs.Gives.{EveryGiven};
 ghost use Rattle.page_provider.specs.Sequels.{EveryAreaRest, EveryAreaSequel, EveryDiskRest, EveryDiskSequel, EverySequel, EveryUnsaved};
 ghost use Rattle.page_provider.specs.Mirrored.{EveryMirroredGives, EveryMirroredRest, EveryMirroredRun};
 
-use btree_descent::lean_proto;
-use disk_runs::page_store;
 use lean_disk::{Disk, Part};
 pub use pager::Pager;
 pub use refusal::Refusal;
@@ -49,7 +47,7 @@ pub fn every_free()
 pub fn every_few()
     ensures { EveryFew }
 {
-    lean_proto::every_stood();
+    btree_descent::every_stood();
 }
 
 /// The frames through which a search came are those of a descent, and lead to the page that it met and that is not hot.
@@ -74,7 +72,7 @@ pub fn every_given_kept<P: Part>(now: &P)
 pub fn every_found<D: Disk>()
     ensures { (now : D) → EveryFound (D.story now) }
 {
-    page_store::every_seal();
+    disk_runs::every_seal();
     row_opening::every_reached();
 }
 

@@ -12,10 +12,7 @@ ghost use Rattle.page_provider.specs.Inside.{Judges, Missed, Numbers};
 ghost use Rattle.page_provider.specs.Refusals.{IsOthers};
 
 use crate::refusal::Refusal;
-use btree_descent::btree_node::Node;
-use btree_descent::rows_trait::rows::Rows;
-use btree_descent::version_latch::Glimpse;
-use btree_descent::version_latch::events::{Checks, Misses};
+use btree_descent::{BtreeNodeNode as Node, Checks, Glimpse, Misses, Rows};
 use row_image::page::image;
 use row_image::refusal::Unseen;
 

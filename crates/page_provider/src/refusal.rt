@@ -1,6 +1,6 @@
 //! Why the pager refused.
-use btree_descent::version_latch::{Latched, Moved};
-use disk_runs::page_store::Seal;
+use btree_descent::{Latched, Moved};
+use disk_runs::Seal;
 
 #[derive(Clone, Copy)]
 pub enum Refusal {

@@ -17,8 +17,7 @@ use crate::laws::laws;
 use crate::leaving::{Chosen, Leave};
 use crate::pager::Pager;
 use crate::refusal::Refusal;
-use btree_descent::lean_proto::path::Path;
-use btree_descent::rows_trait::rows::Rows;
+use btree_descent::{Path, Rows};
 use lean_disk::Part;
 
 impl Pager {

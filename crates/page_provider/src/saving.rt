@@ -21,10 +21,8 @@ use crate::looking::page_in;
 use crate::pager::Pager;
 use crate::refusal::Refusal;
 use crate::taking::{give_up, take};
-use btree_descent::btree_node::Node;
-use btree_descent::rows_trait::rows::Rows;
+use btree_descent::{BtreeNodeNode as Node, Rows};
 use cooling_stage::Cooling;
-use disk_runs::{core_disk, disk_image, worker_log};
 use lean_disk::{Did, Part};
 use page_calls::{Slots, save, settle};
 use page_moves::note_saved;
@@ -43,10 +41,10 @@ fn settle_first<P: Part>(dev: &mut P, slots: &mut Slots, page: u32) -> Did
     ensures seat { P.seat dev.new ≡ P.seat dev.old }
     ensures cause { HasCause (P.faults dev.old) (P.faults dev.new) (result ≡ Did.Failed) }
 {
-    core_disk::every_version();
-    worker_log::every_kept();
-    worker_log::every_prefix();
-    disk_image::every_sealed();
+    disk_runs::every_version();
+    disk_runs::every_kept();
+    disk_runs::every_prefix();
+    disk_runs::every_sealed();
     if !slots.of(page).late {
         return Did::Done;
     }

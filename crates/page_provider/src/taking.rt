@@ -10,8 +10,7 @@ ghost use Rattle.page_provider.specs.Refusals.{SpentAt};
 
 use crate::looking::PAGER;
 use crate::refusal::Refusal;
-use btree_descent::rows_trait::rows::Rows;
-use btree_descent::version_latch::Hold;
+use btree_descent::{Hold, Rows};
 use held_rows::{Refusal as Unlatched, give_up_one, latch};
 
 // Latches the row of a frame from the version that it has, where no row is held.

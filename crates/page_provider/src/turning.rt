@@ -11,8 +11,7 @@ use crate::glancing::is_hot;
 use crate::laws::laws;
 use crate::pager::Pager;
 use crate::refusal::Refusal;
-use btree_descent::lean_proto::path::Path;
-use btree_descent::rows_trait::rows::Rows;
+use btree_descent::{Path, Rows};
 use cooling_stage::Cooling;
 
 impl Pager {

@@ -4,7 +4,7 @@ use Rattle.std.proofs.lemmas.Bool.{cases_lt}
 use Rattle.map_model.specs.Lists.{Has}
 use Rattle.page_model.specs.Page.{Page}
 use Rattle.disk_image.specs.image_model.Fair.{piece}
-use Rattle.disk_image.proofs.image_model_lemmas.FairLemmas.{IsOfOne, narrow}
+use Rattle.disk_image.proofs.image_model.FairLemmas.{IsOfOne, narrow}
 use Rattle.lean_disk.specs.Area.{Area, IsApart, Leaves, Write, torn}
 use Rattle.lean_disk.specs.Inside.Areas.{put_over_apart}
 use Rattle.disk_image.specs.disk_slots.Pages.{page_slot, IsPage}

@@ -3,7 +3,7 @@ use Rattle.std.proofs.Common.{◌≡◌, inl, inr, ⊎_elim, ℕ, ◌+◌, ◌*�
 use Rattle.std.proofs.lemmas.Bool.{cases_eq}
 use Rattle.map_model.specs.Lists.{Has}
 use Rattle.disk_image.specs.image_model.Fair.{piece, IsWritten}
-use Rattle.disk_image.proofs.image_model_lemmas.FairLemmas.{among_more, exactly}
+use Rattle.disk_image.proofs.image_model.FairLemmas.{among_more, exactly}
 use Rattle.lean_disk.specs.Area.{Area, Write}
 use Rattle.lean_disk.specs.Inside.Areas.{length-put_over}
 use Rattle.disk_image.specs.disk_slots.Slots.{IsSealed}

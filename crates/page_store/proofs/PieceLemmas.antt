@@ -8,7 +8,7 @@ use Rattle.lean_disk.specs.Area.{put_over}
 use Rattle.lean_disk.specs.Inside.Areas.{put_over_apart}
 use Rattle.disk_image.specs.disk_slots.Slots.{IsSealed}
 use Rattle.disk_image.specs.disk_slots.Pages.{page_slot, IsPage}
-use Rattle.disk_image.proofs.disk_slots_lemmas.LawLemmas.{every_page}
+use Rattle.disk_image.proofs.disk_slots.LawLemmas.{every_page}
 use Rattle.disk_image.specs.Shown.{page_slot_in}
 use Rattle.disk_image.proofs.PageSlotLemmas.{every_page_in}
 use Rattle.page_store.specs.Laws.{EveryWhole}

@@ -4,7 +4,7 @@ use Rattle.std.proofs.lemmas.Option.{same_Some}
 use Rattle.page_model.specs.Page.{Page}
 use Rattle.disk_image.specs.disk_slots.Slots.{IsSealed}
 use Rattle.disk_image.specs.disk_slots.Pages.{IsPageSlot}
-use Rattle.disk_image.proofs.disk_slots_lemmas.LawLemmas.{every_page}
+use Rattle.disk_image.proofs.disk_slots.LawLemmas.{every_page}
 use Rattle.disk_image.specs.PageSlots.{page_in}
 use Rattle.disk_image.proofs.PageSlotLemmas.{every_page_in}
 use Rattle.page_store.specs.Inside.{seal_of}

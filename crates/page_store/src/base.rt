@@ -8,8 +8,7 @@ ghost use Rattle.page_store.specs.Bases.{IsAhead, IsBase, IsOwn};
 ghost use Rattle.page_store.specs.Inside.{IsChosen, IsNewest, is_ahead, is_older_page, page_of};
 
 use crate::slot::{Bounds, Held, Seal, fetch_at};
-use disk_image::btree_node::Node;
-use disk_image::disk_slots::Master;
+use disk_image::{Master, Node};
 use lean_disk::Part;
 
 /// A page as it was saved last, and the slot in which it stands.

@@ -10,7 +10,7 @@ ghost use Rattle.page_store.specs.Inside.{seal_of};
 
 use crate::saving::spare;
 use crate::slot::{Bounds, DiskFault, Held, Seal, fetch_at};
-use disk_image::btree_node::Node;
+use disk_image::Node;
 use lean_disk::Part;
 
 /// Why a page could not be fetched from the slot that counts.

@@ -16,8 +16,11 @@ pub use saving::{save, spare};
 pub use slot::{Bounds, DiskFault, Held, Seal, fetch_at};
 
 // Passed on to the crates above.
-pub use disk_image;
-pub use disk_image::{btree_node, disk_slots, image_model, log_block, log_record};
+pub use disk_image::{
+    Body, Heads, Keys, Master, Node, PageRef, Pairs, Record, block_bytes, every_agreement,
+    every_block_in, every_master, every_master_in, every_page, every_sealed, master_bytes,
+    page_bytes, read_master,
+};
 
 /// The bytes of a slot are one thing: without a seal, malformed, of a later generation, or valid.
 pub fn every_seal()

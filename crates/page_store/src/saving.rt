@@ -7,8 +7,7 @@ ghost use Rattle.lean_disk.specs.Faults.{HasCause};
 ghost use Rattle.disk_image.specs.disk_slots.Pages.{page_slot};
 ghost use Rattle.page_store.specs.Saved.{place_of};
 
-use disk_image::btree_node::Node;
-use disk_image::disk_slots::page_bytes;
+use disk_image::{Node, page_bytes};
 use lean_disk::{Did, Part};
 
 /// The other slot of a page.

@@ -5,9 +5,7 @@ ghost use Rattle.lean_disk.specs.Moments.{OnlyReads};
 ghost use Rattle.lean_disk.specs.Story.{Tells};
 ghost use Rattle.page_store.specs.Slots.{HoldsIn, IsHeldOf, slot_bytes};
 
-use disk_image::btree_node::Node;
-use disk_image::disk_slots::{Refusal, read_page};
-use disk_image::every_page_in;
+use disk_image::{Node, Refusal, every_page_in, read_page};
 use lean_disk::{Part, Read};
 
 /// Which pages are valid: those of a disk of so many pages that this generation or one before has saved.

@@ -5,39 +5,39 @@ use Rattle.map_model.specs.Lists.{any}
 use Rattle.map_model.specs.declared.call.Call.{Call}
 use Rattle.map_model.specs.declared.call.Refusal.{Refusal}
 use Rattle.map_model.specs.declared.call.Refusal.TheVariants as refusal
-use Rattle.core_calls.proofs.WhereLemmas.{syncs_kept}
-use Rattle.core_calls.specs.LogEvents.{EveryWhere, IsTightSomewhere, is_log}
-use Rattle.engine_calls.proofs.MarkLemmas.{keep_none}
-use Rattle.engine_calls.specs.Answers.{EveryAnswer}
-use Rattle.engine_calls.specs.Clauses.{EveryComing}
-use Rattle.engine_calls.specs.Entries.{EveryEntry}
-use Rattle.engine_calls.specs.Parts.{behind_first}
-use Rattle.engine_trait.specs.Calls.{MayCome}
+use Rattle.paged_desks.proofs.core_calls.WhereLemmas.{syncs_kept}
+use Rattle.paged_desks.specs.core_calls.LogEvents.{EveryWhere, IsTightSomewhere, is_log}
+use Rattle.paged_desks.proofs.engine_calls.MarkLemmas.{keep_none}
+use Rattle.paged_desks.specs.engine_calls.Answers.{EveryAnswer}
+use Rattle.paged_desks.specs.engine_calls.Clauses.{EveryComing}
+use Rattle.paged_desks.specs.engine_calls.Entries.{EveryEntry}
+use Rattle.paged_desks.specs.engine_calls.Parts.{behind_first}
+use Rattle.paged_desks.specs.engine_trait.Calls.{MayCome}
 use Rattle.held_rows.specs.Steps.{AreMisses}
 use Rattle.lean_disk.specs.Story.{IsLawful, Story}
-use Rattle.page_pool.specs.Counts.{EveryFrame, hot_pages}
+use Rattle.paged_desks.specs.page_pool.Counts.{EveryFrame, hot_pages}
 use Rattle.row_ends.proofs.Misses.{misses_core, misses_log, misses_met, misses_quiet}
 use Rattle.row_ends.specs.Ends.{gives}
 use Rattle.row_ends.specs.Outcomes.{IsSpent}
 use Rattle.row_ends.specs.Receipts.{IsEnded}
 use Rattle.row_ends.specs.Tests.{abort_test}
 use Rattle.row_ends.specs.declared.ending.Ended as replies
-use Rattle.btree_descent.specs.row_words.declared.event.Event.{Event}
-use Rattle.btree_descent.specs.row_words.declared.event.Event.TheVariants as told
-use Rattle.btree_descent.specs.row_words.Moments.{events_of}
-use Rattle.btree_descent.specs.row_words.Openings.{opening}
-use Rattle.btree_descent.specs.rows_trait.Views.{state}
-use Rattle.session_desks.proofs.DeskLemmas.{desk_own}
-use Rattle.session_desks.proofs.SeatLemmas.{holds_of, turn_high, turn_low}
-use Rattle.session_desks.specs.Parts.{here, shape}
-use Rattle.session_desks.specs.declared.desk.Desk.{Desk}
-use Rattle.session_state.proofs.Moments.{seen_state}
-use Rattle.session_state.specs.Holds.{IsSameSession}
-use Rattle.session_state.specs.declared.session.Session.{Session}
-use Rattle.call_parts.proofs.StepLemmas.{every_step}
-use Rattle.call_parts.specs.Memory.{Memory}
-use Rattle.call_parts.specs.Parts.{Part}
-use Rattle.call_parts.specs.Rooms.{AreBacks}
+use Rattle.paged_desks.specs.row_words.declared.event.Event.{Event}
+use Rattle.paged_desks.specs.row_words.declared.event.Event.TheVariants as told
+use Rattle.paged_desks.specs.row_words.Moments.{events_of}
+use Rattle.paged_desks.specs.row_words.Openings.{opening}
+use Rattle.paged_desks.specs.rows_trait.Views.{state}
+use Rattle.paged_desks.proofs.session_desks.DeskLemmas.{desk_own}
+use Rattle.paged_desks.proofs.session_desks.SeatLemmas.{holds_of, turn_high, turn_low}
+use Rattle.paged_desks.specs.session_desks.Parts.{here, shape}
+use Rattle.paged_desks.specs.session_desks.declared.desk.Desk.{Desk}
+use Rattle.paged_desks.proofs.session_state.Moments.{seen_state}
+use Rattle.paged_desks.specs.session_state.Holds.{IsSameSession}
+use Rattle.paged_desks.specs.session_state.declared.session.Session.{Session}
+use Rattle.paged_desks.proofs.call_parts.StepLemmas.{every_step}
+use Rattle.paged_desks.specs.call_parts.Memory.{Memory}
+use Rattle.paged_desks.specs.call_parts.Parts.{Part}
+use Rattle.paged_desks.specs.call_parts.Rooms.{AreBacks}
 use Rattle.paged_desks.proofs.Doing.{sessions_few}
 use Rattle.paged_desks.proofs.EndingLemmas.{Grounds}
 use Rattle.paged_desks.proofs.StandLemmas.{halves_are, memory_is}

@@ -3,21 +3,21 @@ use Rattle.std.proofs.Common.{◌≡◌, ◌∙◌, ◌==◌, ◌||◌, ◌&&◌
 use Rattle.std.proofs.lemmas.Bool.{and_parts, eqb-true}
 use Rattle.map_model.specs.Histories.{Step}
 use Rattle.map_model.specs.Lists.{all, any, keep}
-use Rattle.btree_descent.specs.image_model.Entries.{Entry}
-use Rattle.core_calls.specs.Deeds.{put_backs}
-use Rattle.core_calls.specs.Marks.{Mark, is_half}
-use Rattle.core_calls.specs.Steps.{PutsBack, is_step, is_structure}
-use Rattle.btree_descent.specs.core_state.Events as happening
-use Rattle.btree_descent.specs.core_state.Lists.{is_empty}
-use Rattle.btree_descent.specs.core_state.Needs.{are_hot, may, may_put_back}
-use Rattle.btree_descent.specs.core_state.Openings.{Opening}
-use Rattle.btree_descent.specs.core_state.States.{State}
-use Rattle.btree_descent.specs.core_state.Steps.{AllMet, step}
-use Rattle.engine_calls.specs.Aborts.{back_by, backs_by, newest_back}
-use Rattle.btree_descent.specs.row_words.declared.event.Event.{Event}
-use Rattle.btree_descent.specs.row_words.declared.event.Event.TheVariants as told
-use Rattle.btree_descent.specs.row_words.Moments.{event_of, events_of}
-use Rattle.call_parts.specs.Rooms.{AreBacks}
+use Rattle.paged_desks.specs.image_model.Entries.{Entry}
+use Rattle.paged_desks.specs.core_calls.Deeds.{put_backs}
+use Rattle.paged_desks.specs.core_calls.Marks.{Mark, is_half}
+use Rattle.paged_desks.specs.core_calls.Steps.{PutsBack, is_step, is_structure}
+use Rattle.paged_desks.specs.core_state.Events as happening
+use Rattle.paged_desks.specs.core_state.Lists.{is_empty}
+use Rattle.paged_desks.specs.core_state.Needs.{are_hot, may, may_put_back}
+use Rattle.paged_desks.specs.core_state.Openings.{Opening}
+use Rattle.paged_desks.specs.core_state.States.{State}
+use Rattle.paged_desks.specs.core_state.Steps.{AllMet, step}
+use Rattle.paged_desks.specs.engine_calls.Aborts.{back_by, backs_by, newest_back}
+use Rattle.paged_desks.specs.row_words.declared.event.Event.{Event}
+use Rattle.paged_desks.specs.row_words.declared.event.Event.TheVariants as told
+use Rattle.paged_desks.specs.row_words.Moments.{event_of, events_of}
+use Rattle.paged_desks.specs.call_parts.Rooms.{AreBacks}
 use Rattle.paged_aborts.specs.Backs.{is_back}
 use Rattle.paged_aborts.proofs.BackEvents.{allowed}
 

@@ -8,48 +8,48 @@ use Rattle.map_model.specs.declared.call.Call.{Call}
 use Rattle.map_model.specs.declared.call.Call.TheVariants as call
 use Rattle.map_model.specs.declared.call.Refusal.{Refusal}
 use Rattle.map_model.specs.declared.call.Refusal.TheVariants as refusal
-use Rattle.core_calls.proofs.WhereLemmas.{refused_kept}
-use Rattle.core_calls.specs.Deeds.{Deed, Outcome, Refused, marks_by}
-use Rattle.core_calls.specs.Fronts.{Done, front, outcomes}
-use Rattle.core_calls.specs.LogEvents.{IsPressedYet, IsTightSomewhere, RefusedLogs, SyncsWhere}
-use Rattle.core_calls.specs.Refusals.{IsHindered}
-use Rattle.core_calls.specs.Runs.{EachTells, IsRefused, Tells}
-use Rattle.core_calls.specs.Scans.{StopsOnWay}
-use Rattle.core_calls.specs.Steps.{IsAbortOf, IsAnAbort, Tries, call_behind, hindered_in}
-use Rattle.btree_descent.specs.core_state.Events as happening
-use Rattle.btree_descent.specs.core_state.Lists.{is_empty}
-use Rattle.btree_descent.specs.core_state.Openings.{Opening}
-use Rattle.btree_descent.specs.core_state.States.{State}
-use Rattle.btree_descent.specs.core_state.Steps.{AllMet, run, state_after}
-use Rattle.disk_runs.specs.Stands.{Stands}
-use Rattle.engine_calls.specs.Aborts.{backs_by}
-use Rattle.engine_calls.specs.Answers.{EveryAnswer}
-use Rattle.engine_calls.specs.Clauses.{EveryComing, MayCome}
-use Rattle.engine_calls.specs.Halves.{IsHalved, halved_by}
-use Rattle.engine_calls.specs.Refused.{refused_by}
-use Rattle.engine_trait.specs.Calls.{due_call, is_half_done}
-use Rattle.engine_trait.specs.Limits.{limits}
-use Rattle.engine_trait.specs.Refusals.{refusal_in}
-use Rattle.engine_trait.specs.Rooms.{MakesItsRoom, needs_sync}
+use Rattle.paged_desks.proofs.core_calls.WhereLemmas.{refused_kept}
+use Rattle.paged_desks.specs.core_calls.Deeds.{Deed, Outcome, Refused, marks_by}
+use Rattle.paged_desks.specs.core_calls.Fronts.{Done, front, outcomes}
+use Rattle.paged_desks.specs.core_calls.LogEvents.{IsPressedYet, IsTightSomewhere, RefusedLogs, SyncsWhere}
+use Rattle.paged_desks.specs.core_calls.Refusals.{IsHindered}
+use Rattle.paged_desks.specs.core_calls.Runs.{EachTells, IsRefused, Tells}
+use Rattle.paged_desks.specs.core_calls.Scans.{StopsOnWay}
+use Rattle.paged_desks.specs.core_calls.Steps.{IsAbortOf, IsAnAbort, Tries, call_behind, hindered_in}
+use Rattle.paged_desks.specs.core_state.Events as happening
+use Rattle.paged_desks.specs.core_state.Lists.{is_empty}
+use Rattle.paged_desks.specs.core_state.Openings.{Opening}
+use Rattle.paged_desks.specs.core_state.States.{State}
+use Rattle.paged_desks.specs.core_state.Steps.{AllMet, run, state_after}
+use Rattle.paged_desks.specs.disk_runs.Stands.{Stands}
+use Rattle.paged_desks.specs.engine_calls.Aborts.{backs_by}
+use Rattle.paged_desks.specs.engine_calls.Answers.{EveryAnswer}
+use Rattle.paged_desks.specs.engine_calls.Clauses.{EveryComing, MayCome}
+use Rattle.paged_desks.specs.engine_calls.Halves.{IsHalved, halved_by}
+use Rattle.paged_desks.specs.engine_calls.Refused.{refused_by}
+use Rattle.paged_desks.specs.engine_trait.Calls.{due_call, is_half_done}
+use Rattle.paged_desks.specs.engine_trait.Limits.{limits}
+use Rattle.paged_desks.specs.engine_trait.Refusals.{refusal_in}
+use Rattle.paged_desks.specs.engine_trait.Rooms.{MakesItsRoom, needs_sync}
 use Rattle.lean_disk.specs.Story.{IsLawful, Story}
-use Rattle.page_pool.specs.Counts.{EveryFrame}
-use Rattle.btree_descent.specs.row_words.Moments.{events_of}
-use Rattle.btree_descent.specs.rows_trait.Views.{state}
-use Rattle.session_desks.proofs.DeskLemmas.{desk_own}
-use Rattle.session_desks.proofs.SeatLemmas.{holds_of, turn_high, turn_low}
-use Rattle.session_desks.specs.Desks.{desk_of}
-use Rattle.session_desks.specs.Parts.{HasLogs, here, shape}
-use Rattle.session_desks.specs.declared.desk.Desk.{Desk}
-use Rattle.session_state.specs.Holds.{Holds}
-use Rattle.session_state.specs.Ties.{Behind}
-use Rattle.session_state.specs.declared.session.Session.{Session}
-use Rattle.disk_runs.specs.worker_log.Logs.{Log}
-use Rattle.call_parts.proofs.EndLemmas.{most_least}
-use Rattle.call_parts.proofs.RunLemmas.{behind_more, core_is}
-use Rattle.call_parts.proofs.StepLemmas.{every_step}
-use Rattle.call_parts.specs.Deeds.{Answers, Fails}
-use Rattle.call_parts.specs.Parts.{Part}
-use Rattle.call_parts.specs.Rooms.{IsRoomFor, looks, may_save}
+use Rattle.paged_desks.specs.page_pool.Counts.{EveryFrame}
+use Rattle.paged_desks.specs.row_words.Moments.{events_of}
+use Rattle.paged_desks.specs.rows_trait.Views.{state}
+use Rattle.paged_desks.proofs.session_desks.DeskLemmas.{desk_own}
+use Rattle.paged_desks.proofs.session_desks.SeatLemmas.{holds_of, turn_high, turn_low}
+use Rattle.paged_desks.specs.session_desks.Desks.{desk_of}
+use Rattle.paged_desks.specs.session_desks.Parts.{HasLogs, here, shape}
+use Rattle.paged_desks.specs.session_desks.declared.desk.Desk.{Desk}
+use Rattle.paged_desks.specs.session_state.Holds.{Holds}
+use Rattle.paged_desks.specs.session_state.Ties.{Behind}
+use Rattle.paged_desks.specs.session_state.declared.session.Session.{Session}
+use Rattle.paged_desks.specs.worker_log.Logs.{Log}
+use Rattle.paged_desks.proofs.call_parts.EndLemmas.{most_least}
+use Rattle.paged_desks.proofs.call_parts.RunLemmas.{behind_more, core_is}
+use Rattle.paged_desks.proofs.call_parts.StepLemmas.{every_step}
+use Rattle.paged_desks.specs.call_parts.Deeds.{Answers, Fails}
+use Rattle.paged_desks.specs.call_parts.Parts.{Part}
+use Rattle.paged_desks.specs.call_parts.Rooms.{IsRoomFor, looks, may_save}
 use Rattle.paged_desks.proofs.Doing.{hot_few}
 use Rattle.paged_desks.proofs.EndingLemmas.{Grounds, begins, does_tied, end_laws, half_own, line_call, refused_tied}
 use Rattle.paged_desks.proofs.HalfLates.{half_late}

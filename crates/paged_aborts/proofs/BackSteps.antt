@@ -2,15 +2,15 @@
 use Rattle.std.proofs.Common.{◌≡◌, ℕ, true, Result, Ok, Err, ap, sym, true≢false}
 use Rattle.lean_disk.specs.Story.{Story}
 use Rattle.map_model.specs.declared.call.Refusal.TheVariants as refusal
-use Rattle.page_pool.specs.Pools.{EveryStanding}
+use Rattle.paged_desks.specs.page_pool.Pools.{EveryStanding}
 use Rattle.row_changes.specs.Puts.{works_behind}
 use Rattle.row_changes.specs.declared.ways.Unmade.{Unmade}
 use Rattle.row_changes.specs.declared.ways.Unmade.TheVariants as unmade
-use Rattle.session_desks.specs.Parts.{SeatFits, shape}
-use Rattle.session_state.proofs.OtherLemmas.{no_steps}
-use Rattle.session_state.specs.Holds.{Holds, IsSameSession}
-use Rattle.session_state.specs.Others.{EveryOther}
-use Rattle.session_state.specs.declared.work.Work.{Work}
+use Rattle.paged_desks.specs.session_desks.Parts.{SeatFits, shape}
+use Rattle.paged_desks.proofs.session_state.OtherLemmas.{no_steps}
+use Rattle.paged_desks.specs.session_state.Holds.{Holds, IsSameSession}
+use Rattle.paged_desks.specs.session_state.Others.{EveryOther}
+use Rattle.paged_desks.specs.session_state.declared.work.Work.{Work}
 use Rattle.paged_desks.specs.Calls.{IsAside, IsBeside}
 use Rattle.paged_desks.specs.Machines.{IsReady, view_of}
 use Rattle.paged_desks.specs.declared.machine.PagedMachine.{PagedMachine}

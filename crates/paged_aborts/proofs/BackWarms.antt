@@ -1,19 +1,19 @@
 -- A change that is put back at once, or behind the coming of the pages of its key's way, by answer.
 use Rattle.std.proofs.Common.{◌≡◌, ◌∙◌, ◌≤◌, ◌+◌, ◌*◌, ◌++◌, ◌⊎◌, inl, inr, ℕ, suc, true, false, List, [], ◌∷◌, length, Result, Ok, Err, ap, refl, sym, subst, arith}
 use Rattle.std.proofs.Math.Nat.{mul-le-mul_right}
-use Rattle.core_calls.specs.LogEvents.{EveryWhere}
+use Rattle.paged_desks.specs.core_calls.LogEvents.{EveryWhere}
 use Rattle.lean_disk.specs.Story.{IsLawful, Story}
 use Rattle.map_model.specs.declared.call.Refusal.{Refusal}
 use Rattle.map_model.specs.declared.call.Refusal.TheVariants as refusal
-use Rattle.btree_descent.specs.row_words.Moments.{events_of}
+use Rattle.paged_desks.specs.row_words.Moments.{events_of}
 use Rattle.row_changes.specs.declared.ways.Cold.{Cold}
 use Rattle.row_changes.specs.declared.ways.Unmade.{Unmade}
 use Rattle.row_changes.specs.declared.ways.Unmade.TheVariants as unmade
-use Rattle.session_desks.proofs.SeatLemmas.{holds_of}
-use Rattle.session_desks.specs.Parts.{SeatFits, here, shape}
-use Rattle.session_state.specs.Holds.{IsSameSession}
-use Rattle.session_state.specs.declared.undo.Undone.{Undone}
-use Rattle.session_state.specs.declared.work.Work.{Work}
+use Rattle.paged_desks.proofs.session_desks.SeatLemmas.{holds_of}
+use Rattle.paged_desks.specs.session_desks.Parts.{SeatFits, here, shape}
+use Rattle.paged_desks.specs.session_state.Holds.{IsSameSession}
+use Rattle.paged_desks.specs.session_state.declared.undo.Undone.{Undone}
+use Rattle.paged_desks.specs.session_state.declared.work.Work.{Work}
 use Rattle.paged_desks.proofs.EndingLemmas.{Grounds}
 use Rattle.paged_desks.specs.Calls.{IsAside}
 use Rattle.paged_desks.specs.Machines.{IsReady, view_of}

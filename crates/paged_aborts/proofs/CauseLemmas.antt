@@ -9,14 +9,14 @@ use Rattle.row_changes.specs.declared.ways.Cold.{Cold}
 use Rattle.row_changes.specs.declared.ways.Unmade.{Unmade}
 use Rattle.row_changes.specs.declared.ways.Unmade.TheVariants as unmade
 use Rattle.row_changes.specs.Ways.{IsCut, IsLost}
-use Rattle.session_desks.specs.Parts.{AreAsMany, SeatFits}
-use Rattle.session_state.specs.Holds.{IsSameSession}
-use Rattle.session_state.specs.Undo.{newest_of}
-use Rattle.session_state.specs.declared.undo.Undone.{Undone}
+use Rattle.paged_desks.specs.session_desks.Parts.{AreAsMany, SeatFits}
+use Rattle.paged_desks.specs.session_state.Holds.{IsSameSession}
+use Rattle.paged_desks.specs.session_state.Undo.{newest_of}
+use Rattle.paged_desks.specs.session_state.declared.undo.Undone.{Undone}
 use Rattle.row_ends.specs.declared.ending.Ended.{Ended}
 use Rattle.paged_desks.specs.Calls.{works_behind}
 use Rattle.paged_desks.specs.Machines.{IsReady, pages}
-use Rattle.paged_rows.specs.Paged.{IsWarm}
+use Rattle.paged_desks.specs.paged_rows.Paged.{IsWarm}
 use Rattle.paged_desks.specs.Pages.{goes_on}
 use Rattle.paged_desks.specs.Parts.{HasFailed, HasGone}
 use Rattle.paged_desks.specs.declared.machine.PagedMachine.{PagedMachine}

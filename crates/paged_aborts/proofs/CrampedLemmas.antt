@@ -3,35 +3,35 @@
 use Rattle.std.proofs.Common.{◌≡◌, ◌∙◌, ◌≤◌, ◌++◌, ℕ, false, List, [], length, ap, refl, sym, subst, arith}
 use Rattle.std.specs.Prelude.{min}
 use Rattle.std.proofs.Math.Nat.{min-eq_left, min-le_left}
-use Rattle.core_calls.specs.Fronts.{Done, front}
-use Rattle.core_calls.specs.LogEvents.{IsTight, IsTightSomewhere, SyncsWhere}
-use Rattle.core_covers.specs.Highs.{pages_above, writes}
-use Rattle.btree_descent.specs.core_state.Events as happening
-use Rattle.btree_descent.specs.core_state.Openings.{Opening}
-use Rattle.btree_descent.specs.core_state.States.{State, nodes_of}
-use Rattle.btree_descent.specs.core_state.Steps.{AllMet, state_after}
-use Rattle.engine_trait.specs.Logs.{Logs}
+use Rattle.paged_desks.specs.core_calls.Fronts.{Done, front}
+use Rattle.paged_desks.specs.core_calls.LogEvents.{IsTight, IsTightSomewhere, SyncsWhere}
+use Rattle.paged_desks.specs.core_covers.Highs.{pages_above, writes}
+use Rattle.paged_desks.specs.core_state.Events as happening
+use Rattle.paged_desks.specs.core_state.Openings.{Opening}
+use Rattle.paged_desks.specs.core_state.States.{State, nodes_of}
+use Rattle.paged_desks.specs.core_state.Steps.{AllMet, state_after}
+use Rattle.paged_desks.specs.engine_trait.Logs.{Logs}
 use Rattle.lean_disk.specs.Story.{Story}
 use Rattle.page_model.specs.Nodes.{Format, NodeOk}
 use Rattle.page_model.specs.Tree.{IsTree}
-use Rattle.row_opening.specs.Openings.{EveryNeed, EveryOpened, EveryReached}
-use Rattle.btree_descent.specs.row_words.Moments.{events_of}
-use Rattle.btree_descent.specs.row_words.Openings.{opening}
-use Rattle.btree_descent.specs.rows_trait.declared.view.View.{View}
-use Rattle.btree_descent.specs.rows_trait.Views.{state}
-use Rattle.session_desks.proofs.DeskLemmas.{desk_own}
-use Rattle.session_desks.proofs.SeatLemmas.{holds_of, turn_high, turn_low}
-use Rattle.session_desks.specs.Desks.{desk_of}
-use Rattle.session_desks.specs.Parts.{here, shape}
-use Rattle.session_desks.specs.declared.desk.Desk.{Desk}
-use Rattle.session_state.specs.Holds.{Holds}
-use Rattle.session_state.specs.Reserves.{EveryReserve}
-use Rattle.session_state.specs.Syncs.{MayFlush}
-use Rattle.session_state.specs.Ties.{Behind}
-use Rattle.session_state.specs.declared.session.Session.{Session}
+use Rattle.paged_desks.specs.row_opening.Openings.{EveryNeed, EveryOpened, EveryReached}
+use Rattle.paged_desks.specs.row_words.Moments.{events_of}
+use Rattle.paged_desks.specs.row_words.Openings.{opening}
+use Rattle.paged_desks.specs.rows_trait.declared.view.View.{View}
+use Rattle.paged_desks.specs.rows_trait.Views.{state}
+use Rattle.paged_desks.proofs.session_desks.DeskLemmas.{desk_own}
+use Rattle.paged_desks.proofs.session_desks.SeatLemmas.{holds_of, turn_high, turn_low}
+use Rattle.paged_desks.specs.session_desks.Desks.{desk_of}
+use Rattle.paged_desks.specs.session_desks.Parts.{here, shape}
+use Rattle.paged_desks.specs.session_desks.declared.desk.Desk.{Desk}
+use Rattle.paged_desks.specs.session_state.Holds.{Holds}
+use Rattle.paged_desks.specs.session_state.Reserves.{EveryReserve}
+use Rattle.paged_desks.specs.session_state.Syncs.{MayFlush}
+use Rattle.paged_desks.specs.session_state.Ties.{Behind}
+use Rattle.paged_desks.specs.session_state.declared.session.Session.{Session}
 use Rattle.sync_counts.specs.Syncs.{EverySyncCount, EveryTight, syncs}
-use Rattle.disk_runs.specs.worker_log.Logs.{Log}
-use Rattle.call_parts.proofs.RunLemmas.{behind_more, core_is, front_is}
+use Rattle.paged_desks.specs.worker_log.Logs.{Log}
+use Rattle.paged_desks.proofs.call_parts.RunLemmas.{behind_more, core_is, front_is}
 use Rattle.paged_desks.proofs.Full.{tight_behind}
 use Rattle.paged_desks.specs.Machines.{IsReady, memory, view_of}
 use Rattle.paged_desks.specs.Parts.{IsStuck}

@@ -9,63 +9,63 @@ use Rattle.map_model.specs.declared.call.Refusal.{Refusal}
 use Rattle.map_model.specs.declared.call.Refusal.TheVariants as refusal
 use Rattle.rfa_model.specs.Reaches.{least}
 use Rattle.rfa_model.specs.Stamps.{need_of}
-use Rattle.core_calls.specs.Fronts.{Done, front, outcomes}
-use Rattle.core_calls.specs.Runs.{Tells}
-use Rattle.core_calls.specs.Steps.{is_structure}
-use Rattle.btree_descent.specs.core_state.Events as happening
-use Rattle.btree_descent.specs.core_state.Needs.{holds_row}
-use Rattle.btree_descent.specs.core_state.Openings.{Opening}
-use Rattle.btree_descent.specs.core_state.States.{State}
-use Rattle.btree_descent.specs.core_state.Steps.{AllMet, state_after}
-use Rattle.disk_runs.specs.disk_image.Records.{entry_of}
-use Rattle.disk_runs.specs.Quiet.{is_quiet}
-use Rattle.engine_calls.proofs.MarkLemmas.{any_append}
-use Rattle.engine_calls.proofs.MoveLemmas.{every_move}
-use Rattle.engine_calls.proofs.UnlockLemmas.{unlocks_quiet}
-use Rattle.engine_calls.specs.Aborts.{IsAbort, aborted_by}
-use Rattle.engine_calls.specs.Answers.{EveryAnswer}
-use Rattle.engine_calls.specs.Clauses.{EveryComing}
-use Rattle.engine_calls.specs.Commits.{unlocks}
-use Rattle.engine_calls.specs.Entries.{EveryEntry, abort_record}
-use Rattle.engine_calls.specs.Parts.{behind_first}
-use Rattle.engine_trait.specs.Calls.{is_half_done}
-use Rattle.engine_trait.specs.Limits.{limits}
-use Rattle.engine_trait.specs.Refusals.{refusal_in}
-use Rattle.engine_trait.specs.Rooms.{MakesItsRoom}
+use Rattle.paged_desks.specs.core_calls.Fronts.{Done, front, outcomes}
+use Rattle.paged_desks.specs.core_calls.Runs.{Tells}
+use Rattle.paged_desks.specs.core_calls.Steps.{is_structure}
+use Rattle.paged_desks.specs.core_state.Events as happening
+use Rattle.paged_desks.specs.core_state.Needs.{holds_row}
+use Rattle.paged_desks.specs.core_state.Openings.{Opening}
+use Rattle.paged_desks.specs.core_state.States.{State}
+use Rattle.paged_desks.specs.core_state.Steps.{AllMet, state_after}
+use Rattle.paged_desks.specs.disk_image.Records.{entry_of}
+use Rattle.paged_desks.specs.disk_runs.Quiet.{is_quiet}
+use Rattle.paged_desks.proofs.engine_calls.MarkLemmas.{any_append}
+use Rattle.paged_desks.proofs.engine_calls.MoveLemmas.{every_move}
+use Rattle.paged_desks.proofs.engine_calls.UnlockLemmas.{unlocks_quiet}
+use Rattle.paged_desks.specs.engine_calls.Aborts.{IsAbort, aborted_by}
+use Rattle.paged_desks.specs.engine_calls.Answers.{EveryAnswer}
+use Rattle.paged_desks.specs.engine_calls.Clauses.{EveryComing}
+use Rattle.paged_desks.specs.engine_calls.Commits.{unlocks}
+use Rattle.paged_desks.specs.engine_calls.Entries.{EveryEntry, abort_record}
+use Rattle.paged_desks.specs.engine_calls.Parts.{behind_first}
+use Rattle.paged_desks.specs.engine_trait.Calls.{is_half_done}
+use Rattle.paged_desks.specs.engine_trait.Limits.{limits}
+use Rattle.paged_desks.specs.engine_trait.Refusals.{refusal_in}
+use Rattle.paged_desks.specs.engine_trait.Rooms.{MakesItsRoom}
 use Rattle.lean_disk.specs.Story.{IsLawful, Story}
-use Rattle.btree_descent.specs.log_record.declared.record.Body.TheVariants as body
-use Rattle.btree_descent.specs.log_record.declared.record.Record.{Record}
-use Rattle.page_pool.specs.Counts.{EveryFrame}
+use Rattle.paged_desks.specs.log_record.declared.record.Body.TheVariants as body
+use Rattle.paged_desks.specs.log_record.declared.record.Record.{Record}
+use Rattle.paged_desks.specs.page_pool.Counts.{EveryFrame}
 use Rattle.row_ends.proofs.LatchLemmas.{gives_events}
 use Rattle.row_ends.specs.Ends.{ended_session, gives}
 use Rattle.row_ends.specs.Outcomes.{HasEnded, end_record}
 use Rattle.row_ends.specs.declared.ending.Ended as replies
-use Rattle.btree_descent.specs.row_words.declared.event.Event.{Event}
-use Rattle.btree_descent.specs.row_words.declared.event.Event.TheVariants as told
-use Rattle.btree_descent.specs.row_words.Moments.{events_of}
-use Rattle.btree_descent.specs.row_words.Openings.{opening}
-use Rattle.btree_descent.specs.rows_trait.Views.{state}
-use Rattle.session_desks.proofs.DeskLemmas.{desk_own}
-use Rattle.session_desks.proofs.SeatLemmas.{holds_of, turn_high, turn_low}
-use Rattle.session_desks.specs.Desks.{desk_of}
-use Rattle.session_desks.specs.Parts.{here, shape}
-use Rattle.session_desks.specs.declared.desk.Desk.{Desk}
-use Rattle.session_state.proofs.Moments.{events_more}
-use Rattle.session_state.specs.Holds.{Holds, IsOf, IsSameSession}
-use Rattle.session_state.specs.Ties.{Behind}
-use Rattle.session_state.specs.declared.session.Session.{Session}
-use Rattle.disk_runs.specs.worker_log.Logs.{Log}
-use Rattle.call_parts.proofs.EndLemmas.{most_least}
-use Rattle.call_parts.proofs.JoinLemmas.{every_join}
-use Rattle.call_parts.proofs.MemoryLemmas.{every_memory}
-use Rattle.call_parts.proofs.OwnLemmas.{every_own}
-use Rattle.call_parts.proofs.RunLemmas.{behind_more, core_is}
-use Rattle.call_parts.proofs.SightLemmas.{every_enter, every_sight}
-use Rattle.call_parts.proofs.StepLemmas.{every_step}
-use Rattle.call_parts.specs.Deeds.{Answers}
-use Rattle.call_parts.specs.Memory.{Memory, with_own}
-use Rattle.call_parts.specs.Parts.{Part}
-use Rattle.call_parts.specs.Steps.{SeesBetween, Stages}
+use Rattle.paged_desks.specs.row_words.declared.event.Event.{Event}
+use Rattle.paged_desks.specs.row_words.declared.event.Event.TheVariants as told
+use Rattle.paged_desks.specs.row_words.Moments.{events_of}
+use Rattle.paged_desks.specs.row_words.Openings.{opening}
+use Rattle.paged_desks.specs.rows_trait.Views.{state}
+use Rattle.paged_desks.proofs.session_desks.DeskLemmas.{desk_own}
+use Rattle.paged_desks.proofs.session_desks.SeatLemmas.{holds_of, turn_high, turn_low}
+use Rattle.paged_desks.specs.session_desks.Desks.{desk_of}
+use Rattle.paged_desks.specs.session_desks.Parts.{here, shape}
+use Rattle.paged_desks.specs.session_desks.declared.desk.Desk.{Desk}
+use Rattle.paged_desks.proofs.session_state.Moments.{events_more}
+use Rattle.paged_desks.specs.session_state.Holds.{Holds, IsOf, IsSameSession}
+use Rattle.paged_desks.specs.session_state.Ties.{Behind}
+use Rattle.paged_desks.specs.session_state.declared.session.Session.{Session}
+use Rattle.paged_desks.specs.worker_log.Logs.{Log}
+use Rattle.paged_desks.proofs.call_parts.EndLemmas.{most_least}
+use Rattle.paged_desks.proofs.call_parts.JoinLemmas.{every_join}
+use Rattle.paged_desks.proofs.call_parts.MemoryLemmas.{every_memory}
+use Rattle.paged_desks.proofs.call_parts.OwnLemmas.{every_own}
+use Rattle.paged_desks.proofs.call_parts.RunLemmas.{behind_more, core_is}
+use Rattle.paged_desks.proofs.call_parts.SightLemmas.{every_enter, every_sight}
+use Rattle.paged_desks.proofs.call_parts.StepLemmas.{every_step}
+use Rattle.paged_desks.specs.call_parts.Deeds.{Answers}
+use Rattle.paged_desks.specs.call_parts.Memory.{Memory, with_own}
+use Rattle.paged_desks.specs.call_parts.Parts.{Part}
+use Rattle.paged_desks.specs.call_parts.Steps.{SeesBetween, Stages}
 use Rattle.paged_desks.proofs.AsideLemmas.{memory_aside, other_desk}
 use Rattle.paged_desks.proofs.EndingLemmas.{Grounds, does_tied, half_own}
 use Rattle.paged_desks.specs.Calls.{AreHalf, DoesTied, IsAside, Tied}
@@ -184,7 +184,7 @@ module _ (l : Grounds) (answers : EveryAnswer) (coming : EveryComing) (entries :
   b0 : Behind g xs [] (view_of m)
   b0 = runs.b0 l answers coming frames story lawful m ready c g xs many tied halves due
 
-  asks : Rattle.core_calls.specs.Steps.call_behind (outcomes xs) c ≡ call.Abort
+  asks : Rattle.paged_desks.specs.core_calls.Steps.call_behind (outcomes xs) c ≡ call.Abort
   asks = runs.asks l answers coming frames story lawful m ready c g xs many tied halves due
 
   wide : most ≤ 2 ^ 17

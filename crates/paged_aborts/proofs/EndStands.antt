@@ -2,39 +2,39 @@
 use Rattle.std.proofs.Common.{◌≡◌, ◌∙◌, ◌≤◌, ◌<◌, ◌⊎◌, inl, inr, ℕ, suc, Bool, true, false, cond, List, [], ◌∷◌, Result, Ok, Err, IfErr, ap, refl, sym, subst, arith, true≢false, ◌↔◌}
 use Rattle.std.proofs.lemmas.Bool.{cases_eq}
 use Rattle.map_model.specs.Lists.{Has}
-use Rattle.btree_descent.specs.image_model.Entries.{Entry, Kind, is_record}
-use Rattle.btree_descent.specs.core_state.Events as happening
-use Rattle.btree_descent.specs.core_state.Needs.{may}
-use Rattle.btree_descent.specs.core_state.Openings.{Opening}
-use Rattle.btree_descent.specs.core_state.States.{State}
-use Rattle.btree_descent.specs.core_state.Steps.{end_entry, ends, happens, run, step}
-use Rattle.engine_calls.specs.Commits.{unlocks}
+use Rattle.paged_desks.specs.image_model.Entries.{Entry, Kind, is_record}
+use Rattle.paged_desks.specs.core_state.Events as happening
+use Rattle.paged_desks.specs.core_state.Needs.{may}
+use Rattle.paged_desks.specs.core_state.Openings.{Opening}
+use Rattle.paged_desks.specs.core_state.States.{State}
+use Rattle.paged_desks.specs.core_state.Steps.{end_entry, ends, happens, run, step}
+use Rattle.paged_desks.specs.engine_calls.Commits.{unlocks}
 use Rattle.lean_disk.specs.Moments.{Framed}
 use Rattle.lean_disk.proofs.MomentLemmas.{framed}
 use Rattle.lean_disk.specs.Story.{Story}
 use Rattle.map_model.specs.declared.call.Refusal.{Refusal}
 use Rattle.map_model.specs.declared.call.Refusal.TheVariants as refusal
-use Rattle.engine_trait.specs.Calls.{MayCome}
+use Rattle.paged_desks.specs.engine_trait.Calls.{MayCome}
 use Rattle.row_ends.proofs.Misses.{misses_core}
-use Rattle.btree_descent.specs.row_words.Openings.{opening}
-use Rattle.btree_descent.specs.rows_trait.declared.view.View.{View}
-use Rattle.btree_descent.specs.rows_trait.Views.{Shape, state}
+use Rattle.paged_desks.specs.row_words.Openings.{opening}
+use Rattle.paged_desks.specs.rows_trait.declared.view.View.{View}
+use Rattle.paged_desks.specs.rows_trait.Views.{Shape, state}
 use Rattle.row_ends.proofs.CommitLemmas.{core_w, entries_w, flushed_w}
 use Rattle.row_ends.proofs.OutcomeLemmas.{next}
 use Rattle.row_ends.specs.Outcomes.{HasEnded, IsSpent}
 use Rattle.row_ends.specs.declared.ending.Ended as replies
-use Rattle.session_state.proofs.Moments.{seen_state}
-use Rattle.session_state.proofs.StageLemmas.{staged_flushed}
-use Rattle.session_state.specs.Holds.{Holds, IsSameSession}
-use Rattle.session_state.specs.Others.{EveryOther, Steps}
-use Rattle.session_state.specs.Staging.{KeepsLog}
-use Rattle.session_state.specs.declared.session.Session.{Session}
-use Rattle.session_desks.proofs.DeskLemmas.{desk_own}
-use Rattle.session_desks.proofs.SeatLemmas.{holds_of, turn_high, turn_low}
-use Rattle.session_desks.specs.Machines.{AreLogged, IsLogged}
-use Rattle.session_desks.specs.Parts.{HasLogs, SeatFits, here, logs, shape}
-use Rattle.session_desks.specs.declared.desk.Desk.{Desk}
-use Rattle.disk_runs.specs.worker_log.Logs.{Log}
+use Rattle.paged_desks.proofs.session_state.Moments.{seen_state}
+use Rattle.paged_desks.proofs.session_state.StageLemmas.{staged_flushed}
+use Rattle.paged_desks.specs.session_state.Holds.{Holds, IsSameSession}
+use Rattle.paged_desks.specs.session_state.Others.{EveryOther, Steps}
+use Rattle.paged_desks.specs.session_state.Staging.{KeepsLog}
+use Rattle.paged_desks.specs.session_state.declared.session.Session.{Session}
+use Rattle.paged_desks.proofs.session_desks.DeskLemmas.{desk_own}
+use Rattle.paged_desks.proofs.session_desks.SeatLemmas.{holds_of, turn_high, turn_low}
+use Rattle.paged_desks.specs.session_desks.Machines.{AreLogged, IsLogged}
+use Rattle.paged_desks.specs.session_desks.Parts.{HasLogs, SeatFits, here, logs, shape}
+use Rattle.paged_desks.specs.session_desks.declared.desk.Desk.{Desk}
+use Rattle.paged_desks.specs.worker_log.Logs.{Log}
 use Rattle.paged_desks.specs.Calls.{EndsWork, IsAside, IsBeside, works_behind}
 use Rattle.paged_desks.specs.Machines.{IsReady, view_of}
 use Rattle.paged_desks.specs.declared.machine.PagedMachine.{PagedMachine}

@@ -3,33 +3,33 @@ use Rattle.std.proofs.Common.{◌≡◌, ◌∙◌, ◌⊎◌, inl, inr, ◌≤�
 use Rattle.std.specs.Prelude.{min}
 use Rattle.std.proofs.lemmas.Bool.{and_parts, cases_eq, cases_lt, eqb-true}
 use Rattle.map_model.specs.Lists.{all}
-use Rattle.btree_descent.specs.image_model.Entries.{Entry, Kind}
-use Rattle.core_calls.specs.LogEvents.{SyncsWhere}
-use Rattle.core_covers.specs.Highs.{writes, written_in}
-use Rattle.btree_descent.specs.core_state.Events.{Event}
-use Rattle.btree_descent.specs.core_state.Needs.{may}
-use Rattle.btree_descent.specs.core_state.Openings.{Opening}
-use Rattle.btree_descent.specs.core_state.States.{State}
-use Rattle.btree_descent.specs.core_state.Steps.{put_back, step}
-use Rattle.disk_runs.specs.disk_image.Records.{entry_of, kind_of}
-use Rattle.disk_runs.specs.MasterLaws.{raised}
-use Rattle.engine_trait.specs.Logs.{Logs, OnOwn}
-use Rattle.disk_runs.specs.log_block.Block.{records_text}
-use Rattle.btree_descent.proofs.log_record_lemmas.PartLemmas.{key_change_long}
-use Rattle.btree_descent.proofs.log_record_lemmas.RecordLemmas.{head_long}
-use Rattle.btree_descent.specs.log_record.Spelling.{body_text, record_text}
-use Rattle.btree_descent.specs.log_record.declared.record.Body.{Body}
-use Rattle.btree_descent.specs.log_record.declared.record.Body.TheVariants as body
-use Rattle.btree_descent.specs.log_record.declared.record.Record.{Record}
-use Rattle.btree_descent.specs.row_words.Moments.{events_of}
-use Rattle.btree_descent.specs.row_words.declared.event.Event as rows
-use Rattle.btree_descent.specs.row_words.declared.event.Event.TheVariants as told
-use Rattle.session_state.specs.Reserves.{Makes, MakesAll, Step, takes, takes_all}
-use Rattle.session_state.specs.Undo.{HasRoomToUndo}
+use Rattle.paged_desks.specs.image_model.Entries.{Entry, Kind}
+use Rattle.paged_desks.specs.core_calls.LogEvents.{SyncsWhere}
+use Rattle.paged_desks.specs.core_covers.Highs.{writes, written_in}
+use Rattle.paged_desks.specs.core_state.Events.{Event}
+use Rattle.paged_desks.specs.core_state.Needs.{may}
+use Rattle.paged_desks.specs.core_state.Openings.{Opening}
+use Rattle.paged_desks.specs.core_state.States.{State}
+use Rattle.paged_desks.specs.core_state.Steps.{put_back, step}
+use Rattle.paged_desks.specs.disk_image.Records.{entry_of, kind_of}
+use Rattle.paged_desks.specs.disk_runs.MasterLaws.{raised}
+use Rattle.paged_desks.specs.engine_trait.Logs.{Logs, OnOwn}
+use Rattle.paged_desks.specs.log_block.Block.{records_text}
+use Rattle.paged_desks.proofs.log_record.PartLemmas.{key_change_long}
+use Rattle.paged_desks.proofs.log_record.RecordLemmas.{head_long}
+use Rattle.paged_desks.specs.log_record.Spelling.{body_text, record_text}
+use Rattle.paged_desks.specs.log_record.declared.record.Body.{Body}
+use Rattle.paged_desks.specs.log_record.declared.record.Body.TheVariants as body
+use Rattle.paged_desks.specs.log_record.declared.record.Record.{Record}
+use Rattle.paged_desks.specs.row_words.Moments.{events_of}
+use Rattle.paged_desks.specs.row_words.declared.event.Event as rows
+use Rattle.paged_desks.specs.row_words.declared.event.Event.TheVariants as told
+use Rattle.paged_desks.specs.session_state.Reserves.{Makes, MakesAll, Step, takes, takes_all}
+use Rattle.paged_desks.specs.session_state.Undo.{HasRoomToUndo}
 use Rattle.sync_counts.specs.Syncs.{syncs}
-use Rattle.disk_runs.specs.worker_log.Calls.{After, flushed_log}
-use Rattle.disk_runs.specs.worker_log.Logs.{Log}
-use Rattle.call_parts.specs.Rooms.{AreBacks}
+use Rattle.paged_desks.specs.worker_log.Calls.{After, flushed_log}
+use Rattle.paged_desks.specs.worker_log.Logs.{Log}
+use Rattle.paged_desks.specs.call_parts.Rooms.{AreBacks}
 use Rattle.paged_desks.specs.Pages.{ArePaging}
 use Rattle.paged_aborts.specs.Backs.{backs_in}
 use Rattle.paged_aborts.proofs.BackEvents.{allowed}

@@ -1,19 +1,19 @@
 -- A latch that is spent is so late in a run.
 use Rattle.std.proofs.Common.{◌∙◌, inl, inr, ◌≤◌, ◌+◌, ◌^◌, ◌++◌, ℕ, suc, Bool, true, false, cond, List, [], ◌∷◌, length, ap, sym, arith}
 use Rattle.std.proofs.lemmas.List.{length-append}
-use Rattle.btree_descent.specs.image_model.Entries.{Entry}
+use Rattle.paged_desks.specs.image_model.Entries.{Entry}
 use Rattle.map_model.specs.Maps.{MapAnswer}
-use Rattle.core_calls.specs.Fronts.{Done, front}
-use Rattle.btree_descent.specs.core_state.Events as happening
-use Rattle.btree_descent.specs.core_state.Needs.{may}
-use Rattle.btree_descent.specs.core_state.Openings.{Opening}
-use Rattle.btree_descent.specs.core_state.States.{State, start}
-use Rattle.btree_descent.specs.core_state.Steps.{happens, put_back, run, step}
-use Rattle.row_opening.specs.Openings.{EveryNeed, EveryReached}
-use Rattle.btree_descent.specs.row_words.Moments.{events_of}
-use Rattle.btree_descent.specs.rows_trait.declared.view.View.{View}
-use Rattle.session_state.specs.Ties.{Behind}
-use Rattle.call_parts.proofs.RunLemmas.{core_is, front_is}
+use Rattle.paged_desks.specs.core_calls.Fronts.{Done, front}
+use Rattle.paged_desks.specs.core_state.Events as happening
+use Rattle.paged_desks.specs.core_state.Needs.{may}
+use Rattle.paged_desks.specs.core_state.Openings.{Opening}
+use Rattle.paged_desks.specs.core_state.States.{State, start}
+use Rattle.paged_desks.specs.core_state.Steps.{happens, put_back, run, step}
+use Rattle.paged_desks.specs.row_opening.Openings.{EveryNeed, EveryReached}
+use Rattle.paged_desks.specs.row_words.Moments.{events_of}
+use Rattle.paged_desks.specs.rows_trait.declared.view.View.{View}
+use Rattle.paged_desks.specs.session_state.Ties.{Behind}
+use Rattle.paged_desks.proofs.call_parts.RunLemmas.{core_is, front_is}
 use Rattle.paged_desks.specs.Parts.{IsLate}
 use Rattle.paged_aborts.proofs.BackEvents.{length_events}
 

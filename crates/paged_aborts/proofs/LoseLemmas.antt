@@ -1,18 +1,18 @@
 -- The frame in which a key's leaf stands.
 use Rattle.std.proofs.Common.{◌≡◌, ◌∙◌, ◌<◌, ltb, ℕ, Bool, true, false, [], if◌then◌else◌, ap, refl, sym, subst, arith, append-nil}
 use Rattle.std.proofs.lemmas.Bool.{eq-eqb}
-use Rattle.btree_descent.specs.Descents.{Sized}
-use Rattle.btree_descent.specs.Known.{IsSound}
-use Rattle.btree_descent.specs.Puts.{IsLeafAt}
-use Rattle.btree_descent.specs.core_state.States.{Place, in_frame}
-use Rattle.btree_descent.specs.row_words.declared.given.Given.{Given}
-use Rattle.btree_descent.specs.row_words.Openings.{opening}
-use Rattle.btree_descent.specs.rows_trait.declared.view.View.{View}
-use Rattle.btree_descent.specs.rows_trait.Layout.{rows_of, width}
-use Rattle.btree_descent.specs.rows_trait.Turns.{Loaded, Ran}
-use Rattle.btree_descent.specs.rows_trait.Views.{Shape, state}
+use Rattle.paged_desks.specs.btree_descent.Descents.{Sized}
+use Rattle.paged_desks.specs.btree_descent.Known.{IsSound}
+use Rattle.paged_desks.specs.btree_descent.Puts.{IsLeafAt}
+use Rattle.paged_desks.specs.core_state.States.{Place, in_frame}
+use Rattle.paged_desks.specs.row_words.declared.given.Given.{Given}
+use Rattle.paged_desks.specs.row_words.Openings.{opening}
+use Rattle.paged_desks.specs.rows_trait.declared.view.View.{View}
+use Rattle.paged_desks.specs.rows_trait.Layout.{rows_of, width}
+use Rattle.paged_desks.specs.rows_trait.Turns.{Loaded, Ran}
+use Rattle.paged_desks.specs.rows_trait.Views.{Shape, state}
 use Rattle.row_changes.proofs.SeenLemmas.{none_seen}
-use Rattle.session_state.proofs.Moments.{goes_seen}
+use Rattle.paged_desks.proofs.session_state.Moments.{goes_seen}
 
 -- it is a row with words
 pub leaf_place : (z : Shape) (v w : View) (frames row page key : ℕ) → IsSound v.given → Sized z v frames → w.given ≡ v.given → IsLeafAt w.given (state w) row page key → (row < rows_of z.sizes) × (0 < width z.sizes row)

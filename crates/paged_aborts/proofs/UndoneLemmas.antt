@@ -3,45 +3,45 @@ use Rattle.std.proofs.Common.{◌≡◌, ◌∙◌, ◌≤◌, ◌<◌, ◌+◌,
 use Rattle.std.proofs.lemmas.List.{length-append}
 use Rattle.map_model.specs.Lists.{any}
 use Rattle.map_model.specs.declared.call.Call.TheVariants as call
-use Rattle.call_parts.proofs.AreaLemmas.{around_wider, within_wider}
-use Rattle.call_parts.proofs.JoinLemmas.{every_join}
-use Rattle.call_parts.proofs.MemoryLemmas.{every_memory}
-use Rattle.call_parts.proofs.OwnLemmas.{every_own}
-use Rattle.call_parts.proofs.RunLemmas.{behind_more, first_more}
-use Rattle.call_parts.proofs.StepLemmas.{every_step}
-use Rattle.call_parts.specs.Areas.{is_save}
-use Rattle.call_parts.specs.Laws.{EveryJoin}
-use Rattle.call_parts.specs.Memory.{Memory, with_own}
-use Rattle.call_parts.specs.Parts.{Failed, Part}
-use Rattle.call_parts.specs.Steps.{Stages}
-use Rattle.core_calls.specs.Fronts.{Done}
-use Rattle.core_calls.specs.LogEvents.{EveryWhere, IsTightSomewhere, SyncsWhere}
-use Rattle.btree_descent.specs.core_state.Events as happening
-use Rattle.btree_descent.specs.core_state.Local.{is_sync}
-use Rattle.btree_descent.specs.core_state.Openings.{Opening}
-use Rattle.btree_descent.specs.core_state.States.{State}
-use Rattle.engine_calls.proofs.MoveLemmas.{every_move}
-use Rattle.engine_calls.specs.Parts.{behind_first}
+use Rattle.paged_desks.proofs.call_parts.AreaLemmas.{around_wider, within_wider}
+use Rattle.paged_desks.proofs.call_parts.JoinLemmas.{every_join}
+use Rattle.paged_desks.proofs.call_parts.MemoryLemmas.{every_memory}
+use Rattle.paged_desks.proofs.call_parts.OwnLemmas.{every_own}
+use Rattle.paged_desks.proofs.call_parts.RunLemmas.{behind_more, first_more}
+use Rattle.paged_desks.proofs.call_parts.StepLemmas.{every_step}
+use Rattle.paged_desks.specs.call_parts.Areas.{is_save}
+use Rattle.paged_desks.specs.call_parts.Laws.{EveryJoin}
+use Rattle.paged_desks.specs.call_parts.Memory.{Memory, with_own}
+use Rattle.paged_desks.specs.call_parts.Parts.{Failed, Part}
+use Rattle.paged_desks.specs.call_parts.Steps.{Stages}
+use Rattle.paged_desks.specs.core_calls.Fronts.{Done}
+use Rattle.paged_desks.specs.core_calls.LogEvents.{EveryWhere, IsTightSomewhere, SyncsWhere}
+use Rattle.paged_desks.specs.core_state.Events as happening
+use Rattle.paged_desks.specs.core_state.Local.{is_sync}
+use Rattle.paged_desks.specs.core_state.Openings.{Opening}
+use Rattle.paged_desks.specs.core_state.States.{State}
+use Rattle.paged_desks.proofs.engine_calls.MoveLemmas.{every_move}
+use Rattle.paged_desks.specs.engine_calls.Parts.{behind_first}
 use Rattle.lean_disk.specs.Story.{IsLawful, Story}
-use Rattle.page_pool.specs.Counts.{hot_pages}
-use Rattle.btree_descent.specs.row_words.declared.event.Event.TheVariants as told
-use Rattle.btree_descent.specs.row_words.Moments.{events_of}
-use Rattle.btree_descent.specs.row_words.Openings.{opening}
-use Rattle.btree_descent.specs.rows_trait.declared.view.View.{View}
-use Rattle.btree_descent.specs.rows_trait.Views.{after_all}
-use Rattle.session_desks.proofs.DeskLemmas.{desk_own}
-use Rattle.session_desks.proofs.SeatLemmas.{holds_of, turn_high, turn_low}
-use Rattle.session_desks.specs.Desks.{desk_of}
-use Rattle.session_desks.specs.Parts.{SeatFits, here, shape}
-use Rattle.session_desks.specs.declared.desk.Desk.{Desk}
-use Rattle.session_state.proofs.Moments.{events_more}
-use Rattle.session_state.specs.Holds.{IsSameSession}
-use Rattle.session_state.specs.Staging.{KeepsLog}
-use Rattle.session_state.specs.Ties.{Behind}
-use Rattle.session_state.specs.declared.undo.Undone.{Undone}
-use Rattle.session_state.specs.declared.session.Session.{Session}
-use Rattle.session_state.specs.declared.work.Work.{Work}
-use Rattle.disk_runs.specs.worker_log.Logs.{Log}
+use Rattle.paged_desks.specs.page_pool.Counts.{hot_pages}
+use Rattle.paged_desks.specs.row_words.declared.event.Event.TheVariants as told
+use Rattle.paged_desks.specs.row_words.Moments.{events_of}
+use Rattle.paged_desks.specs.row_words.Openings.{opening}
+use Rattle.paged_desks.specs.rows_trait.declared.view.View.{View}
+use Rattle.paged_desks.specs.rows_trait.Views.{after_all}
+use Rattle.paged_desks.proofs.session_desks.DeskLemmas.{desk_own}
+use Rattle.paged_desks.proofs.session_desks.SeatLemmas.{holds_of, turn_high, turn_low}
+use Rattle.paged_desks.specs.session_desks.Desks.{desk_of}
+use Rattle.paged_desks.specs.session_desks.Parts.{SeatFits, here, shape}
+use Rattle.paged_desks.specs.session_desks.declared.desk.Desk.{Desk}
+use Rattle.paged_desks.proofs.session_state.Moments.{events_more}
+use Rattle.paged_desks.specs.session_state.Holds.{IsSameSession}
+use Rattle.paged_desks.specs.session_state.Staging.{KeepsLog}
+use Rattle.paged_desks.specs.session_state.Ties.{Behind}
+use Rattle.paged_desks.specs.session_state.declared.undo.Undone.{Undone}
+use Rattle.paged_desks.specs.session_state.declared.session.Session.{Session}
+use Rattle.paged_desks.specs.session_state.declared.work.Work.{Work}
+use Rattle.paged_desks.specs.worker_log.Logs.{Log}
 use Rattle.row_changes.specs.Backs.{IsPutBack}
 use Rattle.paged_desks.proofs.AsideLemmas.{memory_aside, other_desk}
 use Rattle.paged_desks.proofs.EndingLemmas.{Grounds}
@@ -249,7 +249,7 @@ module _ (l : Grounds) (places : EveryWhere) {D : Type 0} (story : D → Story) 
       events = a.events ++ b.events;
       part = (joins_at m.machine.work.disk k.machine.work.disk n.machine.work.disk many a.events (view_of m) (view_of k) (view_of n) (memory m) (memory k) (memory n)).join b.events a.part
           (subst (λ w. Part w b.events (view_of k) (view_of n) (memory k) (memory n) (story k.machine.work.disk) (story n.machine.work.disk)) a.same.0 b.part);
-      backs = subst (Rattle.call_parts.specs.Rooms.AreBacks m.machine.work.session.own) (sym (events_more a.events b.events)) (backs_join m.machine.work.session.own es (events_of b.events) a.backs (subst (λ w. Rattle.call_parts.specs.Rooms.AreBacks w (events_of b.events)) a.turn b.backs));
+      backs = subst (Rattle.paged_desks.specs.call_parts.Rooms.AreBacks m.machine.work.session.own) (sym (events_more a.events b.events)) (backs_join m.machine.work.session.own es (events_of b.events) a.backs (subst (λ w. Rattle.paged_desks.specs.call_parts.Rooms.AreBacks w (events_of b.events)) a.turn b.backs));
       left = left_more a.events b.events (length m.machine.work.session.undo) (length k.machine.work.session.undo) (length n.machine.work.session.undo) a.left b.left;
       few = (let p = a.few in let q = b.few in let r = length-append a.events b.events in omega arith);
       tight = λ g xs first f. subst (SyncsWhere (IsTightSomewhere g) g (behind_first g xs first) false) (sym (events_more a.events b.events))
@@ -269,7 +269,7 @@ module _ (l : Grounds) (places : EveryWhere) {D : Type 0} (story : D → Story) 
         around = around_wider many (any is_save es || true) (any is_sync es || true) true true (story m.machine.work.disk) (story n.machine.work.disk) (λ _. refl) (λ _. refl) f.around;
         fails = λ g xs first y s0 z st is. let r = f.fails g xs first y s0 z st is in record { passes = r.passes; within = within_wider many (any is_save es || true) (any is_sync es || true) true true (story m.machine.work.disk) (story n.machine.work.disk) (λ _. refl) (λ _. refl) r.within };
       };
-      backs = backs_join m.machine.work.session.own es b.events a.backs (subst (λ w. Rattle.call_parts.specs.Rooms.AreBacks w b.events) a.turn b.backs);
+      backs = backs_join m.machine.work.session.own es b.events a.backs (subst (λ w. Rattle.paged_desks.specs.call_parts.Rooms.AreBacks w b.events) a.turn b.backs);
       few = (let p = a.few in let q = b.few in let r = length-append es b.events in let s = length_events a.events in omega arith);
       same = (b.same.0 ∙ a.same.0, b.same.1 ∙ a.same.1);
       fits = b.fits;

@@ -5,19 +5,19 @@ use Rattle.map_model.specs.declared.call.Answer.TheVariants as answer
 use Rattle.map_model.specs.declared.call.Call.{Call}
 use Rattle.map_model.specs.declared.call.Call.TheVariants as call
 use Rattle.map_model.specs.declared.call.Refusal.{Refusal}
-use Rattle.core_calls.specs.Fronts.{Done, outcomes}
-use Rattle.core_calls.specs.Steps.{hindered_in}
-use Rattle.btree_descent.specs.core_state.Openings.{Opening}
-use Rattle.btree_descent.specs.core_state.States.{flushed_by_all}
-use Rattle.engine_calls.specs.Clauses.{IsNewLine}
+use Rattle.paged_desks.specs.core_calls.Fronts.{Done, outcomes}
+use Rattle.paged_desks.specs.core_calls.Steps.{hindered_in}
+use Rattle.paged_desks.specs.core_state.Openings.{Opening}
+use Rattle.paged_desks.specs.core_state.States.{flushed_by_all}
+use Rattle.paged_desks.specs.engine_calls.Clauses.{IsNewLine}
 use Rattle.row_ends.specs.Ends.{gives}
 use Rattle.row_ends.specs.Receipts.{IsEnded}
 use Rattle.row_ends.specs.declared.ending.Ended.{Ended}
-use Rattle.btree_descent.specs.row_words.declared.event.Event.{Event}
-use Rattle.btree_descent.specs.row_words.declared.event.Event.TheVariants.{End}
-use Rattle.btree_descent.specs.row_words.Openings.{opening}
-use Rattle.btree_descent.specs.rows_trait.declared.view.View.{View}
-use Rattle.btree_descent.specs.rows_trait.Views.{state}
+use Rattle.paged_desks.specs.row_words.declared.event.Event.{Event}
+use Rattle.paged_desks.specs.row_words.declared.event.Event.TheVariants.{End}
+use Rattle.paged_desks.specs.row_words.Openings.{opening}
+use Rattle.paged_desks.specs.rows_trait.declared.view.View.{View}
+use Rattle.paged_desks.specs.rows_trait.Views.{state}
 use Rattle.paged_desks.specs.Machines.{view_of}
 use Rattle.paged_desks.specs.declared.machine.PagedMachine.{PagedMachine}
 

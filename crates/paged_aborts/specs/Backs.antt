@@ -4,23 +4,23 @@ use Rattle.page_model.specs.Limits.{transaction_changes}
 use Rattle.map_model.specs.Lists.{any}
 use Rattle.map_model.specs.declared.call.Refusal.{Refusal}
 use Rattle.map_model.specs.declared.call.Refusal.TheVariants as refusal
-use Rattle.core_calls.specs.Fronts.{Done}
-use Rattle.core_calls.specs.LogEvents.{IsTightSomewhere, SyncsWhere}
-use Rattle.btree_descent.specs.core_state.Events as happening
-use Rattle.btree_descent.specs.core_state.Openings.{Opening}
-use Rattle.engine_calls.specs.Parts.{behind_first}
+use Rattle.paged_desks.specs.core_calls.Fronts.{Done}
+use Rattle.paged_desks.specs.core_calls.LogEvents.{IsTightSomewhere, SyncsWhere}
+use Rattle.paged_desks.specs.core_state.Events as happening
+use Rattle.paged_desks.specs.core_state.Openings.{Opening}
+use Rattle.paged_desks.specs.engine_calls.Parts.{behind_first}
 use Rattle.lean_disk.specs.Story.{Story}
-use Rattle.btree_descent.specs.row_words.declared.event.Event.{Event}
-use Rattle.btree_descent.specs.row_words.declared.event.Event.TheVariants as told
-use Rattle.btree_descent.specs.row_words.Moments.{events_of}
-use Rattle.session_desks.specs.Desks.{desk_of}
-use Rattle.session_desks.specs.Parts.{AreAsMany, SeatFits, here}
-use Rattle.session_state.specs.Ties.{Behind}
-use Rattle.session_state.specs.Undo.{newest_of}
-use Rattle.session_state.specs.declared.undo.Undone.{Undone}
-use Rattle.call_parts.specs.Parts.{Failed, Part}
-use Rattle.call_parts.specs.Rooms.{AreBacks}
-use Rattle.paged_rows.specs.Paged.{IsWarm}
+use Rattle.paged_desks.specs.row_words.declared.event.Event.{Event}
+use Rattle.paged_desks.specs.row_words.declared.event.Event.TheVariants as told
+use Rattle.paged_desks.specs.row_words.Moments.{events_of}
+use Rattle.paged_desks.specs.session_desks.Desks.{desk_of}
+use Rattle.paged_desks.specs.session_desks.Parts.{AreAsMany, SeatFits, here}
+use Rattle.paged_desks.specs.session_state.Ties.{Behind}
+use Rattle.paged_desks.specs.session_state.Undo.{newest_of}
+use Rattle.paged_desks.specs.session_state.declared.undo.Undone.{Undone}
+use Rattle.paged_desks.specs.call_parts.Parts.{Failed, Part}
+use Rattle.paged_desks.specs.call_parts.Rooms.{AreBacks}
+use Rattle.paged_desks.specs.paged_rows.Paged.{IsWarm}
 use Rattle.row_changes.specs.Backs.{StepsBack}
 use Rattle.row_ends.specs.Outcomes.{Aborts}
 use Rattle.row_ends.specs.declared.ending.Ended.{Ended}

@@ -3,12 +3,12 @@ ghost use Rattle.std.specs.Prelude.{◌≡◌, ◌⊎◌, ◌↔◌, IfErr, IfOk
 ghost use Rattle.map_model.specs.declared.call.Call.{Call};
 ghost use Rattle.map_model.specs.declared.call.Refusal.{Refusal};
 ghost use Rattle.lean_disk.specs.Faults.{HasCause};
-ghost use Rattle.engine_trait.specs.Calls.{MayCome};
+ghost use Rattle.paged_desks.specs.engine_trait.Calls.{MayCome};
 ghost use Rattle.row_ends.specs.Outcomes.{Aborts};
 ghost use Rattle.row_ends.specs.Receipts.{IsEnded};
 ghost use Rattle.row_ends.specs.Tests.{abort_test};
-ghost use Rattle.session_desks.specs.Parts.{AreAsMany, SeatFits, Works};
-ghost use Rattle.session_state.specs.Holds.{IsSameSession};
+ghost use Rattle.paged_desks.specs.session_desks.Parts.{AreAsMany, SeatFits, Works};
+ghost use Rattle.paged_desks.specs.session_state.Holds.{IsSameSession};
 ghost use Rattle.paged_desks.specs.Calls.{CallDoes, EndsWork, IsAside, works_behind};
 ghost use Rattle.paged_desks.specs.Machines.{IsReady, view_of};
 ghost use Rattle.paged_aborts.specs.Aborts.{HasReceipt, MayAbort, abort_answer};
@@ -17,9 +17,8 @@ ghost use Rattle.paged_aborts.specs.Backs.{EndsAbort, HasFailedBack};
 use crate::backs::put_back_all;
 use crate::laws::laws;
 use map_model::Refusal;
-use paged_desks::PagedMachine;
+use paged_desks::{PagedMachine, Stages};
 use row_ends::{Ended, abort_refusal, end_abort};
-use session_state::Stages;
 
 // The end of the abort, behind all that it puts back.
 fn finish<D: Stages>(machine: &mut PagedMachine<D>) -> Result<Ended, Refusal>

@@ -2,19 +2,18 @@
 ghost use Rattle.std.specs.Prelude.{◌≡◌, ◌<◌, ◌-◌, ◌^◌, Err, Some, true, length};
 ghost use Rattle.map_model.specs.declared.call.Refusal.{Refusal};
 ghost use Rattle.lean_disk.specs.Faults.{HasCause};
-ghost use Rattle.session_desks.specs.Parts.{AreAsMany, SeatFits};
+ghost use Rattle.paged_desks.specs.session_desks.Parts.{AreAsMany, SeatFits};
 ghost use Rattle.paged_desks.specs.Calls.{works_behind};
 ghost use Rattle.paged_desks.specs.Machines.{IsReady};
-ghost use Rattle.session_state.specs.Undo.{newest_of};
+ghost use Rattle.paged_desks.specs.session_state.Undo.{newest_of};
 ghost use Rattle.paged_aborts.specs.Backs.{IsNewestKey, NoneLeft, OneLess, PutsBack, most_a_back, most_in_all};
 
 use crate::laws::laws;
 use crate::leaves::{lose, put_back_in_leaf};
 use crate::tests::refusal_of;
 use map_model::Refusal;
-use paged_desks::PagedMachine;
+use paged_desks::{PagedMachine, Stages, Undone};
 use row_changes::Unmade;
-use session_state::{Stages, Undone};
 
 // The newest change that is left.
 fn newest_left<D: Stages>(machine: &PagedMachine<D>) -> Undone

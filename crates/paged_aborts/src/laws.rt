@@ -1,17 +1,17 @@
 // What the calls rest on.
-ghost use Rattle.core_calls.specs.LogEvents.{EveryWhere};
-ghost use Rattle.disk_runs.specs.core_disk.Versions.{EveryVersion};
-ghost use Rattle.disk_runs.specs.disk_image.Laws.{EverySealed};
-ghost use Rattle.engine_calls.specs.Answers.{EveryAnswer};
-ghost use Rattle.engine_calls.specs.Clauses.{EveryComing};
-ghost use Rattle.engine_calls.specs.Entries.{EveryEntry};
-ghost use Rattle.page_pool.specs.Counts.{EveryFrame};
-ghost use Rattle.page_pool.specs.Pools.{EveryStanding};
-ghost use Rattle.row_opening.specs.Openings.{EveryNeed, EveryOpened, EveryReached};
-ghost use Rattle.session_state.specs.Others.{EveryOther};
-ghost use Rattle.session_state.specs.Reserves.{EveryReserve};
+ghost use Rattle.paged_desks.specs.core_calls.LogEvents.{EveryWhere};
+ghost use Rattle.paged_desks.specs.core_disk.Versions.{EveryVersion};
+ghost use Rattle.paged_desks.specs.disk_image.Laws.{EverySealed};
+ghost use Rattle.paged_desks.specs.engine_calls.Answers.{EveryAnswer};
+ghost use Rattle.paged_desks.specs.engine_calls.Clauses.{EveryComing};
+ghost use Rattle.paged_desks.specs.engine_calls.Entries.{EveryEntry};
+ghost use Rattle.paged_desks.specs.page_pool.Counts.{EveryFrame};
+ghost use Rattle.paged_desks.specs.page_pool.Pools.{EveryStanding};
+ghost use Rattle.paged_desks.specs.row_opening.Openings.{EveryNeed, EveryOpened, EveryReached};
+ghost use Rattle.paged_desks.specs.session_state.Others.{EveryOther};
+ghost use Rattle.paged_desks.specs.session_state.Reserves.{EveryReserve};
 ghost use Rattle.sync_counts.specs.Syncs.{EverySyncCount, EveryTight};
-ghost use Rattle.disk_runs.specs.worker_log.Laws.{EveryKept, EveryPrefix};
+ghost use Rattle.paged_desks.specs.worker_log.Laws.{EveryKept, EveryPrefix};
 
 // The laws of versions, logs, seals and openings, of answers and entries, of other sessions, of what the pager knows over their steps, of the syncs that pages ask for, and of the
 // blocks that are kept for an abort.
@@ -34,16 +34,16 @@ pub(crate) fn laws()
     ensures tights { EveryTight }
     ensures counts { EverySyncCount }
 {
-    core_calls::every_where();
-    call_parts::laws();
-    engine_calls::every_answer();
-    engine_calls::every_coming();
-    engine_calls::every_entry();
-    session_state::every_other();
-    page_pool::every_standing();
-    page_pool::every_frame();
-    row_opening::every_opened();
-    session_state::every_reserve();
+    paged_desks::every_where();
+    paged_desks::call_parts_laws();
+    paged_desks::every_answer();
+    paged_desks::every_coming();
+    paged_desks::every_entry();
+    paged_desks::every_other();
+    paged_desks::every_standing();
+    paged_desks::every_frame();
+    paged_desks::every_opened();
+    paged_desks::every_reserve();
     sync_counts::every_tight();
     sync_counts::every_sync_count();
 }

@@ -1,27 +1,23 @@
 // One change that is put back in its leaf, and a leaf that has lost the entry.
 ghost use Rattle.std.specs.Prelude.{◌≡◌, ◌<◌, ◌-◌, ◌^◌, IsErrAnd, Err, true, [], length};
-ghost use Rattle.btree_descent.specs.Descents.{Sized};
-ghost use Rattle.btree_descent.specs.Known.{IsSound};
+ghost use Rattle.paged_desks.specs.btree_descent.Descents.{Sized};
+ghost use Rattle.paged_desks.specs.btree_descent.Known.{IsSound};
 ghost use Rattle.map_model.specs.declared.call.Refusal.{Refusal};
 ghost use Rattle.lean_disk.specs.Faults.{HasCause};
 ghost use Rattle.row_changes.specs.Puts.{works_behind as works_after_try};
 ghost use Rattle.row_changes.specs.Ways.{IsCut, IsLost};
 ghost use Rattle.row_changes.specs.declared.ways.Unmade.{Unmade};
-ghost use Rattle.btree_descent.specs.rows_trait.Views.{may};
-ghost use Rattle.session_desks.specs.Parts.{SeatFits};
-ghost use Rattle.session_state.specs.Holds.{IsSameSession};
+ghost use Rattle.paged_desks.specs.rows_trait.Views.{may};
+ghost use Rattle.paged_desks.specs.session_desks.Parts.{SeatFits};
+ghost use Rattle.paged_desks.specs.session_state.Holds.{IsSameSession};
 ghost use Rattle.paged_desks.specs.Calls.{IsAside};
 ghost use Rattle.paged_desks.specs.Machines.{IsReady, view_of};
 ghost use Rattle.paged_aborts.specs.Backs.{BacksInLeaf, IsDamaged, IsGivenUp, IsWarmNewest};
 
 use crate::laws::laws;
-use btree_descent::lean_proto::path::Path;
-use btree_descent::reach::{Way, reach};
-use btree_descent::rows_trait::rows::Rows;
 use map_model::Refusal;
-use paged_desks::PagedMachine;
+use paged_desks::{PagedMachine, Path, Rows, Stages, Way, reach};
 use row_changes::{Unmade, put_back};
-use session_state::Stages;
 
 // Puts the newest change back that is left, unless a page of its key's way is not hot.
 pub(crate) fn put_back_in_leaf<D: Stages>(machine: &mut PagedMachine<D>) -> Result<(), Unmade>

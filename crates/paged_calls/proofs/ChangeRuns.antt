@@ -10,72 +10,72 @@ use Rattle.map_model.specs.declared.call.Call.{Call}
 use Rattle.map_model.specs.declared.call.Call.TheVariants as call
 use Rattle.map_model.specs.declared.call.Refusal.{Refusal}
 use Rattle.map_model.specs.declared.call.Refusal.TheVariants as refusal
-use Rattle.core_calls.specs.Deeds.{Absent, Deed, answered, asked, marks_by, marks_of, reads_of}
-use Rattle.core_calls.specs.Fronts.{Done, front, outcomes}
-use Rattle.core_calls.specs.LogEvents.{IsTight, RefusedLogs, SyncsWhere}
-use Rattle.core_calls.specs.Marks.{Mark, is_half}
-use Rattle.btree_descent.specs.core_state.Local.{is_sync}
-use Rattle.core_calls.specs.Refusals.{Hinders, IsCause}
-use Rattle.core_calls.specs.Runs.{Tells}
-use Rattle.core_calls.specs.Steps.{TakesRow, is_step, is_structure}
-use Rattle.btree_descent.specs.core_state.Events as happening
-use Rattle.btree_descent.specs.core_state.Needs.{is_held_by, may, may_hold, value_in}
-use Rattle.btree_descent.specs.core_state.Openings.{Opening}
-use Rattle.btree_descent.specs.core_state.States.{State, Worker}
-use Rattle.btree_descent.specs.core_state.States.{start as core_start}
-use Rattle.btree_descent.specs.core_state.Steps.{AllMet, at_pages, at_row, happens, state_after}
-use Rattle.btree_descent.proofs.core_state_lemmas.Runs.{run_more}
-use Rattle.disk_runs.specs.disk_image.Records.{entry_of}
-use Rattle.btree_descent.specs.Puts.{change_of}
-use Rattle.engine_calls.proofs.EntryLemmas.{every_entry}
-use Rattle.engine_calls.proofs.MarkLemmas.{any_append, keep_none}
-use Rattle.engine_calls.specs.Answers.{EveryAnswer}
-use Rattle.engine_calls.specs.Clauses.{EveryComing, IsNewLine}
-use Rattle.engine_calls.specs.Entries.{change_record}
-use Rattle.engine_calls.specs.Parts.{behind_first}
-use Rattle.engine_calls.specs.Puts.{IsRead, IsWrite, changed_by, is_alone, read_by, taking}
-use Rattle.engine_calls.specs.Refused.{TakesRows}
-use Rattle.engine_trait.specs.Calls.{call_behind, is_half_done}
-use Rattle.engine_trait.specs.Limits.{limits}
-use Rattle.engine_trait.specs.Refusals.{IsRefusedFor, change_refusal, in_transaction, lock_refusal, met_refusal, refusal_in}
-use Rattle.engine_trait.specs.Rooms.{MakesItsRoom}
-use Rattle.btree_descent.specs.image_model.Entries.{Contents, word_in}
-use Rattle.key_locks.specs.declared.mode.Mode.TheVariants.{Alone}
-use Rattle.key_locks.specs.Rows.{event_mode}
+use Rattle.paged_desks.specs.core_calls.Deeds.{Absent, Deed, answered, asked, marks_by, marks_of, reads_of}
+use Rattle.paged_desks.specs.core_calls.Fronts.{Done, front, outcomes}
+use Rattle.paged_desks.specs.core_calls.LogEvents.{IsTight, RefusedLogs, SyncsWhere}
+use Rattle.paged_desks.specs.core_calls.Marks.{Mark, is_half}
+use Rattle.paged_desks.specs.core_state.Local.{is_sync}
+use Rattle.paged_desks.specs.core_calls.Refusals.{Hinders, IsCause}
+use Rattle.paged_desks.specs.core_calls.Runs.{Tells}
+use Rattle.paged_desks.specs.core_calls.Steps.{TakesRow, is_step, is_structure}
+use Rattle.paged_desks.specs.core_state.Events as happening
+use Rattle.paged_desks.specs.core_state.Needs.{is_held_by, may, may_hold, value_in}
+use Rattle.paged_desks.specs.core_state.Openings.{Opening}
+use Rattle.paged_desks.specs.core_state.States.{State, Worker}
+use Rattle.paged_desks.specs.core_state.States.{start as core_start}
+use Rattle.paged_desks.specs.core_state.Steps.{AllMet, at_pages, at_row, happens, state_after}
+use Rattle.paged_desks.proofs.core_state.Runs.{run_more}
+use Rattle.paged_desks.specs.disk_image.Records.{entry_of}
+use Rattle.paged_desks.specs.btree_descent.Puts.{change_of}
+use Rattle.paged_desks.proofs.engine_calls.EntryLemmas.{every_entry}
+use Rattle.paged_desks.proofs.engine_calls.MarkLemmas.{any_append, keep_none}
+use Rattle.paged_desks.specs.engine_calls.Answers.{EveryAnswer}
+use Rattle.paged_desks.specs.engine_calls.Clauses.{EveryComing, IsNewLine}
+use Rattle.paged_desks.specs.engine_calls.Entries.{change_record}
+use Rattle.paged_desks.specs.engine_calls.Parts.{behind_first}
+use Rattle.paged_desks.specs.engine_calls.Puts.{IsRead, IsWrite, changed_by, is_alone, read_by, taking}
+use Rattle.paged_desks.specs.engine_calls.Refused.{TakesRows}
+use Rattle.paged_desks.specs.engine_trait.Calls.{call_behind, is_half_done}
+use Rattle.paged_desks.specs.engine_trait.Limits.{limits}
+use Rattle.paged_desks.specs.engine_trait.Refusals.{IsRefusedFor, change_refusal, in_transaction, lock_refusal, met_refusal, refusal_in}
+use Rattle.paged_desks.specs.engine_trait.Rooms.{MakesItsRoom}
+use Rattle.paged_desks.specs.image_model.Entries.{Contents, word_in}
+use Rattle.paged_desks.specs.key_locks.declared.mode.Mode.TheVariants.{Alone}
+use Rattle.paged_desks.specs.key_locks.Rows.{event_mode}
 use Rattle.lean_disk.specs.Story.{IsLawful, Story}
-use Rattle.btree_descent.specs.log_record.declared.record.Body.TheVariants as body
-use Rattle.btree_descent.specs.log_record.declared.record.Record.{Record}
+use Rattle.paged_desks.specs.log_record.declared.record.Body.TheVariants as body
+use Rattle.paged_desks.specs.log_record.declared.record.Record.{Record}
 use Rattle.page_model.specs.Nodes.{Format}
-use Rattle.btree_descent.specs.row_words.declared.event.Event.{Event}
-use Rattle.btree_descent.specs.row_words.declared.event.Event.TheVariants as told
-use Rattle.btree_descent.specs.row_words.Moments.{event_of, events_of}
-use Rattle.btree_descent.specs.row_words.Openings.{opening}
-use Rattle.btree_descent.specs.rows_trait.declared.view.View.{View}
-use Rattle.btree_descent.specs.rows_trait.Views.{Shape, state}
-use Rattle.session_desks.proofs.DeskLemmas.{desk_own}
-use Rattle.session_desks.proofs.SeatLemmas.{holds_of}
-use Rattle.session_desks.specs.Desks.{desk_of}
-use Rattle.session_desks.specs.Parts.{AreAsMany, HasLogs, here, shape}
-use Rattle.session_desks.specs.declared.desk.Desk.{Desk}
-use Rattle.session_state.proofs.Moments.{events_more}
-use Rattle.session_state.proofs.UndoLemmas.{many_of}
-use Rattle.session_state.specs.Holds.{Holds, IsOf, IsSameSession}
-use Rattle.session_state.specs.Staging.{KeepsLog}
-use Rattle.session_state.specs.Ties.{Behind}
-use Rattle.session_state.specs.declared.session.Session.{Session}
-use Rattle.disk_runs.specs.worker_log.Logs.{Log, limit, used}
-use Rattle.call_parts.proofs.EndLemmas.{most_least}
-use Rattle.call_parts.proofs.SightLemmas.{every_enter}
-use Rattle.call_parts.proofs.MemoryLemmas.{every_memory}
-use Rattle.call_parts.proofs.OwnLemmas.{every_own}
-use Rattle.call_parts.proofs.RunLemmas.{core_is}
-use Rattle.call_parts.specs.Areas.{is_save}
-use Rattle.call_parts.specs.Deeds.{Answers, Fails}
-use Rattle.call_parts.specs.Memory.{IsSame, with_own}
-use Rattle.call_parts.specs.Parts.{Failed, Part}
-use Rattle.call_parts.specs.Rooms.{AreRoom, IsRoomFor, is_paging as pages_come, looks, may_save}
-use Rattle.call_parts.specs.Steps.{Stages}
-use Rattle.engine_trait.specs.Rooms.{needs_sync}
+use Rattle.paged_desks.specs.row_words.declared.event.Event.{Event}
+use Rattle.paged_desks.specs.row_words.declared.event.Event.TheVariants as told
+use Rattle.paged_desks.specs.row_words.Moments.{event_of, events_of}
+use Rattle.paged_desks.specs.row_words.Openings.{opening}
+use Rattle.paged_desks.specs.rows_trait.declared.view.View.{View}
+use Rattle.paged_desks.specs.rows_trait.Views.{Shape, state}
+use Rattle.paged_desks.proofs.session_desks.DeskLemmas.{desk_own}
+use Rattle.paged_desks.proofs.session_desks.SeatLemmas.{holds_of}
+use Rattle.paged_desks.specs.session_desks.Desks.{desk_of}
+use Rattle.paged_desks.specs.session_desks.Parts.{AreAsMany, HasLogs, here, shape}
+use Rattle.paged_desks.specs.session_desks.declared.desk.Desk.{Desk}
+use Rattle.paged_desks.proofs.session_state.Moments.{events_more}
+use Rattle.paged_desks.proofs.session_state.UndoLemmas.{many_of}
+use Rattle.paged_desks.specs.session_state.Holds.{Holds, IsOf, IsSameSession}
+use Rattle.paged_desks.specs.session_state.Staging.{KeepsLog}
+use Rattle.paged_desks.specs.session_state.Ties.{Behind}
+use Rattle.paged_desks.specs.session_state.declared.session.Session.{Session}
+use Rattle.paged_desks.specs.worker_log.Logs.{Log, limit, used}
+use Rattle.paged_desks.proofs.call_parts.EndLemmas.{most_least}
+use Rattle.paged_desks.proofs.call_parts.SightLemmas.{every_enter}
+use Rattle.paged_desks.proofs.call_parts.MemoryLemmas.{every_memory}
+use Rattle.paged_desks.proofs.call_parts.OwnLemmas.{every_own}
+use Rattle.paged_desks.proofs.call_parts.RunLemmas.{core_is}
+use Rattle.paged_desks.specs.call_parts.Areas.{is_save}
+use Rattle.paged_desks.specs.call_parts.Deeds.{Answers, Fails}
+use Rattle.paged_desks.specs.call_parts.Memory.{IsSame, with_own}
+use Rattle.paged_desks.specs.call_parts.Parts.{Failed, Part}
+use Rattle.paged_desks.specs.call_parts.Rooms.{AreRoom, IsRoomFor, is_paging as pages_come, looks, may_save}
+use Rattle.paged_desks.specs.call_parts.Steps.{Stages}
+use Rattle.paged_desks.specs.engine_trait.Rooms.{needs_sync}
 use Rattle.row_changes.specs.Puts.{IsChanged}
 use Rattle.row_changes.specs.Reads.{HasRead}
 use Rattle.row_changes.specs.Takes.{NotTaken}

@@ -1,17 +1,17 @@
 -- A machine stands while the session whose turn it is changes a key, and its log has the record.
 use Rattle.std.proofs.Common.{◌≡◌, ℕ, true, Option, [], ◌∷◌, ap}
-use Rattle.btree_descent.specs.core_state.Steps.{at_pages, write_entry}
-use Rattle.btree_descent.specs.image_model.Entries.{Kind}
+use Rattle.paged_desks.specs.core_state.Steps.{at_pages, write_entry}
+use Rattle.paged_desks.specs.image_model.Entries.{Kind}
 use Rattle.lean_disk.specs.Story.{Story}
-use Rattle.btree_descent.specs.log_record.declared.record.Record.{Record}
-use Rattle.page_pool.specs.Pools.{EveryStanding}
+use Rattle.paged_desks.specs.log_record.declared.record.Record.{Record}
+use Rattle.paged_desks.specs.page_pool.Pools.{EveryStanding}
 use Rattle.row_changes.specs.Puts.{IsChanged}
-use Rattle.btree_descent.specs.row_words.declared.event.Event.TheVariants as told
-use Rattle.btree_descent.specs.row_words.Openings.{opening}
-use Rattle.btree_descent.specs.rows_trait.Views.{state}
-use Rattle.session_desks.specs.Parts.{SeatFits, shape}
-use Rattle.session_state.specs.Holds.{Holds, IsSameSession}
-use Rattle.session_state.specs.Others.{EveryOther}
+use Rattle.paged_desks.specs.row_words.declared.event.Event.TheVariants as told
+use Rattle.paged_desks.specs.row_words.Openings.{opening}
+use Rattle.paged_desks.specs.rows_trait.Views.{state}
+use Rattle.paged_desks.specs.session_desks.Parts.{SeatFits, shape}
+use Rattle.paged_desks.specs.session_state.Holds.{Holds, IsSameSession}
+use Rattle.paged_desks.specs.session_state.Others.{EveryOther}
 use Rattle.paged_desks.specs.Machines.{IsReady, view_of}
 use Rattle.paged_desks.specs.declared.machine.PagedMachine.{PagedMachine}
 use Rattle.paged_desks.specs.Calls.{IsAside}

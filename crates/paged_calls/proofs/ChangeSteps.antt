@@ -2,18 +2,18 @@
 use Rattle.std.proofs.Common.{◌≡◌, ℕ, true, Option, Some, None, Result, Ok, Err, ap, sym, true≢false}
 use Rattle.lean_disk.specs.Story.{Story}
 use Rattle.map_model.specs.declared.call.Refusal.TheVariants as refusal
-use Rattle.btree_descent.specs.declared.descent.TheConstants.{TOMBSTONE}
-use Rattle.page_pool.specs.Pools.{EveryStanding}
+use Rattle.paged_desks.specs.btree_descent.declared.descent.TheConstants.{TOMBSTONE}
+use Rattle.paged_desks.specs.page_pool.Pools.{EveryStanding}
 use Rattle.row_changes.specs.Dels.{Dels}
 use Rattle.row_changes.specs.Puts.{works_behind}
 use Rattle.row_changes.specs.declared.ways.Unmade.{Unmade}
 use Rattle.row_changes.specs.declared.ways.Unmade.TheVariants as unmade
-use Rattle.btree_descent.specs.row_words.declared.event.Event.TheVariants as told
-use Rattle.session_desks.specs.Parts.{SeatFits, shape}
-use Rattle.session_state.proofs.OtherLemmas.{is_own, no_steps, one_step}
-use Rattle.session_state.specs.Holds.{Holds, IsSameSession}
-use Rattle.session_state.specs.Others.{EveryOther}
-use Rattle.session_state.specs.declared.work.Work.{Work}
+use Rattle.paged_desks.specs.row_words.declared.event.Event.TheVariants as told
+use Rattle.paged_desks.specs.session_desks.Parts.{SeatFits, shape}
+use Rattle.paged_desks.proofs.session_state.OtherLemmas.{is_own, no_steps, one_step}
+use Rattle.paged_desks.specs.session_state.Holds.{Holds, IsSameSession}
+use Rattle.paged_desks.specs.session_state.Others.{EveryOther}
+use Rattle.paged_desks.specs.session_state.declared.work.Work.{Work}
 use Rattle.paged_desks.specs.Machines.{IsReady, view_of}
 use Rattle.paged_desks.specs.declared.machine.PagedMachine.{PagedMachine}
 use Rattle.paged_desks.specs.Calls.{IsAside}

@@ -5,17 +5,17 @@ use Rattle.map_model.specs.declared.call.Call.{Call}
 use Rattle.map_model.specs.declared.call.Call.TheVariants as call
 use Rattle.map_model.specs.declared.call.Refusal.{Refusal}
 use Rattle.map_model.specs.declared.call.Refusal.TheVariants as refusal
-use Rattle.core_calls.specs.Refusals.{Hinders, IsHindered, IsLong}
-use Rattle.btree_descent.specs.core_state.Events as happening
-use Rattle.btree_descent.specs.core_state.Openings.{Opening}
-use Rattle.btree_descent.specs.core_state.States.{State}
-use Rattle.engine_trait.specs.Calls.{MayCome}
-use Rattle.engine_trait.specs.Limits.{limits}
-use Rattle.engine_trait.specs.Refusals.{change_refusal, in_transaction, is_full_for, lock_refusal, met_refusal, refusal_in, room_refusal}
-use Rattle.session_state.proofs.UndoLemmas.{many_of}
-use Rattle.session_state.specs.Holds.{IsOf}
-use Rattle.session_state.specs.declared.session.Session.{Session}
-use Rattle.disk_runs.specs.worker_log.Logs.{Log, limit, used}
+use Rattle.paged_desks.specs.core_calls.Refusals.{Hinders, IsHindered, IsLong}
+use Rattle.paged_desks.specs.core_state.Events as happening
+use Rattle.paged_desks.specs.core_state.Openings.{Opening}
+use Rattle.paged_desks.specs.core_state.States.{State}
+use Rattle.paged_desks.specs.engine_trait.Calls.{MayCome}
+use Rattle.paged_desks.specs.engine_trait.Limits.{limits}
+use Rattle.paged_desks.specs.engine_trait.Refusals.{change_refusal, in_transaction, is_full_for, lock_refusal, met_refusal, refusal_in, room_refusal}
+use Rattle.paged_desks.proofs.session_state.UndoLemmas.{many_of}
+use Rattle.paged_desks.specs.session_state.Holds.{IsOf}
+use Rattle.paged_desks.specs.session_state.declared.session.Session.{Session}
+use Rattle.paged_desks.specs.worker_log.Logs.{Log, limit, used}
 use Rattle.paged_desks.specs.Calls.{EndsWork, ends_work, works_behind}
 use Rattle.paged_calls.specs.Tests.{change_test, is_going}
 use Rattle.paged_calls.proofs.GoingLemmas.{going, tests_as}

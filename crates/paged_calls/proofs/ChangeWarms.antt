@@ -2,22 +2,22 @@
 use Rattle.std.proofs.Common.{◌≡◌, ◌∙◌, inl, inr, ◌<◌, ◌%◌, ℕ, true, false, List, Option, Some, None, Result, Ok, Err, length, ap, refl, sym, subst, arith, true≢false}
 use Rattle.map_model.specs.declared.call.Refusal.{Refusal}
 use Rattle.map_model.specs.declared.call.Refusal.TheVariants as refusal
-use Rattle.btree_descent.specs.declared.descent.TheConstants.{TOMBSTONE}
-use Rattle.btree_descent.specs.core_state.Needs.{is_held_by}
+use Rattle.paged_desks.specs.btree_descent.declared.descent.TheConstants.{TOMBSTONE}
+use Rattle.paged_desks.specs.core_state.Needs.{is_held_by}
 use Rattle.lean_disk.specs.Faults.{HasCause}
 use Rattle.lean_disk.specs.Story.{IsLawful, Story}
-use Rattle.btree_descent.specs.row_words.declared.event.Event.{Event}
-use Rattle.btree_descent.specs.rows_trait.declared.view.View.{View}
-use Rattle.btree_descent.specs.rows_trait.Views.{after_all, state}
-use Rattle.session_desks.specs.Parts.{AreAsMany, SeatFits}
-use Rattle.session_state.specs.Holds.{IsSameSession}
-use Rattle.session_state.specs.Staging.{KeepsLog}
-use Rattle.session_state.specs.declared.session.Session.{Session}
-use Rattle.session_state.specs.declared.work.Work.{Work}
-use Rattle.disk_runs.specs.worker_log.Logs.{Log, limit, used}
-use Rattle.call_parts.specs.Memory.{Memory}
-use Rattle.call_parts.specs.Parts.{Part}
-use Rattle.key_locks.specs.declared.mode.Mode.TheVariants.{Alone}
+use Rattle.paged_desks.specs.row_words.declared.event.Event.{Event}
+use Rattle.paged_desks.specs.rows_trait.declared.view.View.{View}
+use Rattle.paged_desks.specs.rows_trait.Views.{after_all, state}
+use Rattle.paged_desks.specs.session_desks.Parts.{AreAsMany, SeatFits}
+use Rattle.paged_desks.specs.session_state.Holds.{IsSameSession}
+use Rattle.paged_desks.specs.session_state.Staging.{KeepsLog}
+use Rattle.paged_desks.specs.session_state.declared.session.Session.{Session}
+use Rattle.paged_desks.specs.session_state.declared.work.Work.{Work}
+use Rattle.paged_desks.specs.worker_log.Logs.{Log, limit, used}
+use Rattle.paged_desks.specs.call_parts.Memory.{Memory}
+use Rattle.paged_desks.specs.call_parts.Parts.{Part}
+use Rattle.paged_desks.specs.key_locks.declared.mode.Mode.TheVariants.{Alone}
 use Rattle.row_changes.proofs.TakeLemmas.{with_count}
 use Rattle.row_changes.specs.Dels.{Dels}
 use Rattle.row_changes.specs.Puts.{IsChanged, works_behind}

@@ -3,12 +3,12 @@ use Rattle.std.proofs.Common.{◌≡◌, ◌⊎◌, inl, inr, ◌≤◌, ◌||�
 use Rattle.std.proofs.lemmas.Bool.{cases_eq, cases_lt, eqb-true, ne_eqb, or_cases, or_left}
 use Rattle.map_model.specs.declared.call.Refusal.{Refusal}
 use Rattle.map_model.specs.declared.call.Refusal.TheVariants as refusal
-use Rattle.btree_descent.specs.core_state.Events as happening
-use Rattle.btree_descent.specs.core_state.Needs.{is_free, is_held_by, is_reader, may_hold}
-use Rattle.btree_descent.specs.core_state.Openings.{Opening}
-use Rattle.btree_descent.specs.core_state.States.{Row, State}
-use Rattle.core_calls.specs.Refusals.{Hinders}
-use Rattle.engine_trait.specs.Refusals.{blocker_of, conflict_with, least_other, least_with, lock_refusal}
+use Rattle.paged_desks.specs.core_state.Events as happening
+use Rattle.paged_desks.specs.core_state.Needs.{is_free, is_held_by, is_reader, may_hold}
+use Rattle.paged_desks.specs.core_state.Openings.{Opening}
+use Rattle.paged_desks.specs.core_state.States.{Row, State}
+use Rattle.paged_desks.specs.core_calls.Refusals.{Hinders}
+use Rattle.paged_desks.specs.engine_trait.Refusals.{blocker_of, conflict_with, least_other, least_with, lock_refusal}
 
 -- the least of the readers but w
 record IsLeast (w : ℕ) (readers : List ℕ) (u : ℕ) : Type 0 where

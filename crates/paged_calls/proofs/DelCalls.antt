@@ -2,13 +2,13 @@
 use Rattle.std.proofs.Common.{◌≡◌, ◌⊎◌, inl, inr, ℕ, true, Option, Some, None, Result, Ok, Err, IfErr, IsErrAnd, refl, sym, subst}
 use Rattle.map_model.specs.declared.call.Refusal.{Refusal}
 use Rattle.map_model.specs.declared.call.Refusal.TheVariants as refusal
-use Rattle.engine_trait.specs.Calls.{MayCome}
-use Rattle.engine_trait.specs.Refusals.{clock_refusal}
-use Rattle.key_locks.specs.declared.mode.Mode.{Mode}
+use Rattle.paged_desks.specs.engine_trait.Calls.{MayCome}
+use Rattle.paged_desks.specs.engine_trait.Refusals.{clock_refusal}
+use Rattle.paged_desks.specs.key_locks.declared.mode.Mode.{Mode}
 use Rattle.lean_disk.specs.Story.{Story}
 use Rattle.row_changes.proofs.StepLemmas.{clock_at_end}
 use Rattle.row_changes.specs.Takes.{NotTaken}
-use Rattle.btree_descent.specs.rows_trait.declared.view.View.{View}
+use Rattle.paged_desks.specs.rows_trait.declared.view.View.{View}
 use Rattle.paged_desks.specs.declared.machine.PagedMachine.{PagedMachine}
 use Rattle.paged_desks.specs.Calls.{EndsWork, works_behind}
 use Rattle.paged_calls.specs.Calls.{IsEarly}

@@ -2,12 +2,12 @@
 use Rattle.std.proofs.Common.{◌≡◌, ◌==◌, ◌||◌, ℕ, suc, Bool, true, false, List, [], ◌∷◌, length, ap, refl, sym, eq-eqb, true≢false}
 use Rattle.std.proofs.lemmas.Bool.{and_from, and_parts}
 use Rattle.map_model.specs.Lists.{all, any}
-use Rattle.core_calls.specs.Steps.{is_step, is_structure}
-use Rattle.btree_descent.specs.core_state.Events as happening
-use Rattle.btree_descent.specs.row_words.declared.event.Event.{Event}
-use Rattle.btree_descent.specs.row_words.declared.event.Event.TheVariants as told
-use Rattle.btree_descent.specs.row_words.Moments.{event_of, events_of}
-use Rattle.call_parts.specs.Rooms.{AreRoom, gives_room, is_paging as pages_come, takes_row}
+use Rattle.paged_desks.specs.core_calls.Steps.{is_step, is_structure}
+use Rattle.paged_desks.specs.core_state.Events as happening
+use Rattle.paged_desks.specs.row_words.declared.event.Event.{Event}
+use Rattle.paged_desks.specs.row_words.declared.event.Event.TheVariants as told
+use Rattle.paged_desks.specs.row_words.Moments.{event_of, events_of}
+use Rattle.paged_desks.specs.call_parts.Rooms.{AreRoom, gives_room, is_paging as pages_come, takes_row}
 use Rattle.paged_desks.specs.Pages.{ArePaging, is_paging}
 
 pub length_events : (es : List Event) → length (events_of es) ≡ length es

@@ -5,16 +5,16 @@ use Rattle.map_model.proofs.ListLemmas.{at_upd, upd_same}
 use Rattle.map_model.specs.Lists.{all, any}
 use Rattle.map_model.specs.declared.call.Refusal.{Refusal}
 use Rattle.map_model.specs.declared.call.Refusal.TheVariants as refusal
-use Rattle.core_calls.specs.Room.{free_list, is_all_full, room_takes}
-use Rattle.core_calls.specs.Steps.{is_step}
-use Rattle.btree_descent.specs.core_state.Events as happening
-use Rattle.btree_descent.specs.core_state.Needs.{are_hot, is_free, is_held_by, may, may_put, needs}
-use Rattle.btree_descent.specs.core_state.Openings.{Opening}
-use Rattle.btree_descent.specs.core_state.States.{Row, State, Worker, nodes_of, gsns_of}
-use Rattle.btree_descent.specs.core_state.Steps as core
-use Rattle.btree_descent.specs.core_state.Steps.{at_pages, at_row, happens, locked, moves}
-use Rattle.engine_trait.specs.Refusals.{is_full_for, lock_refusal, met_refusal, room_refusal}
-use Rattle.btree_descent.specs.image_model.Entries.{Kind}
+use Rattle.paged_desks.specs.core_calls.Room.{free_list, is_all_full, room_takes}
+use Rattle.paged_desks.specs.core_calls.Steps.{is_step}
+use Rattle.paged_desks.specs.core_state.Events as happening
+use Rattle.paged_desks.specs.core_state.Needs.{are_hot, is_free, is_held_by, may, may_put, needs}
+use Rattle.paged_desks.specs.core_state.Openings.{Opening}
+use Rattle.paged_desks.specs.core_state.States.{Row, State, Worker, nodes_of, gsns_of}
+use Rattle.paged_desks.specs.core_state.Steps as core
+use Rattle.paged_desks.specs.core_state.Steps.{at_pages, at_row, happens, locked, moves}
+use Rattle.paged_desks.specs.engine_trait.Refusals.{is_full_for, lock_refusal, met_refusal, room_refusal}
+use Rattle.paged_desks.specs.image_model.Entries.{Kind}
 use Rattle.page_model.proofs.Laws.{every_tree}
 use Rattle.page_model.specs.Check.{some_below}
 use Rattle.page_model.specs.Needs.{lift_record, split_record}
@@ -22,11 +22,11 @@ use Rattle.page_model.specs.Nodes.{Node, holds}
 use Rattle.page_model.specs.Records as records
 use Rattle.page_model.specs.Redo.{has_key}
 use Rattle.page_model.specs.Tree.{IsTree}
-use Rattle.btree_descent.specs.row_words.declared.event.Event.{Event}
-use Rattle.btree_descent.specs.row_words.declared.event.Event.TheVariants as told
-use Rattle.btree_descent.specs.row_words.Moments.{event_of, events_of}
-use Rattle.call_parts.specs.Deeds.{is_fetch}
-use Rattle.call_parts.specs.Rooms.{AreRoom, gives_room, is_paging as pages_come, takes_row}
+use Rattle.paged_desks.specs.row_words.declared.event.Event.{Event}
+use Rattle.paged_desks.specs.row_words.declared.event.Event.TheVariants as told
+use Rattle.paged_desks.specs.row_words.Moments.{event_of, events_of}
+use Rattle.paged_desks.specs.call_parts.Deeds.{is_fetch}
+use Rattle.paged_desks.specs.call_parts.Rooms.{AreRoom, gives_room, is_paging as pages_come, takes_row}
 use Rattle.paged_calls.specs.Growths.{AreMaking, is_making}
 use Rattle.paged_calls.proofs.Conflicts.{lock_free}
 use Rattle.paged_calls.proofs.RecordStands.{clock_met}

@@ -6,47 +6,47 @@ use Rattle.map_model.specs.declared.call.Answer.TheVariants as answer
 use Rattle.map_model.specs.declared.call.Call.TheVariants as call
 use Rattle.map_model.specs.declared.call.Refusal.{Refusal}
 use Rattle.map_model.specs.declared.call.Refusal.TheVariants as refusal
-use Rattle.core_calls.specs.Deeds.{Got, marks_by}
-use Rattle.core_calls.specs.Fronts.{Done, front, outcomes}
-use Rattle.core_calls.specs.LogEvents.{IsTight, SyncsWhere}
-use Rattle.core_calls.specs.Marks.{is_half}
-use Rattle.core_calls.specs.Refusals.{Hinders, IsCause}
-use Rattle.core_calls.specs.Runs.{Tells}
-use Rattle.core_calls.specs.Steps.{TakesRow, is_step, is_structure}
-use Rattle.btree_descent.specs.core_state.Events as happening
-use Rattle.btree_descent.specs.core_state.Needs.{value_in}
-use Rattle.btree_descent.specs.core_state.Openings.{Opening}
-use Rattle.btree_descent.specs.core_state.States.{State}
-use Rattle.btree_descent.specs.core_state.Steps.{AllMet, state_after}
-use Rattle.engine_calls.proofs.MarkLemmas.{any_append}
-use Rattle.engine_calls.specs.Answers.{EveryAnswer}
-use Rattle.engine_calls.specs.Clauses.{EveryComing, IsNewLine}
-use Rattle.engine_calls.specs.Parts.{behind_first}
-use Rattle.engine_calls.specs.Puts.{IsRead, is_alone, read_by, taking}
-use Rattle.engine_trait.specs.Calls.{call_behind, is_half_done}
-use Rattle.engine_trait.specs.Limits.{limits}
-use Rattle.engine_trait.specs.Refusals.{IsRefusedFor, lock_refusal, refusal_in}
-use Rattle.engine_trait.specs.Rooms.{MakesItsRoom}
-use Rattle.key_locks.specs.declared.mode.Mode.TheVariants.{Shared}
-use Rattle.key_locks.specs.Rows.{event_mode}
+use Rattle.paged_desks.specs.core_calls.Deeds.{Got, marks_by}
+use Rattle.paged_desks.specs.core_calls.Fronts.{Done, front, outcomes}
+use Rattle.paged_desks.specs.core_calls.LogEvents.{IsTight, SyncsWhere}
+use Rattle.paged_desks.specs.core_calls.Marks.{is_half}
+use Rattle.paged_desks.specs.core_calls.Refusals.{Hinders, IsCause}
+use Rattle.paged_desks.specs.core_calls.Runs.{Tells}
+use Rattle.paged_desks.specs.core_calls.Steps.{TakesRow, is_step, is_structure}
+use Rattle.paged_desks.specs.core_state.Events as happening
+use Rattle.paged_desks.specs.core_state.Needs.{value_in}
+use Rattle.paged_desks.specs.core_state.Openings.{Opening}
+use Rattle.paged_desks.specs.core_state.States.{State}
+use Rattle.paged_desks.specs.core_state.Steps.{AllMet, state_after}
+use Rattle.paged_desks.proofs.engine_calls.MarkLemmas.{any_append}
+use Rattle.paged_desks.specs.engine_calls.Answers.{EveryAnswer}
+use Rattle.paged_desks.specs.engine_calls.Clauses.{EveryComing, IsNewLine}
+use Rattle.paged_desks.specs.engine_calls.Parts.{behind_first}
+use Rattle.paged_desks.specs.engine_calls.Puts.{IsRead, is_alone, read_by, taking}
+use Rattle.paged_desks.specs.engine_trait.Calls.{call_behind, is_half_done}
+use Rattle.paged_desks.specs.engine_trait.Limits.{limits}
+use Rattle.paged_desks.specs.engine_trait.Refusals.{IsRefusedFor, lock_refusal, refusal_in}
+use Rattle.paged_desks.specs.engine_trait.Rooms.{MakesItsRoom}
+use Rattle.paged_desks.specs.key_locks.declared.mode.Mode.TheVariants.{Shared}
+use Rattle.paged_desks.specs.key_locks.Rows.{event_mode}
 use Rattle.lean_disk.specs.Story.{IsLawful, Story}
-use Rattle.btree_descent.specs.row_words.declared.event.Event.{Event}
-use Rattle.btree_descent.specs.row_words.declared.event.Event.TheVariants as told
-use Rattle.btree_descent.specs.row_words.Moments.{events_of}
-use Rattle.btree_descent.specs.rows_trait.declared.view.View.{View}
-use Rattle.btree_descent.specs.rows_trait.Views.{Shape}
-use Rattle.session_desks.proofs.DeskLemmas.{desk_own}
-use Rattle.session_desks.specs.Desks.{desk_of}
-use Rattle.session_desks.specs.Parts.{AreAsMany, HasLogs, here, shape}
-use Rattle.session_desks.specs.declared.desk.Desk.{Desk}
-use Rattle.session_state.proofs.Moments.{events_more}
-use Rattle.session_state.specs.Holds.{Holds}
-use Rattle.session_state.specs.Ties.{Behind}
-use Rattle.session_state.specs.declared.session.Session.{Session}
-use Rattle.disk_runs.specs.worker_log.Logs.{Log}
-use Rattle.call_parts.proofs.RunLemmas.{core_is}
-use Rattle.call_parts.specs.Deeds.{Answers}
-use Rattle.call_parts.specs.Parts.{Part}
+use Rattle.paged_desks.specs.row_words.declared.event.Event.{Event}
+use Rattle.paged_desks.specs.row_words.declared.event.Event.TheVariants as told
+use Rattle.paged_desks.specs.row_words.Moments.{events_of}
+use Rattle.paged_desks.specs.rows_trait.declared.view.View.{View}
+use Rattle.paged_desks.specs.rows_trait.Views.{Shape}
+use Rattle.paged_desks.proofs.session_desks.DeskLemmas.{desk_own}
+use Rattle.paged_desks.specs.session_desks.Desks.{desk_of}
+use Rattle.paged_desks.specs.session_desks.Parts.{AreAsMany, HasLogs, here, shape}
+use Rattle.paged_desks.specs.session_desks.declared.desk.Desk.{Desk}
+use Rattle.paged_desks.proofs.session_state.Moments.{events_more}
+use Rattle.paged_desks.specs.session_state.Holds.{Holds}
+use Rattle.paged_desks.specs.session_state.Ties.{Behind}
+use Rattle.paged_desks.specs.session_state.declared.session.Session.{Session}
+use Rattle.paged_desks.specs.worker_log.Logs.{Log}
+use Rattle.paged_desks.proofs.call_parts.RunLemmas.{core_is}
+use Rattle.paged_desks.specs.call_parts.Deeds.{Answers}
+use Rattle.paged_desks.specs.call_parts.Parts.{Part}
 use Rattle.row_changes.specs.Reads.{HasRead}
 use Rattle.row_changes.specs.Takes.{NotTaken}
 use Rattle.paged_desks.specs.Machines.{IsReady, memory, view_of}

@@ -2,10 +2,10 @@
 use Rattle.std.proofs.Common.{◌≡◌, ◌⊎◌, inl, inr, Bool, true, false, cond, Option, Some, refl, ◌∙◌, true≢false}
 use Rattle.map_model.specs.declared.call.Refusal.{Refusal}
 use Rattle.map_model.specs.declared.call.Refusal.TheVariants as refusal
-use Rattle.btree_descent.specs.core_state.States.{State}
-use Rattle.engine_trait.specs.Refusals.{in_transaction}
+use Rattle.paged_desks.specs.core_state.States.{State}
+use Rattle.paged_desks.specs.engine_trait.Refusals.{in_transaction}
 use Rattle.paged_calls.specs.Tests.{is_going}
-use Rattle.session_state.specs.declared.session.Session.{Session}
+use Rattle.paged_desks.specs.session_state.declared.session.Session.{Session}
 
 -- what is so where it does
 pub record Going (x : Session) : Type 0 where

@@ -3,49 +3,49 @@ use Rattle.std.proofs.Common.{◌≡◌, ◌∙◌, ◌≤◌, ◌<◌, ◌==◌
 use Rattle.std.proofs.lemmas.Bool.{and_from, and_parts, cond-false, eq-eqb}
 use Rattle.map_model.specs.Lists.{all, any}
 use Rattle.btree_smo.specs.Outcomes.{AreMisses}
-use Rattle.core_calls.specs.Fronts.{Done}
-use Rattle.core_calls.proofs.WhereLemmas.{syncs_none}
-use Rattle.core_calls.specs.LogEvents.{IsTight, SyncsWhere, is_log}
-use Rattle.core_calls.specs.Steps.{is_structure}
-use Rattle.btree_descent.specs.core_state.Events as happening
-use Rattle.btree_descent.specs.core_state.Needs.{are_hot, may, needs}
-use Rattle.btree_descent.specs.core_state.Openings.{Opening}
-use Rattle.btree_descent.specs.core_state.States.{Place, State, is_hot, nodes_of, gsns_of}
-use Rattle.btree_descent.specs.core_state.Lists.{count_below}
-use Rattle.btree_descent.specs.core_state.Steps as core
-use Rattle.btree_descent.specs.core_state.Steps.{AllMet, at_pages, page_entry}
-use Rattle.disk_runs.specs.disk_image.Records.{entry_of}
-use Rattle.disk_runs.specs.Quiet.{is_quiet}
-use Rattle.engine_calls.specs.Parts.{behind_first}
-use Rattle.engine_trait.specs.Refusals.{is_full_for, room_refusal}
-use Rattle.engine_trait.specs.Rooms.{IsNextRoom}
-use Rattle.btree_descent.specs.image_model.Entries.{Entry, Kind, touches, written}
+use Rattle.paged_desks.specs.core_calls.Fronts.{Done}
+use Rattle.paged_desks.proofs.core_calls.WhereLemmas.{syncs_none}
+use Rattle.paged_desks.specs.core_calls.LogEvents.{IsTight, SyncsWhere, is_log}
+use Rattle.paged_desks.specs.core_calls.Steps.{is_structure}
+use Rattle.paged_desks.specs.core_state.Events as happening
+use Rattle.paged_desks.specs.core_state.Needs.{are_hot, may, needs}
+use Rattle.paged_desks.specs.core_state.Openings.{Opening}
+use Rattle.paged_desks.specs.core_state.States.{Place, State, is_hot, nodes_of, gsns_of}
+use Rattle.paged_desks.specs.core_state.Lists.{count_below}
+use Rattle.paged_desks.specs.core_state.Steps as core
+use Rattle.paged_desks.specs.core_state.Steps.{AllMet, at_pages, page_entry}
+use Rattle.paged_desks.specs.disk_image.Records.{entry_of}
+use Rattle.paged_desks.specs.disk_runs.Quiet.{is_quiet}
+use Rattle.paged_desks.specs.engine_calls.Parts.{behind_first}
+use Rattle.paged_desks.specs.engine_trait.Refusals.{is_full_for, room_refusal}
+use Rattle.paged_desks.specs.engine_trait.Rooms.{IsNextRoom}
+use Rattle.paged_desks.specs.image_model.Entries.{Entry, Kind, touches, written}
 use Rattle.lean_disk.specs.Story.{IsLawful, Story}
 use Rattle.page_model.specs.Needs.{lift_record, split_record}
-use Rattle.page_pool.specs.Counts.{hot_pages}
-use Rattle.page_pool.specs.Pools.{EveryStanding}
+use Rattle.paged_desks.specs.page_pool.Counts.{hot_pages}
+use Rattle.paged_desks.specs.page_pool.Pools.{EveryStanding}
 use Rattle.row_growth.specs.Rooms.{IsGrown, IsGrowth, IsSpentBehind}
-use Rattle.btree_descent.specs.row_words.declared.event.Event.{Event}
-use Rattle.btree_descent.specs.row_words.declared.event.Event.TheVariants as told
-use Rattle.btree_descent.specs.row_words.Moments.{Moment, event_of, events_of}
-use Rattle.btree_descent.specs.row_words.Openings.{opening}
-use Rattle.btree_descent.specs.rows_trait.Views.{state}
-use Rattle.session_desks.proofs.DeskLemmas.{desk_own}
-use Rattle.session_desks.proofs.SeatLemmas.{holds_of, turn_high, turn_low}
-use Rattle.session_desks.specs.Parts.{SeatFits, here, shape}
-use Rattle.session_desks.specs.declared.desk.Desk.{Desk}
-use Rattle.session_state.proofs.Moments.{seen_state}
-use Rattle.session_state.specs.Holds.{Holds, IsSameSession}
-use Rattle.session_state.specs.Others.{EveryOther, is_of}
-use Rattle.session_state.specs.Ties.{Behind}
-use Rattle.session_state.specs.declared.work.Work.{Work}
-use Rattle.disk_runs.specs.worker_log.Logs.{Log}
-use Rattle.call_parts.proofs.MemoryLemmas.{every_memory}
-use Rattle.call_parts.proofs.OwnLemmas.{every_own}
-use Rattle.call_parts.proofs.RunLemmas.{core_is, run_core}
-use Rattle.call_parts.specs.Memory.{with_own}
-use Rattle.call_parts.specs.Parts.{Part}
-use Rattle.call_parts.specs.Steps.{Stages, is_entered}
+use Rattle.paged_desks.specs.row_words.declared.event.Event.{Event}
+use Rattle.paged_desks.specs.row_words.declared.event.Event.TheVariants as told
+use Rattle.paged_desks.specs.row_words.Moments.{Moment, event_of, events_of}
+use Rattle.paged_desks.specs.row_words.Openings.{opening}
+use Rattle.paged_desks.specs.rows_trait.Views.{state}
+use Rattle.paged_desks.proofs.session_desks.DeskLemmas.{desk_own}
+use Rattle.paged_desks.proofs.session_desks.SeatLemmas.{holds_of, turn_high, turn_low}
+use Rattle.paged_desks.specs.session_desks.Parts.{SeatFits, here, shape}
+use Rattle.paged_desks.specs.session_desks.declared.desk.Desk.{Desk}
+use Rattle.paged_desks.proofs.session_state.Moments.{seen_state}
+use Rattle.paged_desks.specs.session_state.Holds.{Holds, IsSameSession}
+use Rattle.paged_desks.specs.session_state.Others.{EveryOther, is_of}
+use Rattle.paged_desks.specs.session_state.Ties.{Behind}
+use Rattle.paged_desks.specs.session_state.declared.work.Work.{Work}
+use Rattle.paged_desks.specs.worker_log.Logs.{Log}
+use Rattle.paged_desks.proofs.call_parts.MemoryLemmas.{every_memory}
+use Rattle.paged_desks.proofs.call_parts.OwnLemmas.{every_own}
+use Rattle.paged_desks.proofs.call_parts.RunLemmas.{core_is, run_core}
+use Rattle.paged_desks.specs.call_parts.Memory.{with_own}
+use Rattle.paged_desks.specs.call_parts.Parts.{Part}
+use Rattle.paged_desks.specs.call_parts.Steps.{Stages, is_entered}
 use Rattle.paged_desks.specs.Calls.{IsAside, IsBeside}
 use Rattle.paged_desks.specs.Machines.{IsReady, memory, view_of}
 use Rattle.paged_desks.specs.Pages.{hot_in}

@@ -7,50 +7,50 @@ use Rattle.map_model.specs.declared.call.Call.{Call}
 use Rattle.map_model.specs.declared.call.Call.TheVariants as call
 use Rattle.map_model.specs.declared.call.Refusal.{Refusal}
 use Rattle.map_model.specs.declared.call.Refusal.TheVariants as refusal
-use Rattle.core_calls.specs.Deeds.{marks_by}
-use Rattle.core_calls.specs.Fronts.{Done, front, outcomes}
-use Rattle.core_calls.specs.LogEvents.{IsPressedYet, IsTight, RefusedLogs, SyncsWhere}
-use Rattle.core_calls.specs.Marks.{is_half}
-use Rattle.core_calls.specs.Refusals.{IsCause}
-use Rattle.core_calls.specs.Runs.{EachTells}
-use Rattle.core_calls.specs.Scans.{StopsOnWay}
-use Rattle.core_calls.specs.Steps.{TakesRow, Tries, is_step, is_structure}
-use Rattle.btree_descent.specs.core_state.Events as happening
-use Rattle.btree_descent.specs.core_state.Openings.{Opening}
-use Rattle.btree_descent.specs.core_state.States.{State}
-use Rattle.btree_descent.specs.core_state.Steps.{AllMet, state_after, step}
-use Rattle.disk_runs.specs.Stands.{Stands}
-use Rattle.engine_calls.proofs.MarkLemmas.{keep_none}
-use Rattle.engine_calls.specs.Answers.{EveryAnswer}
-use Rattle.engine_calls.specs.Clauses.{EveryComing, IsNewLine}
-use Rattle.engine_calls.specs.Parts.{behind_first}
-use Rattle.engine_calls.specs.Refused.{IsRefusal, TakesRows, refused_by}
-use Rattle.engine_trait.specs.Calls.{call_behind, is_half_done}
-use Rattle.engine_trait.specs.Limits.{limits}
-use Rattle.engine_trait.specs.Refusals.{IsRefusedFor, refusal_in}
-use Rattle.engine_trait.specs.Rooms.{IsNextRoom, MakesItsRoom, MakesRoom}
-use Rattle.key_locks.specs.declared.mode.Mode.{Mode}
-use Rattle.key_locks.specs.Rows.{event_mode}
+use Rattle.paged_desks.specs.core_calls.Deeds.{marks_by}
+use Rattle.paged_desks.specs.core_calls.Fronts.{Done, front, outcomes}
+use Rattle.paged_desks.specs.core_calls.LogEvents.{IsPressedYet, IsTight, RefusedLogs, SyncsWhere}
+use Rattle.paged_desks.specs.core_calls.Marks.{is_half}
+use Rattle.paged_desks.specs.core_calls.Refusals.{IsCause}
+use Rattle.paged_desks.specs.core_calls.Runs.{EachTells}
+use Rattle.paged_desks.specs.core_calls.Scans.{StopsOnWay}
+use Rattle.paged_desks.specs.core_calls.Steps.{TakesRow, Tries, is_step, is_structure}
+use Rattle.paged_desks.specs.core_state.Events as happening
+use Rattle.paged_desks.specs.core_state.Openings.{Opening}
+use Rattle.paged_desks.specs.core_state.States.{State}
+use Rattle.paged_desks.specs.core_state.Steps.{AllMet, state_after, step}
+use Rattle.paged_desks.specs.disk_runs.Stands.{Stands}
+use Rattle.paged_desks.proofs.engine_calls.MarkLemmas.{keep_none}
+use Rattle.paged_desks.specs.engine_calls.Answers.{EveryAnswer}
+use Rattle.paged_desks.specs.engine_calls.Clauses.{EveryComing, IsNewLine}
+use Rattle.paged_desks.specs.engine_calls.Parts.{behind_first}
+use Rattle.paged_desks.specs.engine_calls.Refused.{IsRefusal, TakesRows, refused_by}
+use Rattle.paged_desks.specs.engine_trait.Calls.{call_behind, is_half_done}
+use Rattle.paged_desks.specs.engine_trait.Limits.{limits}
+use Rattle.paged_desks.specs.engine_trait.Refusals.{IsRefusedFor, refusal_in}
+use Rattle.paged_desks.specs.engine_trait.Rooms.{IsNextRoom, MakesItsRoom, MakesRoom}
+use Rattle.paged_desks.specs.key_locks.declared.mode.Mode.{Mode}
+use Rattle.paged_desks.specs.key_locks.Rows.{event_mode}
 use Rattle.lean_disk.specs.Story.{IsLawful, Story}
-use Rattle.btree_descent.specs.row_words.declared.event.Event.TheVariants as told
-use Rattle.btree_descent.specs.row_words.Moments.{events_of, mode_of}
-use Rattle.btree_descent.specs.rows_trait.declared.view.View.{View}
-use Rattle.btree_descent.specs.rows_trait.Views.{Shape, state}
-use Rattle.session_desks.proofs.DeskLemmas.{desk_own}
-use Rattle.session_desks.proofs.SeatLemmas.{holds_of, turn_high, turn_low}
-use Rattle.session_desks.specs.Desks.{desk_of}
-use Rattle.session_desks.specs.Parts.{AreAsMany, HasLogs, here, shape}
-use Rattle.session_desks.specs.declared.desk.Desk.{Desk}
-use Rattle.session_state.specs.Holds.{Holds}
-use Rattle.session_state.specs.Ties.{Behind}
-use Rattle.session_state.specs.declared.session.Session.{Session}
-use Rattle.disk_runs.specs.worker_log.Logs.{Log}
-use Rattle.call_parts.proofs.EndLemmas.{most_least}
-use Rattle.call_parts.proofs.RunLemmas.{behind_more, core_is}
-use Rattle.call_parts.specs.Deeds.{Fails}
-use Rattle.call_parts.specs.Memory.{Memory}
-use Rattle.call_parts.specs.Parts.{Failed, Part}
-use Rattle.call_parts.specs.Rooms.{AreRoom, IsRoomFor, looks}
+use Rattle.paged_desks.specs.row_words.declared.event.Event.TheVariants as told
+use Rattle.paged_desks.specs.row_words.Moments.{events_of, mode_of}
+use Rattle.paged_desks.specs.rows_trait.declared.view.View.{View}
+use Rattle.paged_desks.specs.rows_trait.Views.{Shape, state}
+use Rattle.paged_desks.proofs.session_desks.DeskLemmas.{desk_own}
+use Rattle.paged_desks.proofs.session_desks.SeatLemmas.{holds_of, turn_high, turn_low}
+use Rattle.paged_desks.specs.session_desks.Desks.{desk_of}
+use Rattle.paged_desks.specs.session_desks.Parts.{AreAsMany, HasLogs, here, shape}
+use Rattle.paged_desks.specs.session_desks.declared.desk.Desk.{Desk}
+use Rattle.paged_desks.specs.session_state.Holds.{Holds}
+use Rattle.paged_desks.specs.session_state.Ties.{Behind}
+use Rattle.paged_desks.specs.session_state.declared.session.Session.{Session}
+use Rattle.paged_desks.specs.worker_log.Logs.{Log}
+use Rattle.paged_desks.proofs.call_parts.EndLemmas.{most_least}
+use Rattle.paged_desks.proofs.call_parts.RunLemmas.{behind_more, core_is}
+use Rattle.paged_desks.specs.call_parts.Deeds.{Fails}
+use Rattle.paged_desks.specs.call_parts.Memory.{Memory}
+use Rattle.paged_desks.specs.call_parts.Parts.{Failed, Part}
+use Rattle.paged_desks.specs.call_parts.Rooms.{AreRoom, IsRoomFor, looks}
 use Rattle.paged_desks.specs.Machines.{IsReady, memory, view_of}
 use Rattle.paged_desks.specs.Parts.{IsSpent, StandsNowhere, most_a_way}
 use Rattle.paged_desks.specs.declared.machine.PagedMachine.{PagedMachine}

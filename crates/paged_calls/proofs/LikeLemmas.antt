@@ -3,23 +3,23 @@ use Rattle.std.proofs.Common.{◌≡◌, ◌∙◌, ◌⊎◌, inl, inr, ◌||�
 use Rattle.std.proofs.lemmas.Bool.{and_from, and_parts, eq-eqb}
 use Rattle.map_model.proofs.ListLemmas.{at_upd}
 use Rattle.map_model.specs.Lists.{all, any}
-use Rattle.cold_pages.specs.Laws.{IsButEntries}
-use Rattle.btree_descent.proofs.core_commit_lemmas.Fetched.{fetch_is}
-use Rattle.btree_descent.specs.core_paging.Paging.{Residence}
-use Rattle.btree_descent.specs.core_state.Events as happening
-use Rattle.btree_descent.specs.core_state.Needs.{has_hot_parent, is_empty_frame, may}
-use Rattle.btree_descent.specs.core_state.Openings.{Opening}
-use Rattle.btree_descent.specs.core_state.States.{State, is_cold}
-use Rattle.btree_descent.specs.core_state.Steps.{happens, run, step, with_pairs}
-use Rattle.btree_descent.specs.image_model.Entries.{Contents}
+use Rattle.paged_desks.specs.cold_pages.Laws.{IsButEntries}
+use Rattle.paged_desks.proofs.core_commit.Fetched.{fetch_is}
+use Rattle.paged_desks.specs.core_paging.Paging.{Residence}
+use Rattle.paged_desks.specs.core_state.Events as happening
+use Rattle.paged_desks.specs.core_state.Needs.{has_hot_parent, is_empty_frame, may}
+use Rattle.paged_desks.specs.core_state.Openings.{Opening}
+use Rattle.paged_desks.specs.core_state.States.{State, is_cold}
+use Rattle.paged_desks.specs.core_state.Steps.{happens, run, step, with_pairs}
+use Rattle.paged_desks.specs.image_model.Entries.{Contents}
 use Rattle.page_model.specs.Nodes.{Node, is_leaf}
 use Rattle.page_model.specs.Pairs.{Pair}
-use Rattle.page_provider.proofs.Fetched.{buts_fetched}
-use Rattle.page_provider.proofs.Kept.{but_none}
-use Rattle.btree_descent.specs.row_words.declared.event.Event.{Event}
-use Rattle.btree_descent.specs.row_words.Moments.{event_of, events_of}
-use Rattle.call_parts.specs.Deeds.{is_fetch}
-use Rattle.call_parts.specs.Rooms.{is_paging}
+use Rattle.paged_desks.proofs.page_provider.Fetched.{buts_fetched}
+use Rattle.paged_desks.proofs.page_provider.Kept.{but_none}
+use Rattle.paged_desks.specs.row_words.declared.event.Event.{Event}
+use Rattle.paged_desks.specs.row_words.Moments.{event_of, events_of}
+use Rattle.paged_desks.specs.call_parts.Deeds.{is_fetch}
+use Rattle.paged_desks.specs.call_parts.Rooms.{is_paging}
 use Rattle.paged_calls.specs.Growths.{AreLike}
 
 -- ## One page

@@ -3,34 +3,34 @@ use Rattle.std.proofs.Common.{◌≡◌, ◌∙◌, ◌⊎◌, inl, inr, ◌≤�
 use Rattle.std.proofs.lemmas.Bool.{and_from, and_parts}
 use Rattle.std.proofs.lemmas.List.{length-append}
 use Rattle.map_model.specs.Lists.{all, any}
-use Rattle.core_calls.proofs.WhereLemmas.{syncs_more}
-use Rattle.core_calls.specs.Fronts.{Done, front}
-use Rattle.core_calls.specs.LogEvents.{IsTight, SyncsWhere}
-use Rattle.core_calls.specs.Steps.{is_structure}
-use Rattle.btree_descent.specs.core_paging.Paging.{EveryResidence, Residence}
-use Rattle.btree_descent.proofs.core_state_lemmas.Runs.{run_more}
-use Rattle.btree_descent.specs.core_state.Events as happening
-use Rattle.btree_descent.specs.core_state.Openings.{Opening}
-use Rattle.btree_descent.specs.core_state.States.{State}
-use Rattle.btree_descent.specs.core_state.States.{start as core_start}
-use Rattle.btree_descent.specs.core_state.Steps as core
-use Rattle.btree_descent.specs.core_state.Steps.{AllMet}
-use Rattle.engine_calls.proofs.MarkLemmas.{any_append}
-use Rattle.engine_calls.specs.Parts.{behind_first}
-use Rattle.engine_trait.specs.Rooms.{IsNextRoom, MakesRoom}
+use Rattle.paged_desks.proofs.core_calls.WhereLemmas.{syncs_more}
+use Rattle.paged_desks.specs.core_calls.Fronts.{Done, front}
+use Rattle.paged_desks.specs.core_calls.LogEvents.{IsTight, SyncsWhere}
+use Rattle.paged_desks.specs.core_calls.Steps.{is_structure}
+use Rattle.paged_desks.specs.core_paging.Paging.{EveryResidence, Residence}
+use Rattle.paged_desks.proofs.core_state.Runs.{run_more}
+use Rattle.paged_desks.specs.core_state.Events as happening
+use Rattle.paged_desks.specs.core_state.Openings.{Opening}
+use Rattle.paged_desks.specs.core_state.States.{State}
+use Rattle.paged_desks.specs.core_state.States.{start as core_start}
+use Rattle.paged_desks.specs.core_state.Steps as core
+use Rattle.paged_desks.specs.core_state.Steps.{AllMet}
+use Rattle.paged_desks.proofs.engine_calls.MarkLemmas.{any_append}
+use Rattle.paged_desks.specs.engine_calls.Parts.{behind_first}
+use Rattle.paged_desks.specs.engine_trait.Rooms.{IsNextRoom, MakesRoom}
 use Rattle.lean_disk.specs.Story.{IsLawful, Story}
-use Rattle.page_pool.specs.Counts.{hot_pages}
-use Rattle.btree_descent.specs.row_words.declared.event.Event.{Event}
-use Rattle.btree_descent.specs.row_words.declared.event.Event.TheVariants as told
-use Rattle.btree_descent.specs.row_words.Moments.{event_of, events_of}
-use Rattle.btree_descent.specs.row_words.Openings.{opening}
-use Rattle.btree_descent.specs.rows_trait.Views.{after_all}
-use Rattle.session_state.proofs.Moments.{events_more}
-use Rattle.session_state.specs.Ties.{Behind}
-use Rattle.session_state.specs.declared.session.Session.{Session}
-use Rattle.call_parts.proofs.RunLemmas.{behind_more, first_more, front_is}
-use Rattle.call_parts.specs.Parts.{Part}
-use Rattle.call_parts.specs.Rooms.{is_paging as pages_come}
+use Rattle.paged_desks.specs.page_pool.Counts.{hot_pages}
+use Rattle.paged_desks.specs.row_words.declared.event.Event.{Event}
+use Rattle.paged_desks.specs.row_words.declared.event.Event.TheVariants as told
+use Rattle.paged_desks.specs.row_words.Moments.{event_of, events_of}
+use Rattle.paged_desks.specs.row_words.Openings.{opening}
+use Rattle.paged_desks.specs.rows_trait.Views.{after_all}
+use Rattle.paged_desks.proofs.session_state.Moments.{events_more}
+use Rattle.paged_desks.specs.session_state.Ties.{Behind}
+use Rattle.paged_desks.specs.session_state.declared.session.Session.{Session}
+use Rattle.paged_desks.proofs.call_parts.RunLemmas.{behind_more, first_more, front_is}
+use Rattle.paged_desks.specs.call_parts.Parts.{Part}
+use Rattle.paged_desks.specs.call_parts.Rooms.{is_paging as pages_come}
 use Rattle.paged_desks.specs.Machines.{memory, view_of}
 use Rattle.paged_desks.specs.Pages.{ArePaging, hot_in, is_paging}
 use Rattle.paged_desks.specs.Parts.{HasGone}

@@ -1,30 +1,30 @@
 -- What the pieces of a call did, as parts of it.
 use Rattle.std.proofs.Common.{◌≡◌, ◌∙◌, ◌%◌, ◌++◌, ◌&&◌, ℕ, Bool, true, List, [], ◌∷◌, Option, ap, refl, sym, subst, append-nil}
-use Rattle.core_calls.specs.Fronts.{Done}
-use Rattle.btree_descent.specs.core_state.Events as happening
-use Rattle.btree_descent.specs.core_state.Needs.{may}
-use Rattle.btree_descent.specs.core_state.Openings.{Opening}
-use Rattle.disk_runs.specs.Quiet.{is_quiet}
-use Rattle.engine_calls.proofs.MoveLemmas.{every_move}
-use Rattle.key_locks.specs.declared.mode.Mode.{Mode}
-use Rattle.key_locks.specs.declared.mode.Mode.TheVariants as modes
-use Rattle.key_locks.specs.Rows.{event_mode}
+use Rattle.paged_desks.specs.core_calls.Fronts.{Done}
+use Rattle.paged_desks.specs.core_state.Events as happening
+use Rattle.paged_desks.specs.core_state.Needs.{may}
+use Rattle.paged_desks.specs.core_state.Openings.{Opening}
+use Rattle.paged_desks.specs.disk_runs.Quiet.{is_quiet}
+use Rattle.paged_desks.proofs.engine_calls.MoveLemmas.{every_move}
+use Rattle.paged_desks.specs.key_locks.declared.mode.Mode.{Mode}
+use Rattle.paged_desks.specs.key_locks.declared.mode.Mode.TheVariants as modes
+use Rattle.paged_desks.specs.key_locks.Rows.{event_mode}
 use Rattle.lean_disk.specs.Story.{IsLawful, Story}
-use Rattle.row_opening.specs.Openings.{Opens}
-use Rattle.btree_descent.specs.row_words.declared.event.Event.{Event}
-use Rattle.btree_descent.specs.row_words.declared.event.Event.TheVariants as told
-use Rattle.btree_descent.specs.row_words.declared.given.Given.{Given}
-use Rattle.btree_descent.specs.row_words.Moments.{event_of, events_of}
-use Rattle.btree_descent.specs.row_words.Openings.{opening}
-use Rattle.btree_descent.specs.rows_trait.declared.view.View.{View}
-use Rattle.btree_descent.specs.rows_trait.Views.{state}
-use Rattle.session_state.specs.Ties.{Behind}
-use Rattle.session_state.specs.declared.session.Session.{Session}
-use Rattle.call_parts.proofs.JoinLemmas.{every_join}
-use Rattle.call_parts.proofs.StepLemmas.{every_step}
-use Rattle.call_parts.specs.Laws.{EveryJoin, EveryStep}
-use Rattle.call_parts.specs.Memory.{Memory}
-use Rattle.call_parts.specs.Parts.{Failed, Part}
+use Rattle.paged_desks.specs.row_opening.Openings.{Opens}
+use Rattle.paged_desks.specs.row_words.declared.event.Event.{Event}
+use Rattle.paged_desks.specs.row_words.declared.event.Event.TheVariants as told
+use Rattle.paged_desks.specs.row_words.declared.given.Given.{Given}
+use Rattle.paged_desks.specs.row_words.Moments.{event_of, events_of}
+use Rattle.paged_desks.specs.row_words.Openings.{opening}
+use Rattle.paged_desks.specs.rows_trait.declared.view.View.{View}
+use Rattle.paged_desks.specs.rows_trait.Views.{state}
+use Rattle.paged_desks.specs.session_state.Ties.{Behind}
+use Rattle.paged_desks.specs.session_state.declared.session.Session.{Session}
+use Rattle.paged_desks.proofs.call_parts.JoinLemmas.{every_join}
+use Rattle.paged_desks.proofs.call_parts.StepLemmas.{every_step}
+use Rattle.paged_desks.specs.call_parts.Laws.{EveryJoin, EveryStep}
+use Rattle.paged_desks.specs.call_parts.Memory.{Memory}
+use Rattle.paged_desks.specs.call_parts.Parts.{Failed, Part}
 use Rattle.paged_desks.specs.Machines.{memory, view_of}
 use Rattle.paged_desks.specs.declared.machine.PagedMachine.{PagedMachine}
 use Rattle.row_changes.specs.Reads.{HasRead}

@@ -1,20 +1,20 @@
 -- A machine behind a piece of a call, by the piece's answer.
 use Rattle.std.proofs.Common.{◌≡◌, ◌∙◌, ◌%◌, ℕ, true, Option, Result, Ok, Err, OnOk, IfErr, ap}
-use Rattle.key_locks.specs.declared.mode.Mode.{Mode}
-use Rattle.key_locks.specs.Rows.{event_mode}
+use Rattle.paged_desks.specs.key_locks.declared.mode.Mode.{Mode}
+use Rattle.paged_desks.specs.key_locks.Rows.{event_mode}
 use Rattle.lean_disk.specs.Story.{Story}
 use Rattle.map_model.specs.declared.call.Refusal.{Refusal}
 use Rattle.map_model.specs.declared.call.Refusal.TheVariants as refusal
 use Rattle.row_changes.specs.Reads.{Reads}
 use Rattle.row_changes.specs.Takes.{NotTaken, Takes}
 use Rattle.row_changes.specs.declared.ways.Cold.{Cold}
-use Rattle.btree_descent.specs.row_words.declared.event.Event.TheVariants as told
-use Rattle.session_desks.specs.Parts.{SeatFits, shape}
-use Rattle.session_state.proofs.OtherLemmas.{is_own, no_steps, one_step}
-use Rattle.session_state.specs.Holds.{Holds as HoldsSession}
-use Rattle.session_state.specs.Others.{EveryOther}
-use Rattle.session_state.specs.Staging.{IsButClock}
-use Rattle.session_state.specs.declared.session.Session.{Session}
+use Rattle.paged_desks.specs.row_words.declared.event.Event.TheVariants as told
+use Rattle.paged_desks.specs.session_desks.Parts.{SeatFits, shape}
+use Rattle.paged_desks.proofs.session_state.OtherLemmas.{is_own, no_steps, one_step}
+use Rattle.paged_desks.specs.session_state.Holds.{Holds as HoldsSession}
+use Rattle.paged_desks.specs.session_state.Others.{EveryOther}
+use Rattle.paged_desks.specs.session_state.Staging.{IsButClock}
+use Rattle.paged_desks.specs.session_state.declared.session.Session.{Session}
 use Rattle.paged_desks.specs.Machines.{IsReady, view_of}
 use Rattle.paged_desks.specs.declared.machine.PagedMachine.{PagedMachine}
 use Rattle.paged_calls.specs.Steps.{HasNotTaken, HasTaken, Holds}

@@ -2,7 +2,7 @@
 use Rattle.std.proofs.Common.{◌≡◌, ◌⊎◌, inl, inr, ℕ, Option, Result, Ok, Err, IfErr, IsErrAnd, refl, subst}
 use Rattle.map_model.specs.declared.call.Refusal.{Refusal}
 use Rattle.map_model.specs.declared.call.Refusal.TheVariants as refusal
-use Rattle.engine_trait.specs.Calls.{MayCome}
+use Rattle.paged_desks.specs.engine_trait.Calls.{MayCome}
 use Rattle.lean_disk.specs.Faults.{HasCause}
 use Rattle.lean_disk.specs.Story.{Story}
 use Rattle.row_changes.specs.declared.ways.Unmade.{Unmade}

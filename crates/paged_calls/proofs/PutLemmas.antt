@@ -5,28 +5,28 @@ use Rattle.map_model.specs.declared.call.Answer.TheVariants as answer
 use Rattle.map_model.specs.declared.call.Call.TheVariants as call
 use Rattle.map_model.specs.declared.call.Refusal.{Refusal}
 use Rattle.map_model.specs.declared.call.Refusal.TheVariants as refusal
-use Rattle.core_calls.specs.Fronts.{Done, front}
-use Rattle.core_calls.specs.LogEvents.{IsPressedYet, SyncsWhere}
-use Rattle.btree_descent.specs.core_paging.Paging.{EveryResidence}
-use Rattle.btree_descent.specs.core_state.Events as happening
-use Rattle.btree_descent.specs.core_state.Openings.{Opening}
-use Rattle.btree_descent.specs.core_state.Steps.{state_after}
-use Rattle.engine_calls.specs.Answers.{EveryAnswer}
-use Rattle.engine_calls.specs.Clauses.{EveryComing}
-use Rattle.engine_trait.specs.Refusals.{clock_refusal}
-use Rattle.key_locks.specs.declared.mode.Mode.TheVariants.{Alone}
+use Rattle.paged_desks.specs.core_calls.Fronts.{Done, front}
+use Rattle.paged_desks.specs.core_calls.LogEvents.{IsPressedYet, SyncsWhere}
+use Rattle.paged_desks.specs.core_paging.Paging.{EveryResidence}
+use Rattle.paged_desks.specs.core_state.Events as happening
+use Rattle.paged_desks.specs.core_state.Openings.{Opening}
+use Rattle.paged_desks.specs.core_state.Steps.{state_after}
+use Rattle.paged_desks.specs.engine_calls.Answers.{EveryAnswer}
+use Rattle.paged_desks.specs.engine_calls.Clauses.{EveryComing}
+use Rattle.paged_desks.specs.engine_trait.Refusals.{clock_refusal}
+use Rattle.paged_desks.specs.key_locks.declared.mode.Mode.TheVariants.{Alone}
 use Rattle.lean_disk.specs.Story.{IsLawful, Story}
-use Rattle.page_pool.specs.Counts.{EveryFrame}
+use Rattle.paged_desks.specs.page_pool.Counts.{EveryFrame}
 use Rattle.row_changes.proofs.StepLemmas.{clock_at_end}
 use Rattle.row_changes.specs.Puts.{IsChanged}
-use Rattle.btree_descent.specs.row_words.Moments.{events_of}
-use Rattle.session_desks.proofs.DeskLemmas.{desk_own}
-use Rattle.session_desks.specs.Parts.{here}
-use Rattle.session_desks.specs.declared.desk.Desk.{Desk}
-use Rattle.session_state.specs.Staging.{KeepsLog}
-use Rattle.session_state.specs.declared.session.Session.{Session}
-use Rattle.disk_runs.specs.worker_log.Logs.{Log}
-use Rattle.call_parts.specs.Deeds.{Fails}
+use Rattle.paged_desks.specs.row_words.Moments.{events_of}
+use Rattle.paged_desks.proofs.session_desks.DeskLemmas.{desk_own}
+use Rattle.paged_desks.specs.session_desks.Parts.{here}
+use Rattle.paged_desks.specs.session_desks.declared.desk.Desk.{Desk}
+use Rattle.paged_desks.specs.session_state.Staging.{KeepsLog}
+use Rattle.paged_desks.specs.session_state.declared.session.Session.{Session}
+use Rattle.paged_desks.specs.worker_log.Logs.{Log}
+use Rattle.paged_desks.specs.call_parts.Deeds.{Fails}
 use Rattle.paged_desks.proofs.Doing.{hot_few}
 use Rattle.paged_desks.proofs.EndingLemmas.{Grounds}
 use Rattle.paged_desks.proofs.StandLemmas.{halves_are}

@@ -4,16 +4,16 @@ use Rattle.std.proofs.lemmas.Bool.{and_from, and_parts, eq-eqb}
 use Rattle.map_model.specs.Lists.{Has}
 use Rattle.map_model.specs.declared.call.Refusal.{Refusal}
 use Rattle.map_model.specs.declared.call.Refusal.TheVariants as refusal
-use Rattle.core_calls.specs.Warms.{IsWarmFrom}
-use Rattle.core_calls.specs.Room.{EveryRoom, free_list, is_full_at, room_takes}
-use Rattle.btree_descent.specs.core_paging.Paging.{EveryResidence, Residence}
-use Rattle.btree_descent.specs.core_state.Needs.{is_held_by}
-use Rattle.btree_descent.specs.core_state.Openings.{Opening}
-use Rattle.btree_descent.specs.core_state.States.{State}
-use Rattle.btree_descent.specs.core_state.Steps as core
+use Rattle.paged_desks.specs.core_calls.Warms.{IsWarmFrom}
+use Rattle.paged_desks.specs.core_calls.Room.{EveryRoom, free_list, is_full_at, room_takes}
+use Rattle.paged_desks.specs.core_paging.Paging.{EveryResidence, Residence}
+use Rattle.paged_desks.specs.core_state.Needs.{is_held_by}
+use Rattle.paged_desks.specs.core_state.Openings.{Opening}
+use Rattle.paged_desks.specs.core_state.States.{State}
+use Rattle.paged_desks.specs.core_state.Steps as core
 use Rattle.lean_disk.specs.Story.{IsLawful, Story}
 use Rattle.page_model.specs.Nodes.{covers, is_leaf}
-use Rattle.page_pool.specs.Pools.{EveryStanding}
+use Rattle.paged_desks.specs.page_pool.Pools.{EveryStanding}
 use Rattle.row_changes.proofs.TakesLemmas.{takes_most}
 use Rattle.row_changes.specs.Paths.{IsUnfit}
 use Rattle.row_changes.specs.Puts.{IsChanged, MayChange, works_behind}
@@ -25,29 +25,29 @@ use Rattle.row_growth.specs.Rooms.{frame_among}
 use Rattle.row_growth.specs.declared.room.Placed.{Placed}
 use Rattle.row_growth.specs.declared.steps.Stepped.{Stepped}
 use Rattle.row_growth.specs.declared.steps.Stepped.TheVariants as stepped
-use Rattle.paged_rows.specs.Paged.{IsWarm}
-use Rattle.btree_descent.proofs.row_words_lemmas.SealedLemmas.{run_append}
-use Rattle.btree_descent.specs.row_words.declared.event.Event.{Event}
-use Rattle.btree_descent.specs.row_words.declared.given.Given.{Given}
-use Rattle.btree_descent.specs.row_words.Moments.{Moment, events_of}
-use Rattle.btree_descent.specs.row_words.Sealed.{begun}
-use Rattle.btree_descent.specs.row_words.Openings.{opening}
-use Rattle.btree_descent.specs.rows_trait.Views.{after_all, state}
-use Rattle.session_desks.proofs.SeatLemmas.{holds_of}
-use Rattle.session_desks.specs.Parts.{SeatFits, here, shape}
-use Rattle.session_state.proofs.Moments.{seen_state}
-use Rattle.session_state.proofs.OtherLemmas.{no_steps}
-use Rattle.session_state.proofs.UndoLemmas.{room_to_stage}
-use Rattle.session_state.specs.Free.{first_of}
-use Rattle.session_state.specs.Holds.{Holds, IsSameSession}
-use Rattle.session_state.specs.Others.{EveryOther}
-use Rattle.session_state.specs.Staging.{KeepsLog}
-use Rattle.session_state.specs.Undo.{HasRoomToStage}
-use Rattle.engine_trait.specs.Refusals.{room_refusal}
-use Rattle.session_state.specs.declared.session.Session.{Session}
-use Rattle.session_state.specs.declared.work.Work.{Work}
-use Rattle.disk_runs.specs.worker_log.Logs.{Log}
-use Rattle.call_parts.proofs.RunLemmas.{behind_more, run_core}
+use Rattle.paged_desks.specs.paged_rows.Paged.{IsWarm}
+use Rattle.paged_desks.proofs.row_words.SealedLemmas.{run_append}
+use Rattle.paged_desks.specs.row_words.declared.event.Event.{Event}
+use Rattle.paged_desks.specs.row_words.declared.given.Given.{Given}
+use Rattle.paged_desks.specs.row_words.Moments.{Moment, events_of}
+use Rattle.paged_desks.specs.row_words.Sealed.{begun}
+use Rattle.paged_desks.specs.row_words.Openings.{opening}
+use Rattle.paged_desks.specs.rows_trait.Views.{after_all, state}
+use Rattle.paged_desks.proofs.session_desks.SeatLemmas.{holds_of}
+use Rattle.paged_desks.specs.session_desks.Parts.{SeatFits, here, shape}
+use Rattle.paged_desks.proofs.session_state.Moments.{seen_state}
+use Rattle.paged_desks.proofs.session_state.OtherLemmas.{no_steps}
+use Rattle.paged_desks.proofs.session_state.UndoLemmas.{room_to_stage}
+use Rattle.paged_desks.specs.session_state.Free.{first_of}
+use Rattle.paged_desks.specs.session_state.Holds.{Holds, IsSameSession}
+use Rattle.paged_desks.specs.session_state.Others.{EveryOther}
+use Rattle.paged_desks.specs.session_state.Staging.{KeepsLog}
+use Rattle.paged_desks.specs.session_state.Undo.{HasRoomToStage}
+use Rattle.paged_desks.specs.engine_trait.Refusals.{room_refusal}
+use Rattle.paged_desks.specs.session_state.declared.session.Session.{Session}
+use Rattle.paged_desks.specs.session_state.declared.work.Work.{Work}
+use Rattle.paged_desks.specs.worker_log.Logs.{Log}
+use Rattle.paged_desks.proofs.call_parts.RunLemmas.{behind_more, run_core}
 use Rattle.paged_desks.proofs.EndingLemmas.{Grounds}
 use Rattle.paged_desks.proofs.StandLemmas.{looked_same, ready_on}
 use Rattle.paged_desks.specs.Calls.{IsAside}

@@ -2,50 +2,50 @@
 use Rattle.std.proofs.Common.{◌≡◌, ◌∙◌, ◌≤◌, ◌<◌, ◌+◌, ◌==◌, ◌||◌, ◌++◌, ◌^◌, ◌⊎◌, inl, inr, ℕ, suc, true, false, IsTrue, List, [], ◌∷◌, Global, Vec, Option, length, ap, refl, sym, subst, arith, true≢false}
 use Rattle.std.proofs.lemmas.Bool.{and_parts, cases_eq, cases_lt, cond-false, ne_eqb}
 use Rattle.map_model.specs.Lists.{Has}
-use Rattle.btree_descent.specs.core_paging.Paging.{Waiting}
-use Rattle.btree_descent.specs.core_state.Events as happening
-use Rattle.btree_descent.specs.core_state.Needs.{are_hot, may, needs}
-use Rattle.btree_descent.specs.core_state.Openings.{Opening}
-use Rattle.btree_descent.specs.core_state.States.{Place, State, Worker, epoch_of, in_frame, is_cold, is_cooling, is_hot, waits_for}
-use Rattle.btree_descent.specs.core_state.Steps.{at_pages, happens, write_entry}
-use Rattle.btree_descent.specs.Known.{IsSound as IsSoundTree}
-use Rattle.disk_runs.specs.disk_slots.declared.master.Master.{Master}
-use Rattle.btree_descent.specs.image_model.Entries.{Contents, Entry, Kind, is_record, touches, written}
+use Rattle.paged_desks.specs.core_paging.Paging.{Waiting}
+use Rattle.paged_desks.specs.core_state.Events as happening
+use Rattle.paged_desks.specs.core_state.Needs.{are_hot, may, needs}
+use Rattle.paged_desks.specs.core_state.Openings.{Opening}
+use Rattle.paged_desks.specs.core_state.States.{Place, State, Worker, epoch_of, in_frame, is_cold, is_cooling, is_hot, waits_for}
+use Rattle.paged_desks.specs.core_state.Steps.{at_pages, happens, write_entry}
+use Rattle.paged_desks.specs.btree_descent.Known.{IsSound as IsSoundTree}
+use Rattle.paged_desks.specs.disk_slots.declared.master.Master.{Master}
+use Rattle.paged_desks.specs.image_model.Entries.{Contents, Entry, Kind, is_record, touches, written}
 use Rattle.lean_disk.specs.Area.{Area}
 use Rattle.lean_disk.specs.Moments.{Framed}
 use Rattle.lean_disk.specs.Story.{Story, Tells}
-use Rattle.btree_descent.specs.lean_proto.Still.{Stood}
-use Rattle.disk_runs.specs.log_block.Block.{records_text}
-use Rattle.btree_descent.specs.log_record.declared.record.Record.{Record}
-use Rattle.page_calls.specs.Mirrors.{HoldsLast, Mirrors}
-use Rattle.disk_runs.specs.page_store.Saved.{Reaches}
-use Rattle.page_pool.specs.Pools.{EveryStanding}
-use Rattle.page_provider.proofs.Kept.{kept_same}
-use Rattle.page_provider.specs.Mirrored.{IsMirrored}
-use Rattle.page_provider.specs.Providers.{IsKept, Keeps, Provider, pool}
+use Rattle.paged_desks.specs.lean_proto.Still.{Stood}
+use Rattle.paged_desks.specs.log_block.Block.{records_text}
+use Rattle.paged_desks.specs.log_record.declared.record.Record.{Record}
+use Rattle.paged_desks.specs.page_calls.Mirrors.{HoldsLast, Mirrors}
+use Rattle.paged_desks.specs.page_store.Saved.{Reaches}
+use Rattle.paged_desks.specs.page_pool.Pools.{EveryStanding}
+use Rattle.paged_desks.proofs.page_provider.Kept.{kept_same}
+use Rattle.paged_desks.specs.page_provider.Mirrored.{IsMirrored}
+use Rattle.paged_desks.specs.page_provider.Providers.{IsKept, Keeps, Provider, pool}
 use Rattle.row_changes.proofs.SeenLemmas.{seen_core}
-use Rattle.btree_descent.specs.row_words.declared.event.Event.{Event}
-use Rattle.btree_descent.specs.row_words.declared.event.Event.TheVariants as told
-use Rattle.btree_descent.specs.row_words.declared.given.Given.{Given}
-use Rattle.btree_descent.specs.row_words.Moments.{event_of}
-use Rattle.btree_descent.specs.row_words.Openings.{opening}
-use Rattle.btree_descent.specs.rows_trait.declared.view.View.{View}
-use Rattle.btree_descent.specs.rows_trait.Views.{Shape, after_all, state}
-use Rattle.session_desks.proofs.DeskLemmas.{desk_own}
-use Rattle.session_desks.proofs.MachineLemmas.{machine_behind}
-use Rattle.session_desks.proofs.SeatLemmas.{holds_of, turn_high, turn_low}
-use Rattle.session_desks.specs.Machines.{IsLogged, IsMachine}
-use Rattle.session_desks.specs.Parts.{HasLogs, IsSound, SeatFits, here, logs, shape}
-use Rattle.session_desks.specs.Syncs.{HasOpening}
-use Rattle.session_desks.specs.declared.desk.Desk.{Desk}
-use Rattle.session_state.proofs.Moments.{acts}
-use Rattle.session_state.proofs.OtherLemmas.{is_own, one_step}
-use Rattle.session_state.proofs.StageLemmas.{staged_flushed}
-use Rattle.session_state.specs.Holds.{Holds, IsSameSession}
-use Rattle.session_state.specs.Others.{EveryOther, is_of}
-use Rattle.session_state.specs.Staging.{KeepsLog}
-use Rattle.disk_runs.specs.worker_log.Calls.{After}
-use Rattle.disk_runs.specs.worker_log.Logs.{Log}
+use Rattle.paged_desks.specs.row_words.declared.event.Event.{Event}
+use Rattle.paged_desks.specs.row_words.declared.event.Event.TheVariants as told
+use Rattle.paged_desks.specs.row_words.declared.given.Given.{Given}
+use Rattle.paged_desks.specs.row_words.Moments.{event_of}
+use Rattle.paged_desks.specs.row_words.Openings.{opening}
+use Rattle.paged_desks.specs.rows_trait.declared.view.View.{View}
+use Rattle.paged_desks.specs.rows_trait.Views.{Shape, after_all, state}
+use Rattle.paged_desks.proofs.session_desks.DeskLemmas.{desk_own}
+use Rattle.paged_desks.proofs.session_desks.MachineLemmas.{machine_behind}
+use Rattle.paged_desks.proofs.session_desks.SeatLemmas.{holds_of, turn_high, turn_low}
+use Rattle.paged_desks.specs.session_desks.Machines.{IsLogged, IsMachine}
+use Rattle.paged_desks.specs.session_desks.Parts.{HasLogs, IsSound, SeatFits, here, logs, shape}
+use Rattle.paged_desks.specs.session_desks.Syncs.{HasOpening}
+use Rattle.paged_desks.specs.session_desks.declared.desk.Desk.{Desk}
+use Rattle.paged_desks.proofs.session_state.Moments.{acts}
+use Rattle.paged_desks.proofs.session_state.OtherLemmas.{is_own, one_step}
+use Rattle.paged_desks.proofs.session_state.StageLemmas.{staged_flushed}
+use Rattle.paged_desks.specs.session_state.Holds.{Holds, IsSameSession}
+use Rattle.paged_desks.specs.session_state.Others.{EveryOther, is_of}
+use Rattle.paged_desks.specs.session_state.Staging.{KeepsLog}
+use Rattle.paged_desks.specs.worker_log.Calls.{After}
+use Rattle.paged_desks.specs.worker_log.Logs.{Log}
 use Rattle.paged_desks.specs.Machines.{IsNobodyInside, IsReady, view_of}
 use Rattle.paged_desks.specs.declared.machine.PagedMachine.{PagedMachine}
 use Rattle.paged_desks.specs.Calls.{IsAside}

@@ -1,32 +1,32 @@
 -- A key may still be changed behind the coming of pages: no flush fills a log further, and no row is touched.
 use Rattle.std.proofs.Common.{◌≡◌, ◌∙◌, ◌≤◌, ◌<◌, ◌+◌, ◌-◌, ◌%◌, ◌==◌, ◌^◌, ◌++◌, ◌⊎◌, inl, inr, ℕ, suc, Bool, true, false, cond, List, [], ◌∷◌, length, ap, refl, sym, subst, arith, true≢false}
 use Rattle.std.proofs.lemmas.Bool.{cases_eq}
-use Rattle.core_calls.specs.Room.{room_takes}
-use Rattle.btree_descent.specs.core_state.Needs.{is_held_by, may}
-use Rattle.btree_descent.specs.core_state.Openings.{Opening}
-use Rattle.btree_descent.specs.core_state.States.{State}
-use Rattle.btree_descent.specs.core_state.Steps as core
-use Rattle.btree_descent.specs.core_state.Steps.{happens}
-use Rattle.engine_trait.specs.Logs.{Logs, LogsOne}
+use Rattle.paged_desks.specs.core_calls.Room.{room_takes}
+use Rattle.paged_desks.specs.core_state.Needs.{is_held_by, may}
+use Rattle.paged_desks.specs.core_state.Openings.{Opening}
+use Rattle.paged_desks.specs.core_state.States.{State}
+use Rattle.paged_desks.specs.core_state.Steps as core
+use Rattle.paged_desks.specs.core_state.Steps.{happens}
+use Rattle.paged_desks.specs.engine_trait.Logs.{Logs, LogsOne}
 use Rattle.lean_disk.specs.Story.{Story}
 use Rattle.row_changes.proofs.TakesLemmas.{takes_most}
 use Rattle.row_changes.specs.Puts.{MayChange}
-use Rattle.btree_descent.specs.row_words.declared.event.Event.{Event}
-use Rattle.btree_descent.specs.row_words.declared.event.Event.TheVariants as told
-use Rattle.btree_descent.specs.row_words.Moments.{event_of, events_of}
-use Rattle.btree_descent.specs.row_words.Openings.{opening}
-use Rattle.btree_descent.specs.rows_trait.declared.view.View.{View}
-use Rattle.btree_descent.specs.rows_trait.Views.{state}
-use Rattle.session_desks.proofs.DeskLemmas.{desk_own}
-use Rattle.session_desks.proofs.SeatLemmas.{turn_high, turn_low}
-use Rattle.session_desks.specs.Parts.{here, logs, shape}
-use Rattle.session_desks.specs.declared.desk.Desk.{Desk}
-use Rattle.session_state.proofs.Moments.{seen_state}
-use Rattle.session_state.proofs.UndoLemmas.{room_to_stage}
-use Rattle.session_state.specs.declared.session.Session.{Session}
-use Rattle.disk_runs.specs.worker_log.Calls.{flushed_log}
-use Rattle.disk_runs.specs.worker_log.Logs.{Log, limit, used}
-use Rattle.call_parts.proofs.RunLemmas.{run_core}
+use Rattle.paged_desks.specs.row_words.declared.event.Event.{Event}
+use Rattle.paged_desks.specs.row_words.declared.event.Event.TheVariants as told
+use Rattle.paged_desks.specs.row_words.Moments.{event_of, events_of}
+use Rattle.paged_desks.specs.row_words.Openings.{opening}
+use Rattle.paged_desks.specs.rows_trait.declared.view.View.{View}
+use Rattle.paged_desks.specs.rows_trait.Views.{state}
+use Rattle.paged_desks.proofs.session_desks.DeskLemmas.{desk_own}
+use Rattle.paged_desks.proofs.session_desks.SeatLemmas.{turn_high, turn_low}
+use Rattle.paged_desks.specs.session_desks.Parts.{here, logs, shape}
+use Rattle.paged_desks.specs.session_desks.declared.desk.Desk.{Desk}
+use Rattle.paged_desks.proofs.session_state.Moments.{seen_state}
+use Rattle.paged_desks.proofs.session_state.UndoLemmas.{room_to_stage}
+use Rattle.paged_desks.specs.session_state.declared.session.Session.{Session}
+use Rattle.paged_desks.specs.worker_log.Calls.{flushed_log}
+use Rattle.paged_desks.specs.worker_log.Logs.{Log, limit, used}
+use Rattle.paged_desks.proofs.call_parts.RunLemmas.{run_core}
 use Rattle.paged_desks.specs.Machines.{IsReady, view_of}
 use Rattle.paged_desks.specs.Pages.{ArePaging, HasPaged, IsKept, is_paging}
 use Rattle.paged_desks.specs.declared.machine.PagedMachine.{PagedMachine}

@@ -2,34 +2,34 @@
 use Rattle.std.proofs.Common.{◌≡◌, ◌∙◌, ◌⊎◌, inl, inr, ◌≤◌, ◌+◌, ◌^◌, ◌%◌, ◌++◌, ℕ, suc, Bool, true, false, cond, List, [], ◌∷◌, length, Some, None, Result, Err, ◌↔◌, ap, refl, sym, subst, arith, true≢false}
 use Rattle.std.proofs.lemmas.Bool.{and_parts}
 use Rattle.std.proofs.lemmas.List.{length-append}
-use Rattle.btree_descent.specs.image_model.Entries.{Entry}
+use Rattle.paged_desks.specs.image_model.Entries.{Entry}
 use Rattle.map_model.specs.Maps.{MapAnswer}
 use Rattle.map_model.specs.declared.call.Call.TheVariants as call
 use Rattle.map_model.specs.declared.call.Refusal.{Refusal}
 use Rattle.map_model.specs.declared.call.Refusal.TheVariants as refusal
-use Rattle.core_calls.specs.Fronts.{Done, front}
-use Rattle.core_calls.specs.Refusals.{Hinders}
-use Rattle.btree_descent.specs.core_state.Events as happening
-use Rattle.btree_descent.specs.core_state.Needs.{holds_row, may, may_hold}
-use Rattle.btree_descent.specs.core_state.Openings.{Opening}
-use Rattle.btree_descent.specs.core_state.States.{State, start}
-use Rattle.btree_descent.specs.core_state.Steps.{happens, put_back, run, step}
-use Rattle.engine_calls.specs.Parts.{behind_first}
-use Rattle.engine_trait.specs.Calls.{MayCome}
-use Rattle.engine_trait.specs.Refusals.{lock_refusal, refusal_in}
-use Rattle.key_locks.specs.declared.mode.Mode.{Mode}
-use Rattle.key_locks.specs.Rows.{core_mode, event_mode}
+use Rattle.paged_desks.specs.core_calls.Fronts.{Done, front}
+use Rattle.paged_desks.specs.core_calls.Refusals.{Hinders}
+use Rattle.paged_desks.specs.core_state.Events as happening
+use Rattle.paged_desks.specs.core_state.Needs.{holds_row, may, may_hold}
+use Rattle.paged_desks.specs.core_state.Openings.{Opening}
+use Rattle.paged_desks.specs.core_state.States.{State, start}
+use Rattle.paged_desks.specs.core_state.Steps.{happens, put_back, run, step}
+use Rattle.paged_desks.specs.engine_calls.Parts.{behind_first}
+use Rattle.paged_desks.specs.engine_trait.Calls.{MayCome}
+use Rattle.paged_desks.specs.engine_trait.Refusals.{lock_refusal, refusal_in}
+use Rattle.paged_desks.specs.key_locks.declared.mode.Mode.{Mode}
+use Rattle.paged_desks.specs.key_locks.Rows.{core_mode, event_mode}
 use Rattle.row_changes.proofs.TakeLemmas.{row_is, same_mode, with_count}
 use Rattle.row_changes.specs.Takes.{IsHindered, NotTaken, Takes}
-use Rattle.btree_descent.specs.row_words.Moments.{events_of, mode_of}
-use Rattle.row_opening.specs.Openings.{EveryNeed, EveryReached}
-use Rattle.btree_descent.specs.rows_trait.declared.view.View.{View}
-use Rattle.btree_descent.specs.rows_trait.Views.{Shape, state}
-use Rattle.session_state.specs.Holds.{AreRows}
-use Rattle.session_state.specs.Ties.{Behind}
-use Rattle.session_state.specs.declared.session.Session.{Session}
-use Rattle.disk_runs.specs.worker_log.Logs.{Log}
-use Rattle.call_parts.proofs.RunLemmas.{core_is, front_is}
+use Rattle.paged_desks.specs.row_words.Moments.{events_of, mode_of}
+use Rattle.paged_desks.specs.row_opening.Openings.{EveryNeed, EveryReached}
+use Rattle.paged_desks.specs.rows_trait.declared.view.View.{View}
+use Rattle.paged_desks.specs.rows_trait.Views.{Shape, state}
+use Rattle.paged_desks.specs.session_state.Holds.{AreRows}
+use Rattle.paged_desks.specs.session_state.Ties.{Behind}
+use Rattle.paged_desks.specs.session_state.declared.session.Session.{Session}
+use Rattle.paged_desks.specs.worker_log.Logs.{Log}
+use Rattle.paged_desks.proofs.call_parts.RunLemmas.{core_is, front_is}
 use Rattle.paged_desks.specs.Parts.{IsLate}
 use Rattle.paged_desks.specs.Calls.{EndsWork, ends_work, works_behind}
 use Rattle.paged_calls.specs.Tests.{call_test, is_going}

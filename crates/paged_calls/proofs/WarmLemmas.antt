@@ -1,23 +1,23 @@
 -- A key was read behind the coming of the pages of its way.
 use Rattle.std.proofs.Common.{◌≡◌, ◌∙◌, ◌⊎◌, inl, inr, ◌%◌, ◌++◌, ℕ, Bool, true, false, [], Option, Result, Ok, Err, ap, refl, sym, subst, arith, true≢false}
 use Rattle.map_model.specs.Lists.{Has}
-use Rattle.core_calls.specs.Fronts.{front}
+use Rattle.paged_desks.specs.core_calls.Fronts.{front}
 use Rattle.lean_disk.specs.Faults.{HasCause}
 use Rattle.lean_disk.specs.Story.{IsLawful, Story}
-use Rattle.call_parts.specs.Memory.{IsOf, Memory}
-use Rattle.call_parts.specs.Parts.{Part}
-use Rattle.disk_runs.specs.Stands.{Stands}
+use Rattle.paged_desks.specs.call_parts.Memory.{IsOf, Memory}
+use Rattle.paged_desks.specs.call_parts.Parts.{Part}
+use Rattle.paged_desks.specs.disk_runs.Stands.{Stands}
 use Rattle.row_changes.specs.Reads.{HasRead}
 use Rattle.row_changes.specs.Ways.{HasMetCold}
-use Rattle.session_desks.proofs.DeskLemmas.{desk_own}
-use Rattle.session_desks.proofs.SeatLemmas.{holds_of, turn_high, turn_low}
-use Rattle.session_desks.specs.Desks.{desk_of}
-use Rattle.session_desks.specs.Parts.{SeatFits, here, shape}
-use Rattle.session_desks.specs.declared.desk.Desk.{Desk}
-use Rattle.session_state.specs.Held.{Held}
-use Rattle.session_state.specs.Holds.{Holds as HoldsSession}
-use Rattle.session_state.specs.Staging.{IsButClock}
-use Rattle.session_state.specs.declared.session.Session.{Session}
+use Rattle.paged_desks.proofs.session_desks.DeskLemmas.{desk_own}
+use Rattle.paged_desks.proofs.session_desks.SeatLemmas.{holds_of, turn_high, turn_low}
+use Rattle.paged_desks.specs.session_desks.Desks.{desk_of}
+use Rattle.paged_desks.specs.session_desks.Parts.{SeatFits, here, shape}
+use Rattle.paged_desks.specs.session_desks.declared.desk.Desk.{Desk}
+use Rattle.paged_desks.specs.session_state.Held.{Held}
+use Rattle.paged_desks.specs.session_state.Holds.{Holds as HoldsSession}
+use Rattle.paged_desks.specs.session_state.Staging.{IsButClock}
+use Rattle.paged_desks.specs.session_state.declared.session.Session.{Session}
 use Rattle.paged_desks.specs.Machines.{IsReady, memory, view_of}
 use Rattle.paged_desks.specs.Pages.{HasPaged, IsKept, goes_on}
 use Rattle.paged_desks.specs.Parts.{HasFailed, HasGone, IsSpent, StandsNowhere}

@@ -5,12 +5,12 @@ use Rattle.map_model.specs.declared.call.Refusal.TheVariants.{NoPages, TooTall}
 use Rattle.page_model.specs.Check.{some_below}
 use Rattle.page_model.specs.Nodes.{Format, Node, covers, holds, is_leaf}
 use Rattle.page_model.specs.Redo.{has_key}
-use Rattle.core_calls.specs.Room.{free_list, frees_from, full_from, full_run, is_all_full, is_full_at, room_takes}
-use Rattle.btree_descent.specs.core_state.Events.{Event}
-use Rattle.btree_descent.specs.core_state.Openings.{Opening}
-use Rattle.btree_descent.specs.core_state.States.{State, nodes_of}
-use Rattle.engine_trait.specs.Refusals.{is_full_for, room_refusal}
-use Rattle.engine_trait.specs.Rooms.{IsLeastFree, IsNextRoom}
+use Rattle.paged_desks.specs.core_calls.Room.{free_list, frees_from, full_from, full_run, is_all_full, is_full_at, room_takes}
+use Rattle.paged_desks.specs.core_state.Events.{Event}
+use Rattle.paged_desks.specs.core_state.Openings.{Opening}
+use Rattle.paged_desks.specs.core_state.States.{State, nodes_of}
+use Rattle.paged_desks.specs.engine_trait.Refusals.{is_full_for, room_refusal}
+use Rattle.paged_desks.specs.engine_trait.Rooms.{IsLeastFree, IsNextRoom}
 use Rattle.paged_calls.specs.Growths.{AreLike, HasWay}
 use Rattle.paged_calls.proofs.LikeLemmas.{like_back, like_then}
 

@@ -3,13 +3,13 @@ use Rattle.std.specs.Prelude.{◌≡◌, ◌⊎◌, ◌≤◌, ◌<◌, ◌%◌,
 use Rattle.page_model.specs.Limits.{transaction_changes}
 use Rattle.map_model.specs.declared.call.Refusal.{Refusal}
 use Rattle.map_model.specs.declared.call.Refusal.TheVariants as refusal
-use Rattle.btree_descent.specs.core_state.Needs.{is_held_by}
-use Rattle.btree_descent.specs.declared.descent.TheConstants.{TOMBSTONE}
+use Rattle.paged_desks.specs.core_state.Needs.{is_held_by}
+use Rattle.paged_desks.specs.btree_descent.declared.descent.TheConstants.{TOMBSTONE}
 use Rattle.lean_disk.specs.Story.{Story}
-use Rattle.btree_descent.specs.rows_trait.Views.{state}
-use Rattle.session_state.specs.Holds.{IsSameSession}
-use Rattle.session_state.specs.Staging.{KeepsLog}
-use Rattle.disk_runs.specs.worker_log.Logs.{limit, used}
+use Rattle.paged_desks.specs.rows_trait.Views.{state}
+use Rattle.paged_desks.specs.session_state.Holds.{IsSameSession}
+use Rattle.paged_desks.specs.session_state.Staging.{KeepsLog}
+use Rattle.paged_desks.specs.worker_log.Logs.{limit, used}
 use Rattle.row_changes.specs.Puts.{IsChanged}
 use Rattle.row_changes.specs.Reads.{HasRead}
 use Rattle.row_changes.specs.declared.ways.Unmade.{Unmade}

@@ -2,29 +2,29 @@
 use Rattle.std.specs.Prelude.{◌≡◌, ◌⊎◌, ◌≤◌, ◌<◌, ◌+◌, ◌*◌, ◌%◌, ◌==◌, ℕ, suc, Bool, true, false, List, length, None}
 use Rattle.map_model.specs.Lists.{all, any}
 use Rattle.page_model.specs.Limits.{transaction_changes}
-use Rattle.cold_pages.specs.Laws.{IsButEntries}
-use Rattle.core_calls.specs.Fronts.{Done}
-use Rattle.core_calls.specs.LogEvents.{IsTight, SyncsWhere}
-use Rattle.core_calls.specs.Room.{room_takes}
-use Rattle.core_calls.specs.Steps.{is_structure}
-use Rattle.btree_descent.specs.core_state.Events as happening
-use Rattle.btree_descent.specs.core_state.Needs.{is_held_by}
-use Rattle.btree_descent.specs.core_state.Openings.{Opening}
-use Rattle.btree_descent.specs.core_state.States.{State}
-use Rattle.engine_calls.specs.Parts.{behind_first}
-use Rattle.engine_trait.specs.Refusals.{is_full_for, room_refusal}
-use Rattle.engine_trait.specs.Rooms.{MakesRoom}
+use Rattle.paged_desks.specs.cold_pages.Laws.{IsButEntries}
+use Rattle.paged_desks.specs.core_calls.Fronts.{Done}
+use Rattle.paged_desks.specs.core_calls.LogEvents.{IsTight, SyncsWhere}
+use Rattle.paged_desks.specs.core_calls.Room.{room_takes}
+use Rattle.paged_desks.specs.core_calls.Steps.{is_structure}
+use Rattle.paged_desks.specs.core_state.Events as happening
+use Rattle.paged_desks.specs.core_state.Needs.{is_held_by}
+use Rattle.paged_desks.specs.core_state.Openings.{Opening}
+use Rattle.paged_desks.specs.core_state.States.{State}
+use Rattle.paged_desks.specs.engine_calls.Parts.{behind_first}
+use Rattle.paged_desks.specs.engine_trait.Refusals.{is_full_for, room_refusal}
+use Rattle.paged_desks.specs.engine_trait.Rooms.{MakesRoom}
 use Rattle.lean_disk.specs.Story.{Story}
-use Rattle.btree_descent.specs.row_words.declared.event.Event.{Event}
-use Rattle.btree_descent.specs.row_words.declared.event.Event.TheVariants as told
-use Rattle.btree_descent.specs.row_words.Moments.{events_of}
-use Rattle.btree_descent.specs.row_words.Openings.{opening}
-use Rattle.btree_descent.specs.rows_trait.Views.{state}
-use Rattle.session_desks.specs.Desks.{desk_of}
-use Rattle.session_desks.specs.Parts.{AreAsMany, here}
-use Rattle.session_state.specs.Ties.{Behind}
-use Rattle.session_state.specs.Undo.{HasRoomToStage}
-use Rattle.call_parts.specs.Parts.{Part}
+use Rattle.paged_desks.specs.row_words.declared.event.Event.{Event}
+use Rattle.paged_desks.specs.row_words.declared.event.Event.TheVariants as told
+use Rattle.paged_desks.specs.row_words.Moments.{events_of}
+use Rattle.paged_desks.specs.row_words.Openings.{opening}
+use Rattle.paged_desks.specs.rows_trait.Views.{state}
+use Rattle.paged_desks.specs.session_desks.Desks.{desk_of}
+use Rattle.paged_desks.specs.session_desks.Parts.{AreAsMany, here}
+use Rattle.paged_desks.specs.session_state.Ties.{Behind}
+use Rattle.paged_desks.specs.session_state.Undo.{HasRoomToStage}
+use Rattle.paged_desks.specs.call_parts.Parts.{Part}
 use Rattle.paged_desks.specs.Machines.{memory, view_of}
 use Rattle.paged_desks.specs.Pages.{hot_in, is_paging}
 use Rattle.paged_desks.specs.declared.machine.PagedMachine.{PagedMachine}

@@ -2,15 +2,15 @@
 use Rattle.std.specs.Prelude.{◌≡◌, ◌⊎◌, ◌≤◌, ◌<◌, ◌*◌, ◌^◌, ℕ, suc, Option, Some, None, Result, Ok, Err}
 use Rattle.map_model.specs.declared.call.Refusal.{Refusal}
 use Rattle.map_model.specs.declared.call.Refusal.TheVariants as refusal
-use Rattle.core_calls.specs.Room.{room_takes}
-use Rattle.engine_trait.specs.Refusals.{room_refusal}
+use Rattle.paged_desks.specs.core_calls.Room.{room_takes}
+use Rattle.paged_desks.specs.engine_trait.Refusals.{room_refusal}
 use Rattle.lean_disk.specs.Story.{Story}
-use Rattle.btree_descent.specs.row_words.Openings.{opening}
-use Rattle.btree_descent.specs.rows_trait.Views.{state}
-use Rattle.session_state.specs.Free.{first_of}
-use Rattle.session_state.specs.Holds.{IsSameSession}
-use Rattle.session_state.specs.Staging.{KeepsLog}
-use Rattle.paged_rows.specs.Paged.{IsWarm}
+use Rattle.paged_desks.specs.row_words.Openings.{opening}
+use Rattle.paged_desks.specs.rows_trait.Views.{state}
+use Rattle.paged_desks.specs.session_state.Free.{first_of}
+use Rattle.paged_desks.specs.session_state.Holds.{IsSameSession}
+use Rattle.paged_desks.specs.session_state.Staging.{KeepsLog}
+use Rattle.paged_desks.specs.paged_rows.Paged.{IsWarm}
 use Rattle.row_changes.specs.Paths.{IsUnfit}
 use Rattle.row_changes.specs.Puts.{IsChanged}
 use Rattle.row_changes.specs.declared.ways.Unmade.{Unmade}

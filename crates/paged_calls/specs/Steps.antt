@@ -1,22 +1,22 @@
 -- Words of private functions: what the pieces of a call did.
 use Rattle.std.specs.Prelude.{◌≡◌, ◌≤◌, ◌<◌, ◌%◌, ℕ, true, false, List, length, Option, Result, Ok, Err}
 use Rattle.map_model.specs.declared.call.Refusal.{Refusal}
-use Rattle.core_calls.specs.Fronts.{Done}
-use Rattle.core_calls.specs.LogEvents.{IsTight, SyncsWhere}
-use Rattle.btree_descent.specs.core_state.Events as happening
-use Rattle.btree_descent.specs.core_state.Needs.{holds_row}
-use Rattle.btree_descent.specs.core_state.Openings.{Opening}
-use Rattle.engine_calls.specs.Parts.{behind_first}
-use Rattle.key_locks.specs.declared.mode.Mode.{Mode}
+use Rattle.paged_desks.specs.core_calls.Fronts.{Done}
+use Rattle.paged_desks.specs.core_calls.LogEvents.{IsTight, SyncsWhere}
+use Rattle.paged_desks.specs.core_state.Events as happening
+use Rattle.paged_desks.specs.core_state.Needs.{holds_row}
+use Rattle.paged_desks.specs.core_state.Openings.{Opening}
+use Rattle.paged_desks.specs.engine_calls.Parts.{behind_first}
+use Rattle.paged_desks.specs.key_locks.declared.mode.Mode.{Mode}
 use Rattle.lean_disk.specs.Story.{Story}
-use Rattle.btree_descent.specs.row_words.declared.event.Event.{Event}
-use Rattle.btree_descent.specs.row_words.Moments.{events_of}
-use Rattle.btree_descent.specs.rows_trait.Views.{state}
-use Rattle.call_parts.specs.Parts.{Part}
-use Rattle.session_state.specs.Staging.{IsButClock}
-use Rattle.session_state.specs.Ties.{Behind}
-use Rattle.session_desks.specs.Desks.{desk_of}
-use Rattle.session_desks.specs.Parts.{AreAsMany, here}
+use Rattle.paged_desks.specs.row_words.declared.event.Event.{Event}
+use Rattle.paged_desks.specs.row_words.Moments.{events_of}
+use Rattle.paged_desks.specs.rows_trait.Views.{state}
+use Rattle.paged_desks.specs.call_parts.Parts.{Part}
+use Rattle.paged_desks.specs.session_state.Staging.{IsButClock}
+use Rattle.paged_desks.specs.session_state.Ties.{Behind}
+use Rattle.paged_desks.specs.session_desks.Desks.{desk_of}
+use Rattle.paged_desks.specs.session_desks.Parts.{AreAsMany, here}
 use Rattle.row_changes.specs.Reads.{HasRead}
 use Rattle.row_changes.specs.Takes.{NotTaken, Takes}
 use Rattle.paged_desks.specs.Calls.{IsBeside}

@@ -5,9 +5,9 @@ use Rattle.map_model.specs.declared.call.Refusal.{Refusal}
 use Rattle.map_model.specs.declared.call.Refusal.TheVariants as refusal
 use Rattle.paged_desks.specs.declared.warming.Unwarmed.{Unwarmed}
 use Rattle.paged_desks.specs.declared.warming.Unwarmed.TheVariants as stopped
-use Rattle.session_state.specs.declared.session.Session.{Session}
-use Rattle.engine_trait.specs.Refusals.{log_refusal}
-use Rattle.disk_runs.specs.worker_log.Logs.{Log}
+use Rattle.paged_desks.specs.session_state.declared.session.Session.{Session}
+use Rattle.paged_desks.specs.engine_trait.Refusals.{log_refusal}
+use Rattle.paged_desks.specs.worker_log.Logs.{Log}
 
 -- a transaction is open, and its abort is not half done
 abbrev pub is_going : Session → Bool

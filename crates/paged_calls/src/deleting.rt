@@ -3,13 +3,13 @@ ghost use Rattle.std.specs.Prelude.{◌≡◌, ◌<◌, ◌-◌, ◌^◌, IsErrA
 ghost use Rattle.map_model.specs.declared.call.Refusal.{Refusal};
 ghost use Rattle.lean_disk.specs.Faults.{HasCause};
 ghost use Rattle.paged_desks.specs.Machines.{IsReady, pages, view_of};
-ghost use Rattle.paged_rows.specs.Paged.{IsWarm};
+ghost use Rattle.paged_desks.specs.paged_rows.Paged.{IsWarm};
 ghost use Rattle.row_changes.specs.Dels.{Dels};
 ghost use Rattle.row_changes.specs.Puts.{works_behind as works_after_try};
 ghost use Rattle.row_changes.specs.Ways.{IsCut};
 ghost use Rattle.row_changes.specs.declared.ways.Unmade.{Unmade};
-ghost use Rattle.session_desks.specs.Parts.{AreAsMany, SeatFits};
-ghost use Rattle.session_state.specs.Holds.{IsSameSession};
+ghost use Rattle.paged_desks.specs.session_desks.Parts.{AreAsMany, SeatFits};
+ghost use Rattle.paged_desks.specs.session_state.Holds.{IsSameSession};
 ghost use Rattle.paged_desks.specs.Calls.{works_behind};
 ghost use Rattle.paged_calls.specs.Changes.{DelsWarm, MayStill, as_made};
 ghost use Rattle.paged_desks.specs.Calls.{IsAside};
@@ -17,9 +17,8 @@ ghost use Rattle.paged_desks.specs.Calls.{IsAside};
 use crate::laws::laws;
 use crate::tests::refusal_of;
 use map_model::Refusal;
-use paged_desks::PagedMachine;
+use paged_desks::{PagedMachine, Stages};
 use row_changes::{Unmade, clock_refusal, del_held};
-use session_state::Stages;
 
 // Takes the value of the key away in its leaf, unless a page of its way is not hot.
 fn del_in_leaf<D: Stages>(machine: &mut PagedMachine<D>, key: u64) -> Result<Option<u64>, Unmade>

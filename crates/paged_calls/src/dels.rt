@@ -3,8 +3,8 @@ ghost use Rattle.std.specs.Prelude.{◌≡◌, ◌⊎◌, ◌↔◌, ◌<◌, �
 ghost use Rattle.map_model.specs.declared.call.Call.TheVariants as call;
 ghost use Rattle.map_model.specs.declared.call.Refusal.{Refusal};
 ghost use Rattle.lean_disk.specs.Faults.{HasCause};
-ghost use Rattle.engine_trait.specs.Calls.{MayCome};
-ghost use Rattle.session_desks.specs.Parts.{AreAsMany, SeatFits, Works};
+ghost use Rattle.paged_desks.specs.engine_trait.Calls.{MayCome};
+ghost use Rattle.paged_desks.specs.session_desks.Parts.{AreAsMany, SeatFits, Works};
 ghost use Rattle.paged_desks.specs.Machines.{IsReady};
 ghost use Rattle.paged_desks.specs.Calls.{CallDoes, EndsWork, OnLine, works_behind};
 ghost use Rattle.paged_calls.specs.Calls.{IsEarly, del_answer};
@@ -14,11 +14,9 @@ use crate::deleting::del_warm;
 use crate::laws::laws;
 use crate::taking::take;
 use crate::tests::change_refusal;
-use key_locks::mode::Mode;
 use map_model::Refusal;
-use paged_desks::PagedMachine;
+use paged_desks::{Mode, PagedMachine, Stages};
 use row_changes::clock_refusal;
-use session_state::Stages;
 
 /// Takes the value of a key away. The answer is the value that it had. Where a page of the key's way is in no frame, the pages of the way are brought into frames.
 pub fn del<D: Stages>(machine: &mut PagedMachine<D>, key: u64) -> Result<Option<u64>, Refusal>

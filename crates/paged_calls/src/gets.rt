@@ -3,8 +3,8 @@ ghost use Rattle.std.specs.Prelude.{◌≡◌, ◌⊎◌, ◌↔◌, ◌<◌, �
 ghost use Rattle.map_model.specs.declared.call.Call.TheVariants as call;
 ghost use Rattle.map_model.specs.declared.call.Refusal.{Refusal};
 ghost use Rattle.lean_disk.specs.Faults.{HasCause};
-ghost use Rattle.engine_trait.specs.Calls.{MayCome};
-ghost use Rattle.session_desks.specs.Parts.{AreAsMany, SeatFits, Works};
+ghost use Rattle.paged_desks.specs.engine_trait.Calls.{MayCome};
+ghost use Rattle.paged_desks.specs.session_desks.Parts.{AreAsMany, SeatFits, Works};
 ghost use Rattle.paged_desks.specs.Machines.{IsReady};
 ghost use Rattle.paged_desks.specs.Calls.{CallDoes, EndsWork, OnLine, works_behind};
 ghost use Rattle.paged_calls.specs.Calls.{get_answer};
@@ -13,10 +13,8 @@ use crate::laws::laws;
 use crate::reading::read_warm;
 use crate::taking::take;
 use crate::tests::{call_refusal, refusal_of};
-use key_locks::mode::Mode;
 use map_model::Refusal;
-use paged_desks::PagedMachine;
-use session_state::Stages;
+use paged_desks::{Mode, PagedMachine, Stages};
 
 /// The value that a key has. Where a page of the key's way is in no frame, the pages of the way are brought into frames.
 #[inline(always)]

@@ -5,14 +5,14 @@ ghost use Rattle.map_model.specs.declared.call.Refusal.{Refusal};
 ghost use Rattle.lean_disk.specs.Faults.{HasCause};
 ghost use Rattle.paged_desks.specs.Calls.{IsAside, works_behind};
 ghost use Rattle.paged_desks.specs.Machines.{IsReady, pages, view_of};
-ghost use Rattle.paged_rows.specs.Paged.{IsWarm};
+ghost use Rattle.paged_desks.specs.paged_rows.Paged.{IsWarm};
 ghost use Rattle.row_changes.specs.Puts.{works_behind as works_after_try};
 ghost use Rattle.row_changes.specs.Ways.{IsCut};
 ghost use Rattle.row_changes.specs.declared.ways.Unmade.{Unmade};
 ghost use Rattle.row_growth.specs.Outcomes.{Steps};
 ghost use Rattle.row_growth.specs.Rooms.{IsPlaced};
-ghost use Rattle.session_desks.specs.Parts.{AreAsMany, SeatFits};
-ghost use Rattle.session_state.specs.Holds.{IsSameSession};
+ghost use Rattle.paged_desks.specs.session_desks.Parts.{AreAsMany, SeatFits};
+ghost use Rattle.paged_desks.specs.session_state.Holds.{IsSameSession};
 ghost use Rattle.paged_calls.specs.Changes.{MayStill};
 ghost use Rattle.paged_calls.specs.Growths.{MayPut};
 ghost use Rattle.paged_calls.specs.Rounds.{GoesOnWarm, IsWanted, Rounds, as_stepped, most_a_put, most_a_round, most_rounds, round_of};
@@ -20,10 +20,9 @@ ghost use Rattle.paged_calls.specs.Rounds.{GoesOnWarm, IsWanted, Rounds, as_step
 use crate::laws::laws;
 use crate::tests::refusal_of;
 use map_model::Refusal;
-use paged_desks::PagedMachine;
+use paged_desks::{PagedMachine, Stages};
 use row_changes::{Unmade, clock_refusal};
 use row_growth::{Placed, Stepped, put_step};
-use session_state::Stages;
 
 /// What one round of a put came to.
 #[derive(Clone, Copy)]

@@ -1,18 +1,15 @@
 // What the calls rest on.
-ghost use Rattle.core_calls.specs.Room.{EveryRoom};
-ghost use Rattle.disk_runs.specs.core_disk.Versions.{EveryVersion};
-ghost use Rattle.btree_descent.specs.core_paging.Paging.{EveryResidence};
-ghost use Rattle.disk_runs.specs.disk_image.Laws.{EverySealed};
-ghost use Rattle.engine_calls.specs.Answers.{EveryAnswer};
-ghost use Rattle.engine_calls.specs.Clauses.{EveryComing};
-ghost use Rattle.page_pool.specs.Counts.{EveryFrame};
-ghost use Rattle.page_pool.specs.Pools.{EveryStanding};
-ghost use Rattle.row_opening.specs.Openings.{EveryNeed, EveryReached};
-ghost use Rattle.session_state.specs.Others.{EveryOther};
-ghost use Rattle.disk_runs.specs.worker_log.Laws.{EveryKept, EveryPrefix};
-
-use btree_descent::core_paging;
-use disk_runs::{core_disk, disk_image, worker_log};
+ghost use Rattle.paged_desks.specs.core_calls.Room.{EveryRoom};
+ghost use Rattle.paged_desks.specs.core_disk.Versions.{EveryVersion};
+ghost use Rattle.paged_desks.specs.core_paging.Paging.{EveryResidence};
+ghost use Rattle.paged_desks.specs.disk_image.Laws.{EverySealed};
+ghost use Rattle.paged_desks.specs.engine_calls.Answers.{EveryAnswer};
+ghost use Rattle.paged_desks.specs.engine_calls.Clauses.{EveryComing};
+ghost use Rattle.paged_desks.specs.page_pool.Counts.{EveryFrame};
+ghost use Rattle.paged_desks.specs.page_pool.Pools.{EveryStanding};
+ghost use Rattle.paged_desks.specs.row_opening.Openings.{EveryNeed, EveryReached};
+ghost use Rattle.paged_desks.specs.session_state.Others.{EveryOther};
+ghost use Rattle.paged_desks.specs.worker_log.Laws.{EveryKept, EveryPrefix};
 
 // The laws of versions, logs, seals and openings, of answers, of other sessions, of what the pager knows over their steps, of places and frames, and of room for a key.
 pub(crate) fn laws()
@@ -30,17 +27,17 @@ pub(crate) fn laws()
     ensures residence { EveryResidence }
     ensures room { EveryRoom }
 {
-    core_disk::every_version();
-    worker_log::every_kept();
-    worker_log::every_prefix();
-    disk_image::every_sealed();
-    row_opening::every_reached();
-    row_opening::every_need();
-    engine_calls::every_answer();
-    engine_calls::every_coming();
-    session_state::every_other();
-    page_pool::every_standing();
-    page_pool::every_frame();
-    core_paging::every_residence();
-    core_calls::every_room();
+    paged_desks::every_version();
+    paged_desks::every_kept();
+    paged_desks::every_prefix();
+    paged_desks::every_sealed();
+    paged_desks::every_reached();
+    paged_desks::every_need();
+    paged_desks::every_answer();
+    paged_desks::every_coming();
+    paged_desks::every_other();
+    paged_desks::every_standing();
+    paged_desks::every_frame();
+    paged_desks::every_residence();
+    paged_desks::every_room();
 }

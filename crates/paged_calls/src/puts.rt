@@ -4,8 +4,8 @@ ghost use Rattle.page_model.specs.Limits.{tombstone};
 ghost use Rattle.map_model.specs.declared.call.Call.TheVariants as call;
 ghost use Rattle.map_model.specs.declared.call.Refusal.{Refusal};
 ghost use Rattle.lean_disk.specs.Faults.{HasCause};
-ghost use Rattle.engine_trait.specs.Calls.{MayCome};
-ghost use Rattle.session_desks.specs.Parts.{AreAsMany, SeatFits, Works};
+ghost use Rattle.paged_desks.specs.engine_trait.Calls.{MayCome};
+ghost use Rattle.paged_desks.specs.session_desks.Parts.{AreAsMany, SeatFits, Works};
 ghost use Rattle.paged_desks.specs.Calls.{CallDoes, EndsWork, OnLine, works_behind};
 ghost use Rattle.paged_desks.specs.Machines.{IsReady};
 ghost use Rattle.paged_calls.specs.Calls.{IsEarly, put_answer};
@@ -15,11 +15,9 @@ use crate::growing::put_warm;
 use crate::laws::laws;
 use crate::taking::take;
 use crate::tests::change_refusal;
-use key_locks::mode::Mode;
 use map_model::Refusal;
-use paged_desks::PagedMachine;
+use paged_desks::{Mode, PagedMachine, Stages};
 use row_changes::clock_refusal;
-use session_state::Stages;
 
 /// Gives a key a value. The answer is the value that it had. The pages of the key's way are brought into frames; where the key's leaf is full, room is made by changes of
 /// the tree, and each free page that one of these takes is brought into a frame too.

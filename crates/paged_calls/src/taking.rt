@@ -5,11 +5,9 @@ ghost use Rattle.paged_desks.specs.Machines.{IsReady};
 ghost use Rattle.paged_calls.specs.Steps.{HasNotTaken, HasTaken};
 
 use crate::laws::laws;
-use key_locks::mode::Mode;
 use map_model::Refusal;
-use paged_desks::PagedMachine;
+use paged_desks::{Mode, PagedMachine, Stages};
 use row_changes::take_row;
-use session_state::Stages;
 
 // The session whose turn it is takes the lock row of a key.
 #[inline(always)]

@@ -1,14 +1,12 @@
 // What a session asks of itself before a call, and how a call is answered where the pages of a way did not come.
 ghost use Rattle.std.specs.Prelude.{None, ◌≡◌};
-ghost use Rattle.engine_trait.specs.Refusals.{log_refusal};
+ghost use Rattle.paged_desks.specs.engine_trait.Refusals.{log_refusal};
 ghost use Rattle.paged_calls.specs.Tests.{call_test, change_test, is_going, refusal_of};
 
-use disk_runs::worker_log::WorkerLog;
 use map_model::Refusal;
 use page_model::limits::TRANSACTION_CHANGES;
-use paged_desks::Unwarmed;
+use paged_desks::{Session, Unwarmed, WorkerLog};
 use row_changes::CLOCK_END;
-use session_state::Session;
 
 // Whether a transaction is open, and its abort is not half done.
 fn is_going(session: &Session) -> bool

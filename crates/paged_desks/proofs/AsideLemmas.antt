@@ -1,33 +1,33 @@
 -- A machine of which the session in the store has worked on, with its log and its disk.
 use Rattle.std.proofs.Common.{◌≡◌, ◌∙◌, ◌≤◌, ◌<◌, ◌^◌, ◌⊎◌, inl, inr, ℕ, suc, true, IsTrue, List, length, Global, Vec, ap, sym, subst, arith}
 use Rattle.std.proofs.lemmas.Bool.{cases_eq}
-use Rattle.disk_runs.specs.disk_slots.declared.master.Master.{Master}
+use Rattle.desk_parts.specs.disk_slots.declared.master.Master.{Master}
 use Rattle.lean_disk.specs.Area.{Area}
 use Rattle.lean_disk.specs.Moments.{Framed}
-use Rattle.page_calls.specs.Mirrors.{HoldsLast}
-use Rattle.page_provider.specs.Mirrored.{IsMirrored}
-use Rattle.page_provider.specs.Providers.{Keeps}
-use Rattle.disk_runs.specs.page_store.Saved.{Reaches}
-use Rattle.btree_descent.specs.row_words.declared.given.Given.{Given}
-use Rattle.btree_descent.specs.rows_trait.Views.{Shape, state}
-use Rattle.session_desks.proofs.MachineLemmas.{machine_behind}
-use Rattle.session_desks.specs.Machines.{IsMachine}
-use Rattle.session_desks.specs.Parts.{HasLogs, IsSound, SeatFits}
-use Rattle.session_desks.specs.Syncs.{HasOpening}
-use Rattle.session_state.specs.Holds.{Holds}
-use Rattle.session_state.specs.Others.{EveryOther, Steps}
+use Rattle.desk_parts.specs.page_calls.Mirrors.{HoldsLast}
+use Rattle.desk_parts.specs.page_provider.Mirrored.{IsMirrored}
+use Rattle.desk_parts.specs.page_provider.Providers.{Keeps}
+use Rattle.desk_parts.specs.page_store.Saved.{Reaches}
+use Rattle.desk_parts.specs.row_words.declared.given.Given.{Given}
+use Rattle.desk_parts.specs.rows_trait.Views.{Shape, state}
+use Rattle.desk_parts.proofs.session_desks.MachineLemmas.{machine_behind}
+use Rattle.desk_parts.specs.session_desks.Machines.{IsMachine}
+use Rattle.desk_parts.specs.session_desks.Parts.{HasLogs, IsSound, SeatFits}
+use Rattle.desk_parts.specs.session_desks.Syncs.{HasOpening}
+use Rattle.desk_parts.specs.session_state.Holds.{Holds}
+use Rattle.desk_parts.specs.session_state.Others.{EveryOther, Steps}
 use Rattle.paged_desks.proofs.StandLemmas.{IsBusy, keeps_on, mirrored_on, outside_on}
 use Rattle.lean_disk.specs.Story.{Story, Tells}
 use Rattle.map_model.proofs.ListLemmas.{upd_other, upd_same}
 use Rattle.map_model.specs.Lists.{upd}
-use Rattle.page_provider.specs.Providers.{Provider}
-use Rattle.session_desks.proofs.DeskLemmas.{desk_own, desk_same, place_low}
-use Rattle.session_desks.proofs.SeatLemmas.{turn_high, turn_low}
-use Rattle.session_desks.specs.Desks.{desk_of}
-use Rattle.session_desks.specs.Parts.{here, shape}
-use Rattle.session_desks.specs.declared.desk.Desk.{Desk}
-use Rattle.session_state.specs.Holds.{IsSameSession}
-use Rattle.call_parts.specs.Memory.{IsSame, with_own}
+use Rattle.desk_parts.specs.page_provider.Providers.{Provider}
+use Rattle.desk_parts.proofs.session_desks.DeskLemmas.{desk_own, desk_same, place_low}
+use Rattle.desk_parts.proofs.session_desks.SeatLemmas.{turn_high, turn_low}
+use Rattle.desk_parts.specs.session_desks.Desks.{desk_of}
+use Rattle.desk_parts.specs.session_desks.Parts.{here, shape}
+use Rattle.desk_parts.specs.session_desks.declared.desk.Desk.{Desk}
+use Rattle.desk_parts.specs.session_state.Holds.{IsSameSession}
+use Rattle.desk_parts.specs.call_parts.Memory.{IsSame, with_own}
 use Rattle.paged_desks.specs.Machines.{IsReady, memory, view_of}
 use Rattle.paged_desks.specs.declared.machine.PagedMachine.{PagedMachine}
 use Rattle.paged_desks.specs.Calls.{IsAside}

@@ -3,39 +3,39 @@ use Rattle.std.proofs.Common.{◌≡◌, ◌∙◌, ◌≤◌, ◌+◌, ◌*◌,
 use Rattle.std.proofs.lemmas.Bool.{and_from, and_parts}
 use Rattle.std.proofs.Math.Nat.{mul-le-mul_right}
 use Rattle.std.proofs.lemmas.List.{length-append}
-use Rattle.call_parts.proofs.AreaLemmas.{around_wider, within_wider}
-use Rattle.call_parts.proofs.JoinLemmas.{every_join}
-use Rattle.call_parts.specs.Areas.{is_save}
-use Rattle.call_parts.specs.Parts.{Failed}
-use Rattle.call_parts.specs.Rooms as rooms
-use Rattle.call_parts.specs.Rooms.{makes_sync}
-use Rattle.call_parts.specs.Steps.{moves_page}
-use Rattle.core_calls.specs.LogEvents.{AreFlushes, IsSync}
-use Rattle.btree_descent.specs.core_state.Events as happening
-use Rattle.btree_descent.specs.core_state.Local.{is_sync}
-use Rattle.disk_runs.specs.core_disk.Versions.{EveryVersion}
+use Rattle.desk_parts.proofs.call_parts.AreaLemmas.{around_wider, within_wider}
+use Rattle.desk_parts.proofs.call_parts.JoinLemmas.{every_join}
+use Rattle.desk_parts.specs.call_parts.Areas.{is_save}
+use Rattle.desk_parts.specs.call_parts.Parts.{Failed}
+use Rattle.desk_parts.specs.call_parts.Rooms as rooms
+use Rattle.desk_parts.specs.call_parts.Rooms.{makes_sync}
+use Rattle.desk_parts.specs.call_parts.Steps.{moves_page}
+use Rattle.desk_parts.specs.core_calls.LogEvents.{AreFlushes, IsSync}
+use Rattle.desk_parts.specs.core_state.Events as happening
+use Rattle.desk_parts.specs.core_state.Local.{is_sync}
+use Rattle.desk_parts.specs.core_disk.Versions.{EveryVersion}
 use Rattle.desk_parts.specs.Laws.{EveryPagePart, EverySyncPart}
-use Rattle.disk_runs.specs.disk_image.Laws.{EverySealed}
-use Rattle.engine_calls.proofs.MoveLemmas.{every_move}
+use Rattle.desk_parts.specs.disk_image.Laws.{EverySealed}
+use Rattle.desk_parts.proofs.engine_calls.MoveLemmas.{every_move}
 use Rattle.lean_disk.specs.Story.{IsLawful, Story}
 use Rattle.map_model.specs.Lists.{all, any}
 use Rattle.page_pool.specs.Counts.{EveryFrame}
-use Rattle.page_provider.specs.Amounts.{EveryFew}
-use Rattle.page_provider.specs.declared.refusal.Refusal.{Refusal}
-use Rattle.page_provider.specs.declared.refusal.Refusal.TheVariants as refusal
-use Rattle.page_provider.specs.Moves.{Moved}
-use Rattle.page_provider.specs.Refusals.{breaks}
-use Rattle.btree_descent.specs.row_words.declared.event.Event.{Event}
-use Rattle.btree_descent.specs.row_words.declared.event.Event.TheVariants as told
-use Rattle.btree_descent.specs.row_words.Moments.{event_of, events_of}
-use Rattle.btree_descent.specs.rows_trait.declared.view.View.{View}
-use Rattle.call_parts.specs.Memory.{Memory}
-use Rattle.session_desks.specs.Parts.{AreAsMany, FailsToSync, SeatFits, here, shape}
-use Rattle.session_desks.specs.Parts as desks
-use Rattle.session_desks.specs.declared.machine.Machine.{Machine}
-use Rattle.session_desks.proofs.SeatLemmas.{holds_of}
-use Rattle.session_state.specs.declared.session.Session.{Session}
-use Rattle.disk_runs.specs.worker_log.Laws.{EveryKept, EveryPrefix}
+use Rattle.desk_parts.specs.page_provider.Amounts.{EveryFew}
+use Rattle.desk_parts.specs.page_provider.declared.refusal.Refusal.{Refusal}
+use Rattle.desk_parts.specs.page_provider.declared.refusal.Refusal.TheVariants as refusal
+use Rattle.desk_parts.specs.page_provider.Moves.{Moved}
+use Rattle.desk_parts.specs.page_provider.Refusals.{breaks}
+use Rattle.desk_parts.specs.row_words.declared.event.Event.{Event}
+use Rattle.desk_parts.specs.row_words.declared.event.Event.TheVariants as told
+use Rattle.desk_parts.specs.row_words.Moments.{event_of, events_of}
+use Rattle.desk_parts.specs.rows_trait.declared.view.View.{View}
+use Rattle.desk_parts.specs.call_parts.Memory.{Memory}
+use Rattle.desk_parts.specs.session_desks.Parts.{AreAsMany, FailsToSync, SeatFits, here, shape}
+use Rattle.desk_parts.specs.session_desks.Parts as desks
+use Rattle.desk_parts.specs.session_desks.declared.machine.Machine.{Machine}
+use Rattle.desk_parts.proofs.session_desks.SeatLemmas.{holds_of}
+use Rattle.desk_parts.specs.session_state.declared.session.Session.{Session}
+use Rattle.desk_parts.specs.worker_log.Laws.{EveryKept, EveryPrefix}
 use Rattle.paged_desks.specs.Inside.{HasBroken, HasDone, HasServed, IsBeside, IsOfPage, IsStopped, stopped_by}
 use Rattle.paged_desks.specs.Machines.{IsReady, memory, view_of}
 use Rattle.paged_desks.specs.Pages.{ArePaging, goes_on, is_paging, most_a_level}

@@ -1,33 +1,33 @@
 -- What was done, as a part of a call of an engine, and one part behind another.
 use Rattle.std.proofs.Common.{◌≡◌, ◌∙◌, ◌≤◌, ◌+◌, ◌*◌, ◌^◌, ◌||◌, ℕ, suc, false, List, [], ◌∷◌, length, refl, sym, subst, arith}
 use Rattle.std.proofs.Math.Nat.{mul-le-mul_right}
-use Rattle.call_parts.proofs.JoinLemmas.{every_join}
-use Rattle.call_parts.proofs.StepLemmas.{every_step}
-use Rattle.call_parts.specs.Areas.{is_save}
-use Rattle.call_parts.specs.Memory.{Memory, with_slots}
-use Rattle.call_parts.specs.Parts.{Part}
-use Rattle.core_calls.specs.LogEvents.{EveryWhere, IsTight}
-use Rattle.disk_runs.specs.core_disk.Versions.{EveryVersion}
-use Rattle.btree_descent.specs.core_state.Events as happening
+use Rattle.desk_parts.proofs.call_parts.JoinLemmas.{every_join}
+use Rattle.desk_parts.proofs.call_parts.StepLemmas.{every_step}
+use Rattle.desk_parts.specs.call_parts.Areas.{is_save}
+use Rattle.desk_parts.specs.call_parts.Memory.{Memory, with_slots}
+use Rattle.desk_parts.specs.call_parts.Parts.{Part}
+use Rattle.desk_parts.specs.core_calls.LogEvents.{EveryWhere, IsTight}
+use Rattle.desk_parts.specs.core_disk.Versions.{EveryVersion}
+use Rattle.desk_parts.specs.core_state.Events as happening
 use Rattle.desk_parts.specs.Laws.{EveryPagePart, PageLaws}
 use Rattle.desk_parts.specs.Pages.{HasSlots}
-use Rattle.disk_runs.specs.disk_image.Laws.{EverySealed}
-use Rattle.engine_calls.proofs.MoveLemmas.{every_move}
+use Rattle.desk_parts.specs.disk_image.Laws.{EverySealed}
+use Rattle.desk_parts.proofs.engine_calls.MoveLemmas.{every_move}
 use Rattle.lean_disk.specs.Story.{IsLawful, Story}
 use Rattle.map_model.specs.Lists.{any}
 use Rattle.page_pool.specs.Counts.{EveryFrame}
-use Rattle.page_provider.specs.Amounts.{EveryFew}
-use Rattle.page_provider.specs.Disks.{saves_page}
-use Rattle.page_provider.specs.Moves.{Moved}
-use Rattle.page_provider.specs.Providers.{pool}
-use Rattle.page_provider.specs.Sequels.{EverySequel}
-use Rattle.row_opening.specs.Openings.{EveryNeed, EveryReached}
-use Rattle.btree_descent.specs.row_words.Moments.{events_of}
-use Rattle.btree_descent.specs.row_words.Openings.{opening}
-use Rattle.btree_descent.specs.rows_trait.Views.{state}
-use Rattle.session_desks.specs.Parts.{here, shape}
-use Rattle.session_desks.proofs.SeatLemmas.{holds_of}
-use Rattle.disk_runs.specs.worker_log.Laws.{EveryKept, EveryPrefix}
+use Rattle.desk_parts.specs.page_provider.Amounts.{EveryFew}
+use Rattle.desk_parts.specs.page_provider.Disks.{saves_page}
+use Rattle.desk_parts.specs.page_provider.Moves.{Moved}
+use Rattle.desk_parts.specs.page_provider.Providers.{pool}
+use Rattle.desk_parts.specs.page_provider.Sequels.{EverySequel}
+use Rattle.desk_parts.specs.row_opening.Openings.{EveryNeed, EveryReached}
+use Rattle.desk_parts.specs.row_words.Moments.{events_of}
+use Rattle.desk_parts.specs.row_words.Openings.{opening}
+use Rattle.desk_parts.specs.rows_trait.Views.{state}
+use Rattle.desk_parts.specs.session_desks.Parts.{here, shape}
+use Rattle.desk_parts.proofs.session_desks.SeatLemmas.{holds_of}
+use Rattle.desk_parts.specs.worker_log.Laws.{EveryKept, EveryPrefix}
 use Rattle.paged_desks.specs.Inside.{HasDone, HasServed, IsBeside}
 use Rattle.paged_desks.specs.Syncs.{IsSynced}
 use Rattle.paged_desks.specs.Machines.{IsReady, memory, view_of}

@@ -7,55 +7,55 @@ use Rattle.map_model.specs.declared.call.Answer.TheVariants as answer
 use Rattle.map_model.specs.declared.call.Call.{Call}
 use Rattle.map_model.specs.declared.call.Refusal.{Refusal}
 use Rattle.map_model.specs.declared.call.Refusal.TheVariants as refusal
-use Rattle.core_calls.specs.Deeds.{answered, asked, marks_by, marks_for}
-use Rattle.core_calls.specs.Fronts.{Done, front, outcomes}
-use Rattle.core_calls.specs.Marks.{is_half}
-use Rattle.core_calls.specs.Runs.{Tells}
-use Rattle.core_calls.specs.Steps.{is_structure}
-use Rattle.btree_descent.specs.core_state.Events as happening
-use Rattle.btree_descent.specs.core_state.Local.{is_sync}
-use Rattle.btree_descent.specs.core_state.Openings.{Opening}
-use Rattle.btree_descent.specs.core_state.States.{State}
-use Rattle.btree_descent.specs.core_state.Steps.{AllMet, state_after}
-use Rattle.disk_runs.specs.Masters.{IsNoEarlier}
-use Rattle.disk_runs.specs.Stands.{Known, Stands}
-use Rattle.engine_calls.specs.Answers.{EveryAnswer}
-use Rattle.engine_calls.proofs.PartLemmas.{every_part}
-use Rattle.engine_calls.specs.Clauses.{Between, IsNewLine}
-use Rattle.engine_calls.specs.Parts.{Gone, PartLaws}
-use Rattle.engine_calls.specs.Refused.{IsRefusal, refused_by}
-use Rattle.engine_trait.specs.Calls.{call_behind, due_call, is_half_done}
-use Rattle.engine_trait.specs.Limits.{limits}
-use Rattle.engine_trait.specs.Logs.{Logs}
-use Rattle.engine_trait.specs.Refusals.{IsRefusedFor, refusal_in}
-use Rattle.engine_trait.specs.Rooms.{MakesItsRoom}
+use Rattle.desk_parts.specs.core_calls.Deeds.{answered, asked, marks_by, marks_for}
+use Rattle.desk_parts.specs.core_calls.Fronts.{Done, front, outcomes}
+use Rattle.desk_parts.specs.core_calls.Marks.{is_half}
+use Rattle.desk_parts.specs.core_calls.Runs.{Tells}
+use Rattle.desk_parts.specs.core_calls.Steps.{is_structure}
+use Rattle.desk_parts.specs.core_state.Events as happening
+use Rattle.desk_parts.specs.core_state.Local.{is_sync}
+use Rattle.desk_parts.specs.core_state.Openings.{Opening}
+use Rattle.desk_parts.specs.core_state.States.{State}
+use Rattle.desk_parts.specs.core_state.Steps.{AllMet, state_after}
+use Rattle.desk_parts.specs.disk_runs.Masters.{IsNoEarlier}
+use Rattle.desk_parts.specs.disk_runs.Stands.{Known, Stands}
+use Rattle.desk_parts.specs.engine_calls.Answers.{EveryAnswer}
+use Rattle.desk_parts.proofs.engine_calls.PartLemmas.{every_part}
+use Rattle.desk_parts.specs.engine_calls.Clauses.{Between, IsNewLine}
+use Rattle.desk_parts.specs.engine_calls.Parts.{Gone, PartLaws}
+use Rattle.desk_parts.specs.engine_calls.Refused.{IsRefusal, refused_by}
+use Rattle.desk_parts.specs.engine_trait.Calls.{call_behind, due_call, is_half_done}
+use Rattle.desk_parts.specs.engine_trait.Limits.{limits}
+use Rattle.desk_parts.specs.engine_trait.Logs.{Logs}
+use Rattle.desk_parts.specs.engine_trait.Refusals.{IsRefusedFor, refusal_in}
+use Rattle.desk_parts.specs.engine_trait.Rooms.{MakesItsRoom}
 use Rattle.lean_disk.specs.Moments.{LeavesOnly}
 use Rattle.lean_disk.specs.Story.{Crash, IsLawful, Story}
-use Rattle.btree_descent.specs.row_words.declared.event.Event.{Event}
-use Rattle.btree_descent.specs.row_words.Moments.{events_of}
-use Rattle.btree_descent.specs.row_words.Openings.{opening}
-use Rattle.btree_descent.specs.rows_trait.declared.view.View.{View}
-use Rattle.session_desks.specs.Desks.{desk_of}
-use Rattle.session_desks.specs.Machines.{IsLogged}
-use Rattle.session_desks.specs.Parts.{AreAsMany, HasLogs, here, logs}
-use Rattle.session_state.specs.Ties.{Behind, Ties}
-use Rattle.disk_runs.specs.worker_log.Logs.{Log}
-use Rattle.call_parts.proofs.EndLemmas.{every_end}
-use Rattle.call_parts.proofs.RunLemmas.{behind_more, core_is}
-use Rattle.call_parts.specs.Areas.{Around, Beside, is_save}
-use Rattle.call_parts.specs.Deeds.{Answers, Does, Fails, IsRefusedOr, Keeps}
-use Rattle.call_parts.specs.Laws.{EndLaws}
-use Rattle.call_parts.specs.Memory.{IsOf, Memory}
-use Rattle.call_parts.specs.Parts.{Failed, GoesOn, Part}
-use Rattle.call_parts.specs.Rooms.{IsRoomFor, looks, may_save, most_of}
-use Rattle.engine_trait.specs.Rooms.{needs_sync}
+use Rattle.desk_parts.specs.row_words.declared.event.Event.{Event}
+use Rattle.desk_parts.specs.row_words.Moments.{events_of}
+use Rattle.desk_parts.specs.row_words.Openings.{opening}
+use Rattle.desk_parts.specs.rows_trait.declared.view.View.{View}
+use Rattle.desk_parts.specs.session_desks.Desks.{desk_of}
+use Rattle.desk_parts.specs.session_desks.Machines.{IsLogged}
+use Rattle.desk_parts.specs.session_desks.Parts.{AreAsMany, HasLogs, here, logs}
+use Rattle.desk_parts.specs.session_state.Ties.{Behind, Ties}
+use Rattle.desk_parts.specs.worker_log.Logs.{Log}
+use Rattle.desk_parts.proofs.call_parts.EndLemmas.{every_end}
+use Rattle.desk_parts.proofs.call_parts.RunLemmas.{behind_more, core_is}
+use Rattle.desk_parts.specs.call_parts.Areas.{Around, Beside, is_save}
+use Rattle.desk_parts.specs.call_parts.Deeds.{Answers, Does, Fails, IsRefusedOr, Keeps}
+use Rattle.desk_parts.specs.call_parts.Laws.{EndLaws}
+use Rattle.desk_parts.specs.call_parts.Memory.{IsOf, Memory}
+use Rattle.desk_parts.specs.call_parts.Parts.{Failed, GoesOn, Part}
+use Rattle.desk_parts.specs.call_parts.Rooms.{IsRoomFor, looks, may_save, most_of}
+use Rattle.desk_parts.specs.engine_trait.Rooms.{needs_sync}
 use Rattle.paged_desks.specs.Machines.{memory, view_of}
 use Rattle.paged_desks.specs.declared.machine.PagedMachine.{PagedMachine}
 use Rattle.paged_desks.specs.Calls.{AreHalf, DoesTied, Tied}
-use Rattle.disk_runs.specs.core_disk.Versions.{EveryVersion}
-use Rattle.disk_runs.specs.disk_image.Laws.{EverySealed}
-use Rattle.row_opening.specs.Openings.{EveryNeed, EveryReached}
-use Rattle.disk_runs.specs.worker_log.Laws.{EveryKept, EveryPrefix}
+use Rattle.desk_parts.specs.core_disk.Versions.{EveryVersion}
+use Rattle.desk_parts.specs.disk_image.Laws.{EverySealed}
+use Rattle.desk_parts.specs.row_opening.Openings.{EveryNeed, EveryReached}
+use Rattle.desk_parts.specs.worker_log.Laws.{EveryKept, EveryPrefix}
 
 -- the laws on which a call stands
 pub record Grounds : Type 0 where

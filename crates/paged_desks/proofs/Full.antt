@@ -1,15 +1,15 @@
 -- Where no frame can be given: nothing but a sync helps; and behind one it is not so.
 use Rattle.std.proofs.Common.{◌≡◌, ◌∙◌, ◌≤◌, ◌<◌, ◌+◌, ◌++◌, ◌||◌, ◌⊎◌, inl, inr, ℕ, zero, suc, Bool, true, false, List, [], ◌∷◌, Some, None, ap, refl, sym, subst, arith, true≢false}
-use Rattle.core_calls.specs.Fronts.{Done}
-use Rattle.core_calls.specs.LogEvents.{EveryWhere, IsTaken, IsTight}
+use Rattle.desk_parts.specs.core_calls.Fronts.{Done}
+use Rattle.desk_parts.specs.core_calls.LogEvents.{EveryWhere, IsTaken, IsTight}
 use Rattle.core_covers.specs.Lows.{EveryLow, IsAllFlushed}
-use Rattle.btree_descent.specs.core_state.Events as happening
+use Rattle.desk_parts.specs.core_state.Events as happening
 use Rattle.rfa_model.specs.Reaches.{least}
-use Rattle.btree_descent.specs.core_state.Local.{is_sync}
-use Rattle.btree_descent.specs.core_state.Openings.{Opening}
-use Rattle.btree_descent.specs.core_state.States.{State, flushed_by_all}
-use Rattle.btree_descent.specs.core_state.Steps.{state_after}
-use Rattle.engine_calls.specs.Parts.{behind_first}
+use Rattle.desk_parts.specs.core_state.Local.{is_sync}
+use Rattle.desk_parts.specs.core_state.Openings.{Opening}
+use Rattle.desk_parts.specs.core_state.States.{State, flushed_by_all}
+use Rattle.desk_parts.specs.core_state.Steps.{state_after}
+use Rattle.desk_parts.specs.engine_calls.Parts.{behind_first}
 use Rattle.lean_disk.specs.Story.{Story}
 use Rattle.map_model.specs.Lists.{any}
 use Rattle.map_model.specs.declared.call.Call.TheVariants as call
@@ -20,14 +20,14 @@ use Rattle.paged_rows.specs.Paged.{Paged}
 use Rattle.paged_rows.specs.Warms.{IsCrowded, IsKept, IsNeeded}
 use Rattle.paged_rows.specs.declared.wanted.Wanted.{Wanted}
 use Rattle.paged_rows.specs.declared.wanted.Wanted.TheVariants as want
-use Rattle.row_opening.specs.Openings.{EveryNeed, EveryReached}
-use Rattle.btree_descent.specs.row_words.Moments.{events_of}
-use Rattle.btree_descent.specs.row_words.Openings.{opening}
-use Rattle.btree_descent.specs.rows_trait.declared.view.View.{View}
-use Rattle.btree_descent.specs.rows_trait.Views.{state}
-use Rattle.session_desks.specs.Syncs.{HasOpening}
-use Rattle.session_desks.proofs.SyncViews.{core_is}
-use Rattle.session_state.specs.Ties.{Behind}
+use Rattle.desk_parts.specs.row_opening.Openings.{EveryNeed, EveryReached}
+use Rattle.desk_parts.specs.row_words.Moments.{events_of}
+use Rattle.desk_parts.specs.row_words.Openings.{opening}
+use Rattle.desk_parts.specs.rows_trait.declared.view.View.{View}
+use Rattle.desk_parts.specs.rows_trait.Views.{state}
+use Rattle.desk_parts.specs.session_desks.Syncs.{HasOpening}
+use Rattle.desk_parts.proofs.session_desks.SyncViews.{core_is}
+use Rattle.desk_parts.specs.session_state.Ties.{Behind}
 use Rattle.paged_desks.specs.Machines.{IsNobodyInside, view_of}
 use Rattle.paged_desks.specs.Pages.{HasPaged, hot_in}
 use Rattle.paged_desks.specs.Syncs.{IsSynced}
@@ -131,8 +131,8 @@ module _ (key : ℕ) (wanted : Wanted) (on above held : ℕ) (q : Paged) (reache
       few : on ≤ 8
       few = c.few
 
-      go : (a h : ℕ) → on + a + h ≡ q.pager.frames → (0 < a → (p : ℕ) × (Rattle.btree_descent.specs.core_state.States.is_cooling ((state q.view).core.place p) ≡ true) × (flushed_by_all (opening q.view.given) (state q.view).core < ((state q.view).core.page p).gsn))
-          → (0 < h → (p : ℕ) × (Rattle.btree_descent.specs.core_state.States.is_cooling ((state q.view).core.place p) ≡ true) × IsHeldBack (state q.view).core p) → ⊥
+      go : (a h : ℕ) → on + a + h ≡ q.pager.frames → (0 < a → (p : ℕ) × (Rattle.desk_parts.specs.core_state.States.is_cooling ((state q.view).core.place p) ≡ true) × (flushed_by_all (opening q.view.given) (state q.view).core < ((state q.view).core.page p).gsn))
+          → (0 < h → (p : ℕ) × (Rattle.desk_parts.specs.core_state.States.is_cooling ((state q.view).core.place p) ≡ true) × IsHeldBack (state q.view).core p) → ⊥
       go zero zero sum x y = let f = few in let k = frames in omega arith
       go zero (suc h) sum x y = let p = y (omega arith) in free_of (state q.view).core p.0 outside p.2
       go (suc a) h sum x y = let p = x (omega arith) in let k = none_above p.0 in let l = p.2 in omega arith

@@ -2,39 +2,39 @@
 use Rattle.std.proofs.Common.{◌≡◌, ◌∙◌, ◌≤◌, ◌<◌, ◌+◌, ◌*◌, ◌++◌, ◌||◌, ℕ, Bool, true, false, List, [], ◌∷◌, ap, refl, sym, subst, arith, append_assoc, if◌then◌else◌, true≢false}
 use Rattle.std.proofs.lemmas.Bool.{or_parts}
 use Rattle.std.proofs.lemmas.List.{append-nil, length-append}
-use Rattle.core_calls.specs.Fronts.{Done}
-use Rattle.core_calls.specs.LogEvents.{EveryWhere, IsTight, SyncsWhere, is_log}
-use Rattle.btree_descent.specs.core_state.Events as happening
-use Rattle.btree_descent.specs.core_state.Local.{is_sync}
-use Rattle.btree_descent.specs.core_state.Needs.{may}
-use Rattle.btree_descent.specs.core_state.Openings.{Opening}
-use Rattle.btree_descent.specs.core_state.States.{State}
-use Rattle.btree_descent.specs.core_state.Steps as steps
-use Rattle.btree_descent.specs.core_state.Steps.{AllMet, happens, step}
-use Rattle.btree_descent.proofs.core_state_lemmas.Runs.{run_more}
-use Rattle.engine_calls.specs.Parts.{behind_first}
-use Rattle.engine_trait.specs.Logs.{Logs, LogsOne}
+use Rattle.desk_parts.specs.core_calls.Fronts.{Done}
+use Rattle.desk_parts.specs.core_calls.LogEvents.{EveryWhere, IsTight, SyncsWhere, is_log}
+use Rattle.desk_parts.specs.core_state.Events as happening
+use Rattle.desk_parts.specs.core_state.Local.{is_sync}
+use Rattle.desk_parts.specs.core_state.Needs.{may}
+use Rattle.desk_parts.specs.core_state.Openings.{Opening}
+use Rattle.desk_parts.specs.core_state.States.{State}
+use Rattle.desk_parts.specs.core_state.Steps as steps
+use Rattle.desk_parts.specs.core_state.Steps.{AllMet, happens, step}
+use Rattle.desk_parts.proofs.core_state.Runs.{run_more}
+use Rattle.desk_parts.specs.engine_calls.Parts.{behind_first}
+use Rattle.desk_parts.specs.engine_trait.Logs.{Logs, LogsOne}
 use Rattle.lean_disk.specs.Story.{Story}
 use Rattle.map_model.specs.Lists.{any}
 use Rattle.map_model.specs.declared.call.Call.TheVariants as call
-use Rattle.page_provider.specs.Amounts.{EveryFew}
-use Rattle.page_provider.specs.Moves.{AreMet, ArePagers, Moved, is_pagers}
-use Rattle.page_provider.specs.Sequels.{EverySequel}
-use Rattle.row_opening.specs.Openings.{EveryNeed, EveryReached, Opens}
-use Rattle.btree_descent.specs.row_words.declared.event.Event.{Event}
-use Rattle.btree_descent.specs.row_words.declared.event.Event.TheVariants as told
-use Rattle.btree_descent.specs.row_words.declared.given.Given.{Given}
-use Rattle.btree_descent.specs.row_words.Moments.{Moment, actor_of, event_of, events_of, pager}
-use Rattle.btree_descent.specs.row_words.Openings.{opening}
-use Rattle.btree_descent.specs.row_words.Sealed.{stepped}
-use Rattle.btree_descent.specs.rows_trait.Views.{state}
-use Rattle.session_desks.specs.Desks.{desk_of}
-use Rattle.session_desks.specs.Parts.{here, logs, shape}
-use Rattle.session_desks.specs.declared.desk.Desk.{Desk}
-use Rattle.session_desks.proofs.SyncViews.{core_is, events_more, logs_join, more}
-use Rattle.session_state.specs.Ties.{Behind}
-use Rattle.session_state.specs.declared.session.Session.{Session}
-use Rattle.disk_runs.specs.worker_log.Logs.{Log}
+use Rattle.desk_parts.specs.page_provider.Amounts.{EveryFew}
+use Rattle.desk_parts.specs.page_provider.Moves.{AreMet, ArePagers, Moved, is_pagers}
+use Rattle.desk_parts.specs.page_provider.Sequels.{EverySequel}
+use Rattle.desk_parts.specs.row_opening.Openings.{EveryNeed, EveryReached, Opens}
+use Rattle.desk_parts.specs.row_words.declared.event.Event.{Event}
+use Rattle.desk_parts.specs.row_words.declared.event.Event.TheVariants as told
+use Rattle.desk_parts.specs.row_words.declared.given.Given.{Given}
+use Rattle.desk_parts.specs.row_words.Moments.{Moment, actor_of, event_of, events_of, pager}
+use Rattle.desk_parts.specs.row_words.Openings.{opening}
+use Rattle.desk_parts.specs.row_words.Sealed.{stepped}
+use Rattle.desk_parts.specs.rows_trait.Views.{state}
+use Rattle.desk_parts.specs.session_desks.Desks.{desk_of}
+use Rattle.desk_parts.specs.session_desks.Parts.{here, logs, shape}
+use Rattle.desk_parts.specs.session_desks.declared.desk.Desk.{Desk}
+use Rattle.desk_parts.proofs.session_desks.SyncViews.{core_is, events_more, logs_join, more}
+use Rattle.desk_parts.specs.session_state.Ties.{Behind}
+use Rattle.desk_parts.specs.session_state.declared.session.Session.{Session}
+use Rattle.desk_parts.specs.worker_log.Logs.{Log}
 use Rattle.paged_desks.specs.Machines.{IsReady, view_of}
 use Rattle.paged_desks.specs.Pages.{ArePaging, HasPaged, IsKept, is_paging}
 use Rattle.paged_desks.specs.Inside.{IsBeside}
@@ -183,7 +183,7 @@ module _ {D : Type 0} (key : ℕ) (where_ : EveryWhere) {p q r : PagedMachine D}
   tight : (g : Opening) (xs : List Done) (first : List happening.Event) → Behind g xs first (view_of p) → SyncsWhere (λ s. IsTight g s key) g (behind_first g xs first) false (events_of (a.events ++ b.events))
   tight g xs first f = subst (SyncsWhere (λ s. IsTight g s key) g (behind_first g xs first) false) (sym all)
       ((where_ (call.Get key) (call.Get key) g (behind_first g xs first) (events_of a.events)).more (events_of b.events) (a.tight g xs first f)
-      (subst (λ s. SyncsWhere (λ t. IsTight g t key) g s false (events_of b.events)) (run_more g (steps.state_after g (Rattle.core_calls.specs.Fronts.front xs)) first (events_of a.events)) (b.tight g xs (first ++ events_of a.events) (a.behind g xs first f))))
+      (subst (λ s. SyncsWhere (λ t. IsTight g t key) g s false (events_of b.events)) (run_more g (steps.state_after g (Rattle.desk_parts.specs.core_calls.Fronts.front xs)) first (events_of a.events)) (b.tight g xs (first ++ events_of a.events) (a.behind g xs first f))))
 
   logged : (w : ℕ) → 0 < w → w ≤ p.machine.work.session.workers → (g : Opening) (s : State) → Logs w g s (events_of (a.events ++ b.events)) (logs p.machine w) (logs r.machine w)
   logged w some high g s = subst (λ es. Logs w g s es (logs p.machine w) (logs r.machine w)) (sym all)

@@ -7,16 +7,16 @@ use Rattle.map_model.specs.declared.call.Call.TheVariants as call
 use Rattle.map_model.specs.declared.call.Refusal.{Refusal}
 use Rattle.map_model.specs.declared.call.Refusal.TheVariants as refusal
 use Rattle.map_model.specs.Lists.{keep}
-use Rattle.btree_descent.specs.core_state.Openings.{Opening}
-use Rattle.btree_descent.specs.core_state.Events.{Event}
-use Rattle.core_calls.specs.Deeds.{Deed, Begun, Got, Changed, Deleted, Absent, Met, Paused, Over, Committed, Aborted, Refused, Synced, Checkpointed, Unsaid, marks_by, marks_for, marks_of, reads_of}
-use Rattle.core_calls.specs.Fronts.{Done, front, outcomes}
-use Rattle.core_calls.specs.Marks.{Mark, is_half}
-use Rattle.core_calls.specs.Runs.{EachTells, IsRefused, Tells}
-use Rattle.core_calls.specs.Steps.{Goes, MayPutBack, call_behind, is_step}
+use Rattle.desk_parts.specs.core_state.Openings.{Opening}
+use Rattle.desk_parts.specs.core_state.Events.{Event}
+use Rattle.desk_parts.specs.core_calls.Deeds.{Deed, Begun, Got, Changed, Deleted, Absent, Met, Paused, Over, Committed, Aborted, Refused, Synced, Checkpointed, Unsaid, marks_by, marks_for, marks_of, reads_of}
+use Rattle.desk_parts.specs.core_calls.Fronts.{Done, front, outcomes}
+use Rattle.desk_parts.specs.core_calls.Marks.{Mark, is_half}
+use Rattle.desk_parts.specs.core_calls.Runs.{EachTells, IsRefused, Tells}
+use Rattle.desk_parts.specs.core_calls.Steps.{Goes, MayPutBack, call_behind, is_step}
 use Rattle.map_model.specs.Histories.{Step}
-use Rattle.engine_trait.specs.Calls.{is_half_done}
-use Rattle.engine_trait.specs.Limits.{limits}
+use Rattle.desk_parts.specs.engine_trait.Calls.{is_half_done}
+use Rattle.desk_parts.specs.engine_trait.Limits.{limits}
 
 -- ## In a run
 

@@ -1,21 +1,21 @@
 -- Why a RowSpent comes.
 use Rattle.std.proofs.Common.{◌≡◌, ◌∙◌, ◌≤◌, ◌<◌, ◌⊎◌, ◌↔◌, inl, inr, ℕ, zero, suc, Bool, true, false, Option, Result, Ok, Err, IfErr, length, ap, refl, sym, subst, arith, true≢false}
 use Rattle.std.proofs.lemmas.Bool.{cases_eq, cases_lt}
-use Rattle.page_provider.specs.declared.refusal.Refusal.{Refusal}
-use Rattle.page_provider.specs.declared.refusal.Refusal.TheVariants as refusal
-use Rattle.page_provider.specs.Refusals.{Caused}
+use Rattle.desk_parts.specs.page_provider.declared.refusal.Refusal.{Refusal}
+use Rattle.desk_parts.specs.page_provider.declared.refusal.Refusal.TheVariants as refusal
+use Rattle.desk_parts.specs.page_provider.Refusals.{Caused}
 use Rattle.paged_rows.specs.Paged.{Paged}
 use Rattle.paged_rows.specs.Warms.{IsRefusedTo}
 use Rattle.paged_rows.specs.declared.wanted.Wanted.{Wanted}
-use Rattle.btree_descent.specs.rows_trait.Causes.{EveryLow}
-use Rattle.btree_descent.specs.rows_trait.declared.view.View.{View}
-use Rattle.btree_descent.specs.rows_trait.Views.{AreLow}
-use Rattle.session_desks.specs.Desks.{desk_of}
-use Rattle.session_desks.specs.Machines.{AreDesks}
-use Rattle.session_desks.specs.Parts.{MaySync, here, shape}
-use Rattle.session_desks.specs.declared.desk.Desk.{Desk}
-use Rattle.session_state.specs.Syncs.{EveryFlush, MayFlush, finds_room}
-use Rattle.session_state.specs.declared.session.Session.{Session}
+use Rattle.desk_parts.specs.rows_trait.Causes.{EveryLow}
+use Rattle.desk_parts.specs.rows_trait.declared.view.View.{View}
+use Rattle.desk_parts.specs.rows_trait.Views.{AreLow}
+use Rattle.desk_parts.specs.session_desks.Desks.{desk_of}
+use Rattle.desk_parts.specs.session_desks.Machines.{AreDesks}
+use Rattle.desk_parts.specs.session_desks.Parts.{MaySync, here, shape}
+use Rattle.desk_parts.specs.session_desks.declared.desk.Desk.{Desk}
+use Rattle.desk_parts.specs.session_state.Syncs.{EveryFlush, MayFlush, finds_room}
+use Rattle.desk_parts.specs.session_state.declared.session.Session.{Session}
 use Rattle.paged_desks.specs.Inside.{IsOfPage, LateCause, stopped_by}
 use Rattle.paged_desks.specs.Machines.{view_of}
 use Rattle.paged_desks.specs.Pages.{AreKept}

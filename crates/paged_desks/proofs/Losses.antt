@@ -1,21 +1,21 @@
 -- Over a run each page is to be had.
 use Rattle.std.proofs.Common.{◌≡◌, ◌∙◌, ◌⊎◌, ◌++◌, ℕ, Result, Ok, Err, IfErr, List, ap, inl, inr, sym, subst}
-use Rattle.call_parts.specs.Memory.{IsOf}
-use Rattle.call_parts.specs.Parts.{Part}
-use Rattle.core_calls.specs.Fronts.{Done, front}
-use Rattle.btree_descent.specs.core_state.Events as happening
-use Rattle.btree_descent.specs.core_state.Openings.{Opening}
-use Rattle.disk_runs.specs.Stands.{Known, Stands}
+use Rattle.desk_parts.specs.call_parts.Memory.{IsOf}
+use Rattle.desk_parts.specs.call_parts.Parts.{Part}
+use Rattle.desk_parts.specs.core_calls.Fronts.{Done, front}
+use Rattle.desk_parts.specs.core_state.Events as happening
+use Rattle.desk_parts.specs.core_state.Openings.{Opening}
+use Rattle.desk_parts.specs.disk_runs.Stands.{Known, Stands}
 use Rattle.lean_disk.specs.Story.{Crash, Story}
-use Rattle.page_provider.specs.Disks.{Runs}
-use Rattle.page_provider.specs.Faults.{EveryFound}
-use Rattle.page_provider.specs.declared.refusal.Refusal.{Refusal}
-use Rattle.page_provider.specs.declared.refusal.Refusal.TheVariants as refusal
+use Rattle.desk_parts.specs.page_provider.Disks.{Runs}
+use Rattle.desk_parts.specs.page_provider.Faults.{EveryFound}
+use Rattle.desk_parts.specs.page_provider.declared.refusal.Refusal.{Refusal}
+use Rattle.desk_parts.specs.page_provider.declared.refusal.Refusal.TheVariants as refusal
 use Rattle.paged_rows.specs.Warms.{IsLost, LostTo}
-use Rattle.btree_descent.specs.row_words.declared.event.Event.{Event}
-use Rattle.btree_descent.specs.row_words.Moments.{events_of}
-use Rattle.session_desks.specs.Parts.{shape}
-use Rattle.session_state.specs.Ties.{Behind}
+use Rattle.desk_parts.specs.row_words.declared.event.Event.{Event}
+use Rattle.desk_parts.specs.row_words.Moments.{events_of}
+use Rattle.desk_parts.specs.session_desks.Parts.{shape}
+use Rattle.desk_parts.specs.session_state.Ties.{Behind}
 use Rattle.paged_desks.specs.Inside.{AwayCause, UnreadCause, stopped_by}
 use Rattle.paged_desks.specs.Machines.{IsReady, memory, pages, view_of}
 use Rattle.paged_desks.specs.Parts.{StandsNowhere}

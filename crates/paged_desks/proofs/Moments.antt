@@ -1,24 +1,24 @@
 -- What moves of pages and syncs leave of a state.
 use Rattle.std.proofs.Common.{◌≡◌, ◌∙◌, ◌++◌, ℕ, suc, Bool, true, false, List, [], ◌∷◌, length, ap, refl, sym, subst, if◌then◌else◌, true≢false}
-use Rattle.core_calls.specs.LogEvents.{AreFlushes}
-use Rattle.btree_descent.specs.core_state.Events as happening
-use Rattle.btree_descent.specs.core_state.Needs.{may}
-use Rattle.btree_descent.specs.core_state.Openings.{Opening}
-use Rattle.btree_descent.specs.core_state.States.{Place, State, Worker}
-use Rattle.btree_descent.specs.core_state.Steps.{happens}
-use Rattle.btree_descent.specs.image_model.Entries.{Contents}
-use Rattle.page_provider.specs.Moves.{ArePagers, Moved, is_pagers}
-use Rattle.page_provider.specs.Providers.{Keeps, Provider}
-use Rattle.page_provider.specs.Sequels.{EverySequel}
-use Rattle.btree_descent.specs.row_words.declared.event.Event.{Event}
-use Rattle.btree_descent.specs.row_words.declared.event.Event.TheVariants as told
-use Rattle.btree_descent.specs.row_words.declared.given.Given.{Given}
-use Rattle.btree_descent.specs.row_words.Moments.{Moment, event_of, events_of}
-use Rattle.btree_descent.specs.row_words.Openings.{opening}
-use Rattle.btree_descent.specs.row_words.Sealed.{run, stepped}
-use Rattle.btree_descent.specs.rows_trait.declared.view.View.{View}
-use Rattle.btree_descent.specs.rows_trait.Views.{Shape, state}
-use Rattle.session_desks.proofs.FloorLemmas.{seen_more}
+use Rattle.desk_parts.specs.core_calls.LogEvents.{AreFlushes}
+use Rattle.desk_parts.specs.core_state.Events as happening
+use Rattle.desk_parts.specs.core_state.Needs.{may}
+use Rattle.desk_parts.specs.core_state.Openings.{Opening}
+use Rattle.desk_parts.specs.core_state.States.{Place, State, Worker}
+use Rattle.desk_parts.specs.core_state.Steps.{happens}
+use Rattle.desk_parts.specs.image_model.Entries.{Contents}
+use Rattle.desk_parts.specs.page_provider.Moves.{ArePagers, Moved, is_pagers}
+use Rattle.desk_parts.specs.page_provider.Providers.{Keeps, Provider}
+use Rattle.desk_parts.specs.page_provider.Sequels.{EverySequel}
+use Rattle.desk_parts.specs.row_words.declared.event.Event.{Event}
+use Rattle.desk_parts.specs.row_words.declared.event.Event.TheVariants as told
+use Rattle.desk_parts.specs.row_words.declared.given.Given.{Given}
+use Rattle.desk_parts.specs.row_words.Moments.{Moment, event_of, events_of}
+use Rattle.desk_parts.specs.row_words.Openings.{opening}
+use Rattle.desk_parts.specs.row_words.Sealed.{run, stepped}
+use Rattle.desk_parts.specs.rows_trait.declared.view.View.{View}
+use Rattle.desk_parts.specs.rows_trait.Views.{Shape, state}
+use Rattle.desk_parts.proofs.session_desks.FloorLemmas.{seen_more}
 
 -- one event
 pub step_core : (v : Given) (m : Moment) (e : Event) → (stepped v m e).core ≡ (if may (opening v) m.core (event_of e) then happens (opening v) m.core (event_of e) else m.core)

@@ -1,47 +1,47 @@
 -- A machine stands while the session whose turn it is begins, takes a row, or reads.
 use Rattle.std.proofs.Common.{◌≡◌, ◌∙◌, ◌≤◌, ◌++◌, ◌^◌, ◌⊎◌, inl, inr, ℕ, zero, suc, Bool, true, false, cond, List, [], ◌∷◌, Global, Vec, get_or, ap, refl, sym, subst, true≢false}
 use Rattle.std.proofs.lemmas.Bool.{cases_eq}
-use Rattle.btree_descent.specs.core_paging.Paging.{Waiting}
-use Rattle.btree_descent.specs.core_state.Events as happening
-use Rattle.btree_descent.specs.core_state.Needs.{may}
-use Rattle.btree_descent.specs.core_state.Openings.{Opening}
-use Rattle.btree_descent.specs.core_state.States.{Row, State, Worker}
-use Rattle.btree_descent.specs.core_state.Steps.{happens}
-use Rattle.btree_descent.specs.Known.{IsSound as IsSoundTree}
+use Rattle.desk_parts.specs.core_paging.Paging.{Waiting}
+use Rattle.desk_parts.specs.core_state.Events as happening
+use Rattle.desk_parts.specs.core_state.Needs.{may}
+use Rattle.desk_parts.specs.core_state.Openings.{Opening}
+use Rattle.desk_parts.specs.core_state.States.{Row, State, Worker}
+use Rattle.desk_parts.specs.core_state.Steps.{happens}
+use Rattle.desk_parts.specs.btree_descent.Known.{IsSound as IsSoundTree}
 use Rattle.desk_parts.specs.Pages.{HasSlots}
-use Rattle.disk_runs.specs.disk_slots.declared.master.Master.{Master}
-use Rattle.btree_descent.specs.image_model.Entries.{Entry, is_record}
+use Rattle.desk_parts.specs.disk_slots.declared.master.Master.{Master}
+use Rattle.desk_parts.specs.image_model.Entries.{Entry, is_record}
 use Rattle.lean_disk.specs.Story.{Story, Tells}
 use Rattle.map_model.specs.Maps.{MapAnswer}
 use Rattle.map_model.specs.Lists.{Has}
-use Rattle.page_calls.specs.Mirrors.{Mirrors}
+use Rattle.desk_parts.specs.page_calls.Mirrors.{Mirrors}
 use Rattle.page_pool.specs.Pools.{Agrees, Pool}
-use Rattle.page_provider.specs.Mirrored.{IsMirrored}
-use Rattle.page_provider.specs.Providers.{IsKept, Keeps, Provider, pool}
-use Rattle.btree_descent.specs.row_words.declared.event.Event.{Event}
-use Rattle.btree_descent.specs.row_words.declared.event.Event.TheVariants as told
-use Rattle.btree_descent.specs.row_words.declared.event.Met.TheVariants as met
-use Rattle.btree_descent.specs.row_words.declared.given.Given.{Given}
-use Rattle.btree_descent.specs.row_words.Moments.{Moment, event_of, mode_of}
-use Rattle.btree_descent.specs.row_words.Openings.{opening}
-use Rattle.btree_descent.specs.row_words.Sealed.{stepped}
-use Rattle.btree_descent.specs.rows_trait.declared.view.View.{View}
-use Rattle.btree_descent.specs.rows_trait.Views.{Shape, after_all, state}
-use Rattle.session_desks.specs.Desks.{desk_of, log_of, place_of}
-use Rattle.session_desks.specs.Machines.{AreLogged, IsMachine}
-use Rattle.session_desks.specs.Parts.{IsSound, SeatFits, here, logs, shape}
-use Rattle.session_desks.specs.Syncs.{HasOpening}
-use Rattle.session_desks.specs.declared.desk.Desk.{Desk}
-use Rattle.session_desks.proofs.DeskLemmas.{desk_apart, desk_own}
-use Rattle.session_desks.proofs.FloorLemmas.{seen_more}
-use Rattle.session_desks.proofs.MachineLemmas.{machine_behind}
-use Rattle.session_state.proofs.Moments.{acts}
-use Rattle.session_state.specs.Holds.{Holds, IsSameSession}
-use Rattle.session_state.specs.Others.{EveryOther, Steps}
-use Rattle.disk_runs.specs.worker_log.Logs.{Log}
+use Rattle.desk_parts.specs.page_provider.Mirrored.{IsMirrored}
+use Rattle.desk_parts.specs.page_provider.Providers.{IsKept, Keeps, Provider, pool}
+use Rattle.desk_parts.specs.row_words.declared.event.Event.{Event}
+use Rattle.desk_parts.specs.row_words.declared.event.Event.TheVariants as told
+use Rattle.desk_parts.specs.row_words.declared.event.Met.TheVariants as met
+use Rattle.desk_parts.specs.row_words.declared.given.Given.{Given}
+use Rattle.desk_parts.specs.row_words.Moments.{Moment, event_of, mode_of}
+use Rattle.desk_parts.specs.row_words.Openings.{opening}
+use Rattle.desk_parts.specs.row_words.Sealed.{stepped}
+use Rattle.desk_parts.specs.rows_trait.declared.view.View.{View}
+use Rattle.desk_parts.specs.rows_trait.Views.{Shape, after_all, state}
+use Rattle.desk_parts.specs.session_desks.Desks.{desk_of, log_of, place_of}
+use Rattle.desk_parts.specs.session_desks.Machines.{AreLogged, IsMachine}
+use Rattle.desk_parts.specs.session_desks.Parts.{IsSound, SeatFits, here, logs, shape}
+use Rattle.desk_parts.specs.session_desks.Syncs.{HasOpening}
+use Rattle.desk_parts.specs.session_desks.declared.desk.Desk.{Desk}
+use Rattle.desk_parts.proofs.session_desks.DeskLemmas.{desk_apart, desk_own}
+use Rattle.desk_parts.proofs.session_desks.FloorLemmas.{seen_more}
+use Rattle.desk_parts.proofs.session_desks.MachineLemmas.{machine_behind}
+use Rattle.desk_parts.proofs.session_state.Moments.{acts}
+use Rattle.desk_parts.specs.session_state.Holds.{Holds, IsSameSession}
+use Rattle.desk_parts.specs.session_state.Others.{EveryOther, Steps}
+use Rattle.desk_parts.specs.worker_log.Logs.{Log}
 use Rattle.paged_desks.specs.Machines.{IsNobodyInside, IsReady, memory, view_of}
 use Rattle.paged_desks.specs.declared.machine.PagedMachine.{PagedMachine}
-use Rattle.call_parts.specs.Memory.{Memory}
+use Rattle.desk_parts.specs.call_parts.Memory.{Memory}
 use Rattle.paged_desks.specs.Calls.{IsBeside}
 
 -- ## What a begin, a row or a read changes

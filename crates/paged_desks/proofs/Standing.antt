@@ -1,32 +1,32 @@
 -- A machine stands while pages move.
 use Rattle.std.proofs.Common.{◌≡◌, ◌∙◌, ◌≤◌, ◌↔◌, ℕ, zero, suc, if◌then◌else◌, Bool, true, false, List, [], ◌∷◌, ap, refl, sym, subst, arith}
-use Rattle.core_calls.specs.LogEvents.{behind}
-use Rattle.core_calls.specs.Room.{free_list, frees_from}
-use Rattle.btree_descent.specs.core_state.Needs.{holds_row}
-use Rattle.btree_descent.specs.core_state.States.{State, flushed_by_all}
+use Rattle.desk_parts.specs.core_calls.LogEvents.{behind}
+use Rattle.desk_parts.specs.core_calls.Room.{free_list, frees_from}
+use Rattle.desk_parts.specs.core_state.Needs.{holds_row}
+use Rattle.desk_parts.specs.core_state.States.{State, flushed_by_all}
 use Rattle.desk_parts.specs.Pages.{HasSlots}
-use Rattle.disk_runs.specs.disk_slots.declared.master.Master.{Master}
-use Rattle.btree_descent.specs.image_model.Entries.{Entry, is_record}
+use Rattle.desk_parts.specs.disk_slots.declared.master.Master.{Master}
+use Rattle.desk_parts.specs.image_model.Entries.{Entry, is_record}
 use Rattle.lean_disk.specs.Story.{Story}
-use Rattle.log_calls.specs.Wholes.{EndsInRecord}
+use Rattle.desk_parts.specs.log_calls.Wholes.{EndsInRecord}
 use Rattle.map_model.specs.Lists.{Has}
 use Rattle.page_model.specs.Nodes.{Node}
-use Rattle.page_provider.specs.Moves.{Moved}
-use Rattle.page_provider.specs.Sequels.{EverySequel}
+use Rattle.desk_parts.specs.page_provider.Moves.{Moved}
+use Rattle.desk_parts.specs.page_provider.Sequels.{EverySequel}
 use Rattle.paged_rows.specs.Paged.{IsFedIfFaithful, IsPaged}
-use Rattle.btree_descent.specs.row_words.declared.given.Given.{Given}
-use Rattle.btree_descent.specs.row_words.Openings.{opening}
-use Rattle.btree_descent.specs.rows_trait.declared.view.View.{View}
-use Rattle.btree_descent.specs.rows_trait.Views.{Shape, state}
-use Rattle.session_desks.specs.Desks.{desk_of, log_of}
-use Rattle.session_desks.specs.Machines.{AreDesks, AreLogged}
-use Rattle.session_desks.specs.Parts.{IsSound, SeatFits, here, logs, shape}
-use Rattle.session_desks.specs.Syncs.{HasOpening}
-use Rattle.session_desks.specs.declared.desk.Desk.{Desk}
-use Rattle.session_state.proofs.HoldLemmas.{rows_on}
-use Rattle.session_state.specs.Holds.{Holds, IsOf}
-use Rattle.session_state.specs.declared.session.Session.{Session}
-use Rattle.disk_runs.specs.worker_log.Logs.{Log}
+use Rattle.desk_parts.specs.row_words.declared.given.Given.{Given}
+use Rattle.desk_parts.specs.row_words.Openings.{opening}
+use Rattle.desk_parts.specs.rows_trait.declared.view.View.{View}
+use Rattle.desk_parts.specs.rows_trait.Views.{Shape, state}
+use Rattle.desk_parts.specs.session_desks.Desks.{desk_of, log_of}
+use Rattle.desk_parts.specs.session_desks.Machines.{AreDesks, AreLogged}
+use Rattle.desk_parts.specs.session_desks.Parts.{IsSound, SeatFits, here, logs, shape}
+use Rattle.desk_parts.specs.session_desks.Syncs.{HasOpening}
+use Rattle.desk_parts.specs.session_desks.declared.desk.Desk.{Desk}
+use Rattle.desk_parts.proofs.session_state.HoldLemmas.{rows_on}
+use Rattle.desk_parts.specs.session_state.Holds.{Holds, IsOf}
+use Rattle.desk_parts.specs.session_state.declared.session.Session.{Session}
+use Rattle.desk_parts.specs.worker_log.Logs.{Log}
 use Rattle.paged_desks.specs.Machines.{IsNobodyInside, IsReady, memory, pages, view_of}
 use Rattle.paged_desks.specs.Inside.{IsBeside}
 use Rattle.paged_desks.specs.declared.machine.PagedMachine.{PagedMachine}
@@ -107,7 +107,7 @@ module _ {D : Type 0} (story : D → Story) (m n : PagedMachine D) (seq : EveryS
     desks = subst (λ (q : Desk × List Desk). AreDesks (shape n.machine) (view_of n) q.0 q.1) (λ i. (sym (here_is b) i, (sym b.desks i).items))
         (desks_on (shape n.machine) (view_of m) (view_of n) given moved.goes.held rest (here m.machine) m.machine.desks.items (subst (λ (z : Shape). AreDesks z (view_of m) (here m.machine) m.machine.desks.items) (sym b.shape) ready.sound.desks));
     unmarked = subst (λ (q : List Bool × ℕ). q.0 ≡ Rattle.std.specs.Prelude.replicate q.1 false) (λ i. (sym b.latches i, (sym b.session i).held.count)) ready.sound.unmarked;
-    numbers = subst (λ (q : Master × ℕ). Rattle.session_desks.specs.Machines.HasNumbers q.0 q.1) (λ i. (sym b.master i, (sym b.session i).workers)) ready.sound.numbers;
+    numbers = subst (λ (q : Master × ℕ). Rattle.desk_parts.specs.session_desks.Machines.HasNumbers q.0 q.1) (λ i. (sym b.master i, (sym b.session i).workers)) ready.sound.numbers;
     floor = subst (λ (q : Master × State). q.0.floor ≤ q.1.floor) (λ i. (sym b.master i, sym rest.is i)) ready.sound.floor;
   }
 

@@ -1,17 +1,17 @@
 -- A page is brought, or not, and the machine goes on, or stops.
 use Rattle.std.proofs.Common.{◌≡◌, ◌∙◌, arith, refl, subst, sym, ℕ, true, false, Err}
 use Rattle.core_covers.specs.Lows.{EveryLow, IsAllFlushed}
-use Rattle.btree_descent.specs.core_state.States.{State}
+use Rattle.desk_parts.specs.core_state.States.{State}
 use Rattle.lean_disk.specs.Story.{Story}
-use Rattle.page_provider.specs.declared.refusal.Refusal.{Refusal}
-use Rattle.page_provider.specs.Sequels.{EverySequel}
+use Rattle.desk_parts.specs.page_provider.declared.refusal.Refusal.{Refusal}
+use Rattle.desk_parts.specs.page_provider.Sequels.{EverySequel}
 use Rattle.paged_rows.specs.Warms.{IsRefusedTo}
 use Rattle.paged_rows.specs.declared.wanted.Wanted.{Wanted}
-use Rattle.row_opening.specs.Openings.{EveryReached}
-use Rattle.btree_descent.specs.row_words.declared.given.Given.{Given}
-use Rattle.btree_descent.specs.row_words.Openings.{opening}
-use Rattle.btree_descent.specs.rows_trait.Views.{state}
-use Rattle.session_desks.specs.Syncs.{HasOpening}
+use Rattle.desk_parts.specs.row_opening.Openings.{EveryReached}
+use Rattle.desk_parts.specs.row_words.declared.given.Given.{Given}
+use Rattle.desk_parts.specs.row_words.Openings.{opening}
+use Rattle.desk_parts.specs.rows_trait.Views.{state}
+use Rattle.desk_parts.specs.session_desks.Syncs.{HasOpening}
 use Rattle.paged_desks.specs.Machines.{IsNobodyInside, IsReady, pages, view_of}
 use Rattle.paged_desks.specs.Pages.{goes_on}
 use Rattle.paged_desks.specs.Inside.{IsOfPage, stopped_by}

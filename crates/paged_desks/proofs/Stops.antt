@@ -2,20 +2,20 @@
 use Rattle.std.proofs.Common.{◌≡◌, ◌∙◌, ◌<◌, ◌≤◌, ◌⊎◌, ◌||◌, inl, inr, ℕ, zero, suc, Bool, true, false, Option, Result, Err, List, [], ◌∷◌, length, get_or, ap, refl, sym, arith, true≢false}
 use Rattle.std.proofs.lemmas.Bool.{cases_eq}
 use Rattle.map_model.specs.Lists.{any}
-use Rattle.page_provider.specs.declared.refusal.Refusal.{Refusal}
-use Rattle.page_provider.specs.declared.refusal.Refusal.TheVariants as refusal
-use Rattle.page_provider.specs.Refusals.{breaks}
+use Rattle.desk_parts.specs.page_provider.declared.refusal.Refusal.{Refusal}
+use Rattle.desk_parts.specs.page_provider.declared.refusal.Refusal.TheVariants as refusal
+use Rattle.desk_parts.specs.page_provider.Refusals.{breaks}
 use Rattle.paged_rows.specs.Paged.{IsPaged, Paged}
 use Rattle.paged_rows.specs.Warms.{CrowdedCause, IsCrowded, IsRefusedTo}
 use Rattle.paged_rows.specs.declared.wanted.Wanted.{Wanted}
-use Rattle.btree_descent.specs.rows_trait.declared.view.View.{View}
-use Rattle.btree_descent.specs.rows_trait.Views.{Shape}
-use Rattle.session_desks.specs.Desks.{desk_of, place_of}
-use Rattle.session_desks.specs.Machines.{AreDesks}
-use Rattle.session_desks.specs.Syncs.{AreWhole, has_half, is_half_desk}
-use Rattle.session_desks.specs.declared.desk.Desk.{Desk}
-use Rattle.session_desks.proofs.DeskLemmas.{desk_apart, desk_own, place_low}
-use Rattle.session_desks.proofs.SeatLemmas.{turn_high, turn_low}
+use Rattle.desk_parts.specs.rows_trait.declared.view.View.{View}
+use Rattle.desk_parts.specs.rows_trait.Views.{Shape}
+use Rattle.desk_parts.specs.session_desks.Desks.{desk_of, place_of}
+use Rattle.desk_parts.specs.session_desks.Machines.{AreDesks}
+use Rattle.desk_parts.specs.session_desks.Syncs.{AreWhole, has_half, is_half_desk}
+use Rattle.desk_parts.specs.session_desks.declared.desk.Desk.{Desk}
+use Rattle.desk_parts.proofs.session_desks.DeskLemmas.{desk_apart, desk_own, place_low}
+use Rattle.desk_parts.proofs.session_desks.SeatLemmas.{turn_high, turn_low}
 use Rattle.paged_desks.specs.Machines.{pages}
 use Rattle.paged_desks.specs.Pages.{goes_on}
 use Rattle.paged_desks.specs.declared.machine.PagedMachine.{PagedMachine}

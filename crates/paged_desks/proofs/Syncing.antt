@@ -2,56 +2,56 @@
 use Rattle.std.proofs.Common.{◌≡◌, ◌∙◌, ◌≤◌, ◌<◌, ◌^◌, ◌++◌, ◌&&◌, inl, not, ℕ, Bool, true, false, List, [], ◌∷◌, length, map, ap, refl, sym, subst, arith, append_assoc, true≢false}
 use Rattle.std.proofs.lemmas.Bool.{and_parts}
 use Rattle.std.specs.Prelude.{IsTrue}
-use Rattle.call_parts.proofs.MemoryLemmas.{every_memory}
-use Rattle.call_parts.specs.Memory.{IsSame}
-use Rattle.call_parts.specs.Parts.{Part}
-use Rattle.core_calls.specs.Fronts.{Done}
-use Rattle.core_calls.specs.LogEvents.{IsSync}
+use Rattle.desk_parts.proofs.call_parts.MemoryLemmas.{every_memory}
+use Rattle.desk_parts.specs.call_parts.Memory.{IsSame}
+use Rattle.desk_parts.specs.call_parts.Parts.{Part}
+use Rattle.desk_parts.specs.core_calls.Fronts.{Done}
+use Rattle.desk_parts.specs.core_calls.LogEvents.{IsSync}
 use Rattle.core_covers.specs.Lows.{EverySync, IsAllFlushed}
-use Rattle.btree_descent.specs.core_state.Events as happening
+use Rattle.desk_parts.specs.core_state.Events as happening
 use Rattle.rfa_model.specs.Reaches.{least}
-use Rattle.btree_descent.specs.core_state.Needs.{is_empty_frame, may}
-use Rattle.btree_descent.specs.core_state.Openings.{Opening}
-use Rattle.btree_descent.specs.core_state.States.{State, epoch_of, in_frame, is_cooling, is_hot}
-use Rattle.btree_descent.specs.core_state.Steps as steps
+use Rattle.desk_parts.specs.core_state.Needs.{is_empty_frame, may}
+use Rattle.desk_parts.specs.core_state.Openings.{Opening}
+use Rattle.desk_parts.specs.core_state.States.{State, epoch_of, in_frame, is_cooling, is_hot}
+use Rattle.desk_parts.specs.core_state.Steps as steps
 use Rattle.cooling_stage.specs.declared.stage.Cooling.{Cooling}
 use Rattle.desk_parts.proofs.SyncLemmas.{sync_slots}
 use Rattle.desk_parts.specs.Laws.{EverySyncPart}
 use Rattle.desk_parts.specs.Syncs.{memory_with_slots}
-use Rattle.disk_runs.specs.disk_slots.declared.master.Master.{Master}
-use Rattle.engine_trait.specs.Logs.{Logs}
+use Rattle.desk_parts.specs.disk_slots.declared.master.Master.{Master}
+use Rattle.desk_parts.specs.engine_trait.Logs.{Logs}
 use Rattle.lean_disk.specs.Area.{Area}
 use Rattle.lean_disk.specs.Story.{Story}
 use Rattle.map_model.specs.Lists.{Has, all}
-use Rattle.page_calls.specs.Mirrors.{HoldsLast}
+use Rattle.desk_parts.specs.page_calls.Mirrors.{HoldsLast}
 use Rattle.page_pool.specs.Pools.{Agrees, IsEntry, Pool}
-use Rattle.page_provider.specs.Providers.{IsKept, Keeps, Provider, pool}
+use Rattle.desk_parts.specs.page_provider.Providers.{IsKept, Keeps, Provider, pool}
 use Rattle.paged_rows.specs.Paged.{IsFedIfFaithful, paged}
-use Rattle.row_opening.specs.Openings.{EveryNeed, EveryReached}
-use Rattle.btree_descent.specs.row_words.declared.event.Event.{Event}
-use Rattle.btree_descent.specs.row_words.declared.event.Event.TheVariants as told
-use Rattle.btree_descent.specs.row_words.declared.given.Given.{Given}
-use Rattle.btree_descent.specs.row_words.Moments.{Moment, event_of, events_of}
-use Rattle.btree_descent.specs.row_words.Openings.{opening}
-use Rattle.btree_descent.specs.rows_trait.declared.view.View.{View}
-use Rattle.btree_descent.specs.rows_trait.Views.{Shape, state}
-use Rattle.session_desks.specs.Desks.{desk_of}
-use Rattle.session_desks.specs.Parts.{HasLogs, HasTurned, IsSound, MakesSync, Works, here, logs, shape}
-use Rattle.session_desks.specs.Parts as desks
-use Rattle.session_desks.specs.Syncs.{Flushed, HasOpening, IsWritten}
-use Rattle.session_desks.specs.declared.machine.Machine.{Machine}
-use Rattle.session_desks.proofs.FloorLemmas.{seen_more}
-use Rattle.session_desks.proofs.SyncViews.{events_more}
-use Rattle.session_state.specs.Ties.{Behind}
-use Rattle.session_state.specs.declared.session.Session.{Session}
-use Rattle.disk_runs.specs.worker_log.Logs.{Log}
+use Rattle.desk_parts.specs.row_opening.Openings.{EveryNeed, EveryReached}
+use Rattle.desk_parts.specs.row_words.declared.event.Event.{Event}
+use Rattle.desk_parts.specs.row_words.declared.event.Event.TheVariants as told
+use Rattle.desk_parts.specs.row_words.declared.given.Given.{Given}
+use Rattle.desk_parts.specs.row_words.Moments.{Moment, event_of, events_of}
+use Rattle.desk_parts.specs.row_words.Openings.{opening}
+use Rattle.desk_parts.specs.rows_trait.declared.view.View.{View}
+use Rattle.desk_parts.specs.rows_trait.Views.{Shape, state}
+use Rattle.desk_parts.specs.session_desks.Desks.{desk_of}
+use Rattle.desk_parts.specs.session_desks.Parts.{HasLogs, HasTurned, IsSound, MakesSync, Works, here, logs, shape}
+use Rattle.desk_parts.specs.session_desks.Parts as desks
+use Rattle.desk_parts.specs.session_desks.Syncs.{Flushed, HasOpening, IsWritten}
+use Rattle.desk_parts.specs.session_desks.declared.machine.Machine.{Machine}
+use Rattle.desk_parts.proofs.session_desks.FloorLemmas.{seen_more}
+use Rattle.desk_parts.proofs.session_desks.SyncViews.{events_more}
+use Rattle.desk_parts.specs.session_state.Ties.{Behind}
+use Rattle.desk_parts.specs.session_state.declared.session.Session.{Session}
+use Rattle.desk_parts.specs.worker_log.Logs.{Log}
 use Rattle.paged_desks.specs.Machines.{IsNobodyInside, IsReady, memory, pages}
-use Rattle.core_calls.specs.LogEvents.{AreFlushes}
+use Rattle.desk_parts.specs.core_calls.LogEvents.{AreFlushes}
 use Rattle.paged_desks.specs.Pages.{AreKept, ArePaging, is_paging}
 use Rattle.paged_desks.specs.Pages as words
 use Rattle.paged_desks.specs.Syncs.{IsSynced}
 use Rattle.paged_desks.specs.declared.machine.PagedMachine.{PagedMachine}
-use Rattle.session_desks.proofs.SeatLemmas.{holds_of}
+use Rattle.desk_parts.proofs.session_desks.SeatLemmas.{holds_of}
 use Rattle.paged_desks.proofs.Moments.{IsFlushed, flushed_run, flushed_then, length_events, synced_step}
 
 -- ## The pager
@@ -78,9 +78,9 @@ module _ (g : Opening) (s t : State) (r : IsFlushed s t) where
 -- behind events that do nothing to pages it keeps what it has to
 pub keeps_on : (z y : Shape) (v u : View) (k : Provider) → y.alone ≡ true → u.given ≡ v.given → y.sizes.frames ≡ k.frames → y.sizes.workers ≡ k.workers → IsFlushed (state v).core (state u).core → Keeps z v k → Keeps y u k
 keeps_on z y v u k alone given frames workers r c = record {
-  actor = ap (λ b. Rattle.btree_descent.specs.rows_trait.Views.may b u Rattle.btree_descent.specs.row_words.Moments.pager) alone;
-  sound = subst Rattle.btree_descent.specs.Known.IsSound (sym given) c.sound;
-  waiting = subst (λ (q : Given). (es : List Event) → Rattle.btree_descent.specs.core_paging.Paging.Waiting (Rattle.btree_descent.specs.rows_trait.Views.after_all q es).core) (sym given) c.waiting;
+  actor = ap (λ b. Rattle.desk_parts.specs.rows_trait.Views.may b u Rattle.desk_parts.specs.row_words.Moments.pager) alone;
+  sound = subst Rattle.desk_parts.specs.btree_descent.Known.IsSound (sym given) c.sound;
+  waiting = subst (λ (q : Given). (es : List Event) → Rattle.desk_parts.specs.core_paging.Paging.Waiting (Rattle.desk_parts.specs.rows_trait.Views.after_all q es).core) (sym given) c.waiting;
   sized = record { some = c.sized.some; shape = frames; given = ap (λ (q : Given). (opening q).frames) given ∙ c.sized.given };
   some = c.some;
   workers = (workers, ap (λ (q : Given). (opening q).workers) given ∙ c.workers.1);
@@ -97,7 +97,7 @@ fed_same z y v u k old new r tells same given h faithful = let f = h (sym (ap (�
   mirrored = record {
     mirrors = λ t p lt page holds.
         f.mirrored.mirrors f.tells p lt page (subst (λ (a : Area). HoldsLast k.slots k.generation p a.bytes page) same holds) ∙ sym (ap (λ (q : State). q.saved p) r.is);
-    spans = λ t. subst (λ (a : Area). Rattle.disk_runs.specs.page_store.Saved.Reaches (length k.slots) a.bytes) (sym same) (f.mirrored.spans f.tells);
+    spans = λ t. subst (λ (a : Area). Rattle.desk_parts.specs.page_store.Saved.Reaches (length k.slots) a.bytes) (sym same) (f.mirrored.spans f.tells);
   };
 }
 
@@ -172,7 +172,7 @@ module _ {D : Type 0} (story : D → Story) (reached : EveryReached) (needs : Ev
   turns : (a : ℕ) → a ≤ m.machine.work.session.workers → a ≤ t.work.session.workers
   turns a h = subst (λ k. a ≤ k) (sym many) h
 
-  log_is : (a : ℕ) → 0 < a → a ≤ m.machine.work.session.workers → logs u a ≡ Rattle.disk_runs.specs.MasterLaws.raised (made.logs a) number
+  log_is : (a : ℕ) → 0 < a → a ≤ m.machine.work.session.workers → logs u a ≡ Rattle.desk_parts.specs.disk_runs.MasterLaws.raised (made.logs a) number
   log_is a some most = turned.log_of a some (turns a most) ∙ made.raised a some most
 
   kept : AreKept m.machine u
@@ -181,17 +181,17 @@ module _ {D : Type 0} (story : D → Story) (reached : EveryReached) (needs : Ev
   logged : (a : ℕ) → 0 < a → a ≤ m.machine.work.session.workers → (g : Opening) (s : State) → Logs a g s (events_of events) (logs m.machine a) (logs u a)
   logged a some most g s = subst (λ (l : Log). Logs a g s (events_of events) (logs m.machine a) l) (sym (turned.log_of a some (turns a most))) (made.whole.logs a some most g s)
 
-  after : (a : ℕ) → 0 < a → a ≤ m.machine.work.session.workers → logs u a ≡ Rattle.disk_runs.specs.MasterLaws.raised (Rattle.session_state.specs.Syncs.flushed_of (logs m.machine a)) number
+  after : (a : ℕ) → 0 < a → a ≤ m.machine.work.session.workers → logs u a ≡ Rattle.desk_parts.specs.disk_runs.MasterLaws.raised (Rattle.desk_parts.specs.session_state.Syncs.flushed_of (logs m.machine a)) number
   after a some most = turned.log_of a some (turns a most) ∙ made.whole.after a some most
 
   low : IsAllFlushed (opening w.given) (state w).core
   low =
       let x = ready.opens.opening in
-      let o = subst (λ (q : Given). Rattle.row_opening.specs.Openings.Opens x q) (sym made.flushed.given) ready.opens.opens in
+      let o = subst (λ (q : Given). Rattle.desk_parts.specs.row_opening.Openings.Opens x q) (sym made.flushed.given) ready.opens.opens in
       let before = events_of made.view.given.before ++ events_of made.view.seen in
       let met = needs x made.view.given o (state made.view).core (happening.Event.Sync number) ∙ made.synced.met in
       let all = (sync x before).synced number (ap (λ s. may x s (happening.Event.Sync number)) (sym (reached x made.view.given o made.view.seen)) ∙ met) in
-      let behind = subst (λ (q : Given). Rattle.row_opening.specs.Openings.Opens x q) (sym made.synced.given) o in
+      let behind = subst (λ (q : Given). Rattle.desk_parts.specs.row_opening.Openings.Opens x q) (sym made.synced.given) o in
       let at = reached x t.seat.view.given behind t.seat.view.seen
       ∙ ap (steps.state_after x) ((λ i. events_of (made.synced.given i).before ++ events_of (made.synced.seen i)) ∙ (ap (λ es. events_of made.view.given.before ++ es) (events_more made.view.seen (told.Sync number ∷ []))
       ∙ sym (append_assoc (events_of made.view.given.before) (events_of made.view.seen) (happening.Event.Sync number ∷ [])))) in
@@ -284,7 +284,7 @@ module _ {D : Type 0} (story : D → Story) (reached : EveryReached) (needs : Ev
         }
       where
         low_own : 0 < m.machine.work.session.own
-        low_own = Rattle.session_desks.proofs.SeatLemmas.turn_low (shape m.machine) v (here m.machine) m.machine.desks.items ready.sound.desks
+        low_own = Rattle.desk_parts.proofs.session_desks.SeatLemmas.turn_low (shape m.machine) v (here m.machine) m.machine.desks.items ready.sound.desks
 
         high_own : m.machine.work.session.own ≤ m.machine.work.session.workers
-        high_own = Rattle.session_desks.proofs.SeatLemmas.turn_high (shape m.machine) v (here m.machine) m.machine.desks.items ready.sound.desks
+        high_own = Rattle.desk_parts.proofs.session_desks.SeatLemmas.turn_high (shape m.machine) v (here m.machine) m.machine.desks.items ready.sound.desks

@@ -1,26 +1,26 @@
 -- A key's way that is hot from a level up, behind what is done to pages.
 use Rattle.std.proofs.Common.{◌≡◌, ◌∙◌, ◌≤◌, ◌<◌, ◌-◌, ◌&&◌, ◌==◌, ℕ, false, Result, Ok, Err, IfOk, IfErr, Option, Some, None, ap, refl, sym, subst, arith}
-use Rattle.btree_descent.specs.Known.{Sound}
+use Rattle.desk_parts.specs.btree_descent.Known.{Sound}
 use Rattle.cold_pages.specs.Laws.{IsButEntries}
-use Rattle.core_calls.specs.Room.{free_list}
-use Rattle.core_calls.specs.Warms.{EveryWarm, IsWarmFrom}
-use Rattle.btree_descent.specs.core_state.Openings.{Opening}
-use Rattle.btree_descent.specs.core_state.States.{State, is_hot}
-use Rattle.btree_descent.specs.image_model.Entries.{Contents}
+use Rattle.desk_parts.specs.core_calls.Room.{free_list}
+use Rattle.desk_parts.specs.core_calls.Warms.{EveryWarm, IsWarmFrom}
+use Rattle.desk_parts.specs.core_state.Openings.{Opening}
+use Rattle.desk_parts.specs.core_state.States.{State, is_hot}
+use Rattle.desk_parts.specs.image_model.Entries.{Contents}
 use Rattle.lean_disk.specs.Story.{Story}
 use Rattle.page_model.specs.Nodes.{covers}
-use Rattle.page_provider.specs.declared.refusal.Refusal.{Refusal}
-use Rattle.page_provider.specs.Moves.{Moved}
-use Rattle.page_provider.specs.Sequels.{EverySequel}
+use Rattle.desk_parts.specs.page_provider.declared.refusal.Refusal.{Refusal}
+use Rattle.desk_parts.specs.page_provider.Moves.{Moved}
+use Rattle.desk_parts.specs.page_provider.Sequels.{EverySequel}
 use Rattle.paged_rows.specs.Paged.{IsPaged, IsWarm, Paged}
 use Rattle.paged_rows.specs.Warms.{Brings, CanBring, HasCome, IsRefusedTo, most_a_page}
 use Rattle.paged_rows.specs.declared.wanted.Wanted.{Wanted}
 use Rattle.paged_rows.specs.declared.wanted.Wanted.TheVariants as want
-use Rattle.btree_descent.specs.row_words.declared.given.Given.{Given}
-use Rattle.btree_descent.specs.row_words.Openings.{opening}
-use Rattle.btree_descent.specs.rows_trait.Views.{state}
-use Rattle.session_desks.specs.Parts.{here, shape}
-use Rattle.session_desks.proofs.SeatLemmas.{holds_of}
+use Rattle.desk_parts.specs.row_words.declared.given.Given.{Given}
+use Rattle.desk_parts.specs.row_words.Openings.{opening}
+use Rattle.desk_parts.specs.rows_trait.Views.{state}
+use Rattle.desk_parts.specs.session_desks.Parts.{here, shape}
+use Rattle.desk_parts.proofs.session_desks.SeatLemmas.{holds_of}
 use Rattle.paged_desks.specs.Machines.{IsReady, pages, view_of}
 use Rattle.paged_desks.specs.Inside.{Comes, IsHoused, IsWarmer}
 use Rattle.paged_desks.specs.Pages.{IsHome}

@@ -5,22 +5,22 @@ use Rattle.map_model.specs.declared.call.Answer.TheVariants as answer
 use Rattle.map_model.specs.declared.call.Call.{Call}
 use Rattle.map_model.specs.declared.call.Refusal.{Refusal}
 use Rattle.map_model.specs.declared.call.Refusal.TheVariants as refusal
-use Rattle.btree_descent.specs.core_state.Openings.{Opening}
-use Rattle.btree_descent.specs.core_state.Steps.{state_after}
-use Rattle.core_calls.specs.Fronts.{Done, front, outcomes}
-use Rattle.disk_runs.specs.Stands.{Known}
+use Rattle.desk_parts.specs.core_state.Openings.{Opening}
+use Rattle.desk_parts.specs.core_state.Steps.{state_after}
+use Rattle.desk_parts.specs.core_calls.Fronts.{Done, front, outcomes}
+use Rattle.desk_parts.specs.disk_runs.Stands.{Known}
 use Rattle.lean_disk.specs.Story.{Crash, Story}
-use Rattle.engine_calls.specs.Clauses.{Between, IsNewLine}
-use Rattle.engine_trait.specs.Calls.{is_half_done}
-use Rattle.engine_trait.specs.Limits.{limits}
-use Rattle.btree_descent.specs.rows_trait.declared.view.View.{View}
-use Rattle.call_parts.specs.Deeds.{Does, Fails}
-use Rattle.call_parts.specs.Memory.{IsOf, Memory}
-use Rattle.session_state.specs.Ties.{Ties}
-use Rattle.session_desks.specs.Desks.{desk_of}
-use Rattle.session_desks.specs.Machines.{IsLogged}
-use Rattle.session_desks.specs.Parts.{here, shape}
-use Rattle.session_desks.specs.declared.machine.Machine.{Machine}
+use Rattle.desk_parts.specs.engine_calls.Clauses.{Between, IsNewLine}
+use Rattle.desk_parts.specs.engine_trait.Calls.{is_half_done}
+use Rattle.desk_parts.specs.engine_trait.Limits.{limits}
+use Rattle.desk_parts.specs.rows_trait.declared.view.View.{View}
+use Rattle.desk_parts.specs.call_parts.Deeds.{Does, Fails}
+use Rattle.desk_parts.specs.call_parts.Memory.{IsOf, Memory}
+use Rattle.desk_parts.specs.session_state.Ties.{Ties}
+use Rattle.desk_parts.specs.session_desks.Desks.{desk_of}
+use Rattle.desk_parts.specs.session_desks.Machines.{IsLogged}
+use Rattle.desk_parts.specs.session_desks.Parts.{here, shape}
+use Rattle.desk_parts.specs.session_desks.declared.machine.Machine.{Machine}
 use Rattle.paged_desks.specs.Machines.{memory, view_of}
 use Rattle.paged_desks.specs.declared.machine.PagedMachine.{PagedMachine}
 

@@ -1,21 +1,21 @@
 -- Words of private functions.
 use Rattle.std.specs.Prelude.{◌≡◌, ◌≤◌, ◌<◌, ◌+◌, ◌*◌, ◌-◌, ℕ, Bool, true, false, List, length, Option, Some, None}
-use Rattle.call_parts.specs.Parts.{Failed, Part}
-use Rattle.call_parts.specs.Rooms as rooms
-use Rattle.btree_descent.specs.core_state.Events as happening
-use Rattle.btree_descent.specs.core_state.States.{Place}
+use Rattle.desk_parts.specs.call_parts.Parts.{Failed, Part}
+use Rattle.desk_parts.specs.call_parts.Rooms as rooms
+use Rattle.desk_parts.specs.core_state.Events as happening
+use Rattle.desk_parts.specs.core_state.States.{Place}
 use Rattle.desk_parts.specs.Pages.{StaysWithin}
 use Rattle.lean_disk.specs.Story.{Story}
-use Rattle.page_provider.specs.Disks.{Disked}
-use Rattle.page_provider.specs.declared.refusal.Refusal.{Refusal}
-use Rattle.page_provider.specs.declared.refusal.Refusal.TheVariants as refusal
+use Rattle.desk_parts.specs.page_provider.Disks.{Disked}
+use Rattle.desk_parts.specs.page_provider.declared.refusal.Refusal.{Refusal}
+use Rattle.desk_parts.specs.page_provider.declared.refusal.Refusal.TheVariants as refusal
 use Rattle.paged_rows.specs.Paged.{IsWarm}
 use Rattle.paged_rows.specs.Warms.{IsCrowded, ReadsUnlessSaved}
 use Rattle.paged_rows.specs.declared.wanted.Wanted.{Wanted}
 use Rattle.paged_rows.specs.declared.wanted.Wanted.TheVariants as want
-use Rattle.btree_descent.specs.rows_trait.declared.view.View.{View}
-use Rattle.btree_descent.specs.rows_trait.Views.{state}
-use Rattle.session_desks.specs.Parts.{AreAsMany, SeatFits, shape}
+use Rattle.desk_parts.specs.rows_trait.declared.view.View.{View}
+use Rattle.desk_parts.specs.rows_trait.Views.{state}
+use Rattle.desk_parts.specs.session_desks.Parts.{AreAsMany, SeatFits, shape}
 use Rattle.paged_desks.specs.Machines.{memory, pages, view_of}
 use Rattle.paged_desks.specs.Pages.{HasPaged, hot_in}
 use Rattle.paged_desks.specs.Parts.{IsLate, StandsNowhere}

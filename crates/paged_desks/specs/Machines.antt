@@ -1,15 +1,15 @@
 -- A machine whose pages need not all be in frames: what holds between two of its calls.
 use Rattle.std.specs.Prelude.{◌≡◌, ◌≤◌, ◌^◌, ℕ, false, None}
-use Rattle.call_parts.specs.Memory.{Memory}
-use Rattle.btree_descent.specs.core_state.States.{State}
+use Rattle.desk_parts.specs.call_parts.Memory.{Memory}
+use Rattle.desk_parts.specs.core_state.States.{State}
 use Rattle.desk_parts.specs.Pages.{HasSlots}
 use Rattle.lean_disk.specs.Story.{Story}
-use Rattle.page_provider.specs.Providers.{Keeps}
+use Rattle.desk_parts.specs.page_provider.Providers.{Keeps}
 use Rattle.paged_rows.specs.Paged.{IsFedIfFaithful, Paged, paged}
-use Rattle.btree_descent.specs.rows_trait.declared.view.View.{View}
-use Rattle.btree_descent.specs.rows_trait.Views.{state}
-use Rattle.session_desks.specs.Parts.{HasLogs, IsSound, Works, logs, shape}
-use Rattle.session_desks.specs.Syncs.{HasOpening}
+use Rattle.desk_parts.specs.rows_trait.declared.view.View.{View}
+use Rattle.desk_parts.specs.rows_trait.Views.{state}
+use Rattle.desk_parts.specs.session_desks.Parts.{HasLogs, IsSound, Works, logs, shape}
+use Rattle.desk_parts.specs.session_desks.Syncs.{HasOpening}
 use Rattle.paged_desks.specs.declared.machine.PagedMachine.{PagedMachine}
 
 -- what its seat has seen

@@ -1,28 +1,28 @@
 -- What the coming of pages into frames has done.
 use Rattle.std.specs.Prelude.{◌≡◌, ◌≤◌, ◌<◌, ◌+◌, ◌*◌, ◌++◌, ℕ, suc, Bool, true, false, List, [], ◌∷◌, length, Result, Ok, Err}
 use Rattle.map_model.specs.Lists.{any}
-use Rattle.core_calls.specs.Fronts.{Done}
-use Rattle.core_calls.specs.LogEvents.{IsTight, SyncsWhere}
-use Rattle.btree_descent.specs.core_state.Events as happening
-use Rattle.btree_descent.specs.core_state.Local.{is_sync}
-use Rattle.btree_descent.specs.core_state.Openings.{Opening}
-use Rattle.btree_descent.specs.core_state.States.{Place, State}
-use Rattle.engine_calls.specs.Parts.{behind_first}
-use Rattle.engine_trait.specs.Logs.{Logs}
+use Rattle.desk_parts.specs.core_calls.Fronts.{Done}
+use Rattle.desk_parts.specs.core_calls.LogEvents.{IsTight, SyncsWhere}
+use Rattle.desk_parts.specs.core_state.Events as happening
+use Rattle.desk_parts.specs.core_state.Local.{is_sync}
+use Rattle.desk_parts.specs.core_state.Openings.{Opening}
+use Rattle.desk_parts.specs.core_state.States.{Place, State}
+use Rattle.desk_parts.specs.engine_calls.Parts.{behind_first}
+use Rattle.desk_parts.specs.engine_trait.Logs.{Logs}
 use Rattle.page_pool.specs.Counts.{hot_pages}
-use Rattle.page_provider.specs.Moves.{is_pagers}
+use Rattle.desk_parts.specs.page_provider.Moves.{is_pagers}
 use Rattle.paged_rows.specs.Paged.{IsWarm}
 use Rattle.paged_rows.specs.Warms.{most_a_page}
-use Rattle.btree_descent.specs.row_words.declared.event.Event.{Event}
-use Rattle.btree_descent.specs.row_words.declared.event.Event.TheVariants as told
-use Rattle.btree_descent.specs.row_words.Moments.{events_of}
-use Rattle.btree_descent.specs.row_words.Openings.{opening}
-use Rattle.btree_descent.specs.rows_trait.Views.{state}
-use Rattle.session_desks.specs.Desks.{desk_of}
-use Rattle.session_desks.specs.Parts.{AreAsMany, here, logs}
-use Rattle.session_desks.specs.declared.machine.Machine.{Machine}
-use Rattle.session_state.specs.Ties.{Behind}
-use Rattle.session_state.specs.declared.session.Session.{Session}
+use Rattle.desk_parts.specs.row_words.declared.event.Event.{Event}
+use Rattle.desk_parts.specs.row_words.declared.event.Event.TheVariants as told
+use Rattle.desk_parts.specs.row_words.Moments.{events_of}
+use Rattle.desk_parts.specs.row_words.Openings.{opening}
+use Rattle.desk_parts.specs.rows_trait.Views.{state}
+use Rattle.desk_parts.specs.session_desks.Desks.{desk_of}
+use Rattle.desk_parts.specs.session_desks.Parts.{AreAsMany, here, logs}
+use Rattle.desk_parts.specs.session_desks.declared.machine.Machine.{Machine}
+use Rattle.desk_parts.specs.session_state.Ties.{Behind}
+use Rattle.desk_parts.specs.session_state.declared.session.Session.{Session}
 use Rattle.paged_desks.specs.Machines.{pages, view_of}
 use Rattle.paged_desks.specs.declared.machine.PagedMachine.{PagedMachine}
 use Rattle.paged_desks.specs.declared.warming.Unwarmed.{Unwarmed}

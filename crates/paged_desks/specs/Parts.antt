@@ -1,21 +1,21 @@
 -- The coming of pages, as a part of a call.
 use Rattle.std.specs.Prelude.{◌≡◌, ◌⊎◌, ◌≤◌, ◌<◌, ◌+◌, ◌*◌, ◌^◌, ◌++◌, ℕ, true, List, length}
-use Rattle.call_parts.specs.Memory.{IsOf}
-use Rattle.call_parts.specs.Parts.{Failed, Part}
-use Rattle.call_parts.specs.Rooms.{ArePaging}
-use Rattle.core_calls.specs.Fronts.{Done, front}
-use Rattle.core_calls.specs.LogEvents.{IsTight}
-use Rattle.btree_descent.specs.core_state.Events.{Event}
-use Rattle.btree_descent.specs.core_state.Openings.{Opening}
-use Rattle.disk_runs.specs.Stands.{Known, Stands}
+use Rattle.desk_parts.specs.call_parts.Memory.{IsOf}
+use Rattle.desk_parts.specs.call_parts.Parts.{Failed, Part}
+use Rattle.desk_parts.specs.call_parts.Rooms.{ArePaging}
+use Rattle.desk_parts.specs.core_calls.Fronts.{Done, front}
+use Rattle.desk_parts.specs.core_calls.LogEvents.{IsTight}
+use Rattle.desk_parts.specs.core_state.Events.{Event}
+use Rattle.desk_parts.specs.core_state.Openings.{Opening}
+use Rattle.desk_parts.specs.disk_runs.Stands.{Known, Stands}
 use Rattle.lean_disk.specs.Story.{Crash, Story}
-use Rattle.btree_descent.specs.row_words.Openings.{opening}
-use Rattle.btree_descent.specs.rows_trait.declared.view.View.{View}
-use Rattle.btree_descent.specs.rows_trait.Views.{state}
-use Rattle.session_desks.specs.Desks.{desk_of}
-use Rattle.session_desks.specs.Parts.{AreAsMany, SeatFits, here}
-use Rattle.session_state.specs.Syncs.{MayFlush}
-use Rattle.session_state.specs.Ties.{Behind}
+use Rattle.desk_parts.specs.row_words.Openings.{opening}
+use Rattle.desk_parts.specs.rows_trait.declared.view.View.{View}
+use Rattle.desk_parts.specs.rows_trait.Views.{state}
+use Rattle.desk_parts.specs.session_desks.Desks.{desk_of}
+use Rattle.desk_parts.specs.session_desks.Parts.{AreAsMany, SeatFits, here}
+use Rattle.desk_parts.specs.session_state.Syncs.{MayFlush}
+use Rattle.desk_parts.specs.session_state.Ties.{Behind}
 use Rattle.paged_desks.specs.Machines.{memory, view_of}
 use Rattle.paged_desks.specs.Pages.{HasPaged, hot_in, most_a_level}
 use Rattle.paged_desks.specs.declared.machine.PagedMachine.{PagedMachine}

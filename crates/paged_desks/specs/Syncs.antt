@@ -1,27 +1,27 @@
 -- A sync of all logs: what it has done, or where a device failed it.
 use Rattle.std.specs.Prelude.{◌≡◌, ◌≤◌, ◌<◌, ◌++◌, ℕ, suc, true, false, List, length}
-use Rattle.call_parts.specs.Parts.{Failed, Part}
-use Rattle.core_calls.specs.Fronts.{Done}
-use Rattle.core_calls.specs.LogEvents.{IsSync}
+use Rattle.desk_parts.specs.call_parts.Parts.{Failed, Part}
+use Rattle.desk_parts.specs.core_calls.Fronts.{Done}
+use Rattle.desk_parts.specs.core_calls.LogEvents.{IsSync}
 use Rattle.core_covers.specs.Lows.{IsAllFlushed}
-use Rattle.btree_descent.specs.core_state.Events as happening
-use Rattle.btree_descent.specs.core_state.Openings.{Opening}
-use Rattle.btree_descent.specs.core_state.States.{State, Worker}
-use Rattle.engine_trait.specs.Logs.{Logs}
+use Rattle.desk_parts.specs.core_state.Events as happening
+use Rattle.desk_parts.specs.core_state.Openings.{Opening}
+use Rattle.desk_parts.specs.core_state.States.{State, Worker}
+use Rattle.desk_parts.specs.engine_trait.Logs.{Logs}
 use Rattle.lean_disk.specs.Story.{Story}
-use Rattle.btree_descent.specs.row_words.declared.event.Event.{Event}
-use Rattle.btree_descent.specs.row_words.Moments.{events_of}
-use Rattle.btree_descent.specs.row_words.Openings.{opening}
-use Rattle.btree_descent.specs.rows_trait.Views.{state}
-use Rattle.session_desks.specs.Parts.{AreAsMany, SeatFits, logs}
-use Rattle.session_state.specs.Ties.{Behind}
+use Rattle.desk_parts.specs.row_words.declared.event.Event.{Event}
+use Rattle.desk_parts.specs.row_words.Moments.{events_of}
+use Rattle.desk_parts.specs.row_words.Openings.{opening}
+use Rattle.desk_parts.specs.rows_trait.Views.{state}
+use Rattle.desk_parts.specs.session_desks.Parts.{AreAsMany, SeatFits, logs}
+use Rattle.desk_parts.specs.session_state.Ties.{Behind}
 use Rattle.paged_desks.specs.Machines.{memory, view_of}
 use Rattle.paged_desks.specs.Pages.{AreKept, ArePaging}
 use Rattle.paged_desks.specs.declared.machine.PagedMachine.{PagedMachine}
-use Rattle.disk_runs.specs.MasterLaws.{raised}
-use Rattle.call_parts.specs.Rooms.{makes_sync}
+use Rattle.desk_parts.specs.disk_runs.MasterLaws.{raised}
+use Rattle.desk_parts.specs.call_parts.Rooms.{makes_sync}
 use Rattle.map_model.specs.Lists.{all}
-use Rattle.session_state.specs.Syncs.{flushed_of}
+use Rattle.desk_parts.specs.session_state.Syncs.{flushed_of}
 
 -- Logs were flushed, and all were synced up to this number; no clock is above what is flushed everywhere then. What is known of pages is as it was.
 pub record IsSynced {D : Type 0} (story : D → Story) (m n : PagedMachine D) (number : ℕ) : Type 0 where

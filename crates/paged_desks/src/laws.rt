@@ -1,15 +1,15 @@
 // What the calls rest on.
-ghost use Rattle.core_calls.specs.LogEvents.{EveryWhere};
-ghost use Rattle.core_calls.specs.Warms.{EveryWarm};
+ghost use Rattle.desk_parts.specs.core_calls.LogEvents.{EveryWhere};
+ghost use Rattle.desk_parts.specs.core_calls.Warms.{EveryWarm};
 ghost use Rattle.core_covers.specs.Lows.{EveryLow, EverySync};
-ghost use Rattle.disk_runs.specs.core_disk.Versions.{EveryVersion};
-ghost use Rattle.disk_runs.specs.disk_image.Laws.{EverySealed};
+ghost use Rattle.desk_parts.specs.core_disk.Versions.{EveryVersion};
+ghost use Rattle.desk_parts.specs.disk_image.Laws.{EverySealed};
 ghost use Rattle.page_pool.specs.Counts.{EveryFrame};
-ghost use Rattle.page_provider.specs.Amounts.{EveryFew};
-ghost use Rattle.page_provider.specs.Sequels.{EverySequel};
-ghost use Rattle.row_opening.specs.Openings.{EveryNeed, EveryReached};
-ghost use Rattle.session_state.specs.Syncs.{EveryFlush};
-ghost use Rattle.disk_runs.specs.worker_log.Laws.{EveryKept, EveryPrefix};
+ghost use Rattle.desk_parts.specs.page_provider.Amounts.{EveryFew};
+ghost use Rattle.desk_parts.specs.page_provider.Sequels.{EverySequel};
+ghost use Rattle.desk_parts.specs.row_opening.Openings.{EveryNeed, EveryReached};
+ghost use Rattle.desk_parts.specs.session_state.Syncs.{EveryFlush};
+ghost use Rattle.desk_parts.specs.worker_log.Laws.{EveryKept, EveryPrefix};
 
 // The laws of ways, of syncs, of the pager's calls, and of rows in a run.
 pub(crate) fn laws()
@@ -28,15 +28,15 @@ pub(crate) fn laws()
     ensures prefixes { EveryPrefix }
     ensures seals { EverySealed }
 {
-    core_calls::every_warm();
-    core_calls::every_where();
+    desk_parts::every_warm();
+    desk_parts::every_where();
     core_covers::every_low();
     core_covers::every_sync();
-    session_state::every_flush();
-    page_provider::every_few();
+    desk_parts::every_flush();
+    desk_parts::every_few();
     page_pool::every_frame();
-    page_provider::every_sequel();
-    row_opening::every_reached();
-    row_opening::every_need();
-    call_parts::laws();
+    desk_parts::every_sequel();
+    desk_parts::every_reached();
+    desk_parts::every_need();
+    desk_parts::laws();
 }

@@ -1,22 +1,17 @@
 // A machine with the pager that brings pages into its frames.
 ghost use Rattle.std.specs.Prelude.{◌≡◌, ◌↔◌, ◌<◌, ◌*◌, ◌^◌, ◌-◌, true, false, IfOk, IfErr, IsErr, IsOk, Err};
 ghost use Rattle.lean_disk.specs.Faults.{HasCause};
-ghost use Rattle.page_provider.specs.declared.refusal.Refusal.TheVariants as refusal;
+ghost use Rattle.desk_parts.specs.page_provider.declared.refusal.Refusal.TheVariants as refusal;
 ghost use Rattle.paged_rows.specs.Warms.{Brings, CanBring, IsRefusedTo, most_a_page};
-ghost use Rattle.session_desks.specs.Parts.{MaySync};
+ghost use Rattle.desk_parts.specs.session_desks.Parts.{MaySync};
 ghost use Rattle.paged_desks.specs.Machines.{IsReady, pages};
 ghost use Rattle.paged_desks.specs.Inside.{AwayCause, HasBroken, HasDone, IsBeside, LateCause};
 ghost use Rattle.paged_desks.specs.Syncs.{HasNotSynced, IsSynced};
 
 use crate::laws::laws;
-use btree_descent::rows_trait;
-use btree_descent::rows_trait::rows::Rows;
-use disk_runs::worker_log::DiskFault;
+use desk_parts::{DiskFault, Machine, Pager, Refusal, Rows, Stages};
 use lean_disk::AreaOf;
-use page_provider::{Pager, Refusal};
 use paged_rows::{Wanted, bring_wanted};
-use session_desks::Machine;
-use session_state::Stages;
 
 /// Sessions that take turns on rows and a disk, and the pager that moves pages between these two.
 pub struct PagedMachine<D> {
@@ -42,9 +37,9 @@ impl<D: Stages> PagedMachine<D> {
         ensures cause_disk_fault { HasCause (D.faults self.old.machine.work.disk) (D.faults self.new.machine.work.disk) (result ≡ Err refusal.DiskFault) }
     {
         laws();
-        rows_trait::every_low();
+        desk_parts::every_low();
         desk_parts::every_disk_part::<D>();
-        page_provider::every_found::<D>();
+        desk_parts::every_found::<D>();
         let worker = self.machine.work.session.own;
         // Each page has its slots.
         self.pager.pages();

@@ -2,8 +2,8 @@
 ghost use Rattle.std.specs.Prelude.{◌≡◌, ◌⊎◌, ◌<◌, ◌+◌, ◌*◌, ◌^◌, ◌-◌, ℕ, suc, true, false, IfErr, IfOk, OnOk, Err};
 ghost use Rattle.core_covers.specs.Lows.{IsAllFlushed};
 ghost use Rattle.lean_disk.specs.Faults.{HasCause};
-ghost use Rattle.btree_descent.specs.row_words.Openings.{opening};
-ghost use Rattle.btree_descent.specs.rows_trait.Views.{state};
+ghost use Rattle.desk_parts.specs.row_words.Openings.{opening};
+ghost use Rattle.desk_parts.specs.rows_trait.Views.{state};
 ghost use Rattle.paged_rows.specs.Paged.{IsFree, IsWarm};
 ghost use Rattle.paged_rows.specs.Warms.{CanBring, most_a_page};
 ghost use Rattle.paged_desks.specs.Machines.{IsReady, pages};
@@ -14,11 +14,8 @@ ghost use Rattle.paged_desks.specs.declared.warming.Unwarmed.TheVariants as refu
 
 use crate::laws::laws;
 use crate::machine::PagedMachine;
-use btree_descent::lean_proto::path::DEEPEST;
-use disk_runs::worker_log::DiskFault;
-use page_provider::Refusal;
+use desk_parts::{DEEPEST, DiskFault, Refusal, Stages};
 use paged_rows::Wanted;
-use session_state::Stages;
 
 /// Why a page was not brought into a frame.
 #[derive(Clone, Copy, Debug, PartialEq, Eq)]

@@ -5,37 +5,37 @@ use Rattle.map_model.specs.declared.call.Answer.TheVariants as answer
 use Rattle.map_model.specs.declared.call.Call.TheVariants as call
 use Rattle.map_model.specs.declared.call.Refusal.{Refusal}
 use Rattle.map_model.specs.declared.call.Refusal.TheVariants as refusal
-use Rattle.core_calls.specs.Fronts.{Done, front}
-use Rattle.core_calls.specs.LogEvents.{Prepares, PreparesBy, is_log}
-use Rattle.core_calls.specs.Steps.{is_step, is_structure}
-use Rattle.rows_trait.specs.core_state.Openings.{Opening}
-use Rattle.rows_trait.specs.core_state.States.{State}
-use Rattle.rows_trait.specs.core_state.Steps.{state_after}
-use Rattle.disk_runs.specs.MasterLaws.{raised}
-use Rattle.engine_calls.specs.Answers.{EveryAnswer}
-use Rattle.engine_calls.specs.Clauses.{EveryComing}
-use Rattle.engine_calls.specs.Parts.{behind_first}
-use Rattle.engine_trait.specs.Calls.{IsTold, MayCome, is_half_done}
-use Rattle.engine_trait.specs.Limits.{limits}
-use Rattle.engine_trait.specs.Refusals.{log_refusal, refusal_in}
-use Rattle.engine_trait.specs.Rooms.{needs_sync}
+use Rattle.paged_desks.specs.core_calls.Fronts.{Done, front}
+use Rattle.paged_desks.specs.core_calls.LogEvents.{Prepares, PreparesBy, is_log}
+use Rattle.paged_desks.specs.core_calls.Steps.{is_step, is_structure}
+use Rattle.paged_desks.specs.core_state.Openings.{Opening}
+use Rattle.paged_desks.specs.core_state.States.{State}
+use Rattle.paged_desks.specs.core_state.Steps.{state_after}
+use Rattle.paged_desks.specs.disk_runs.MasterLaws.{raised}
+use Rattle.paged_desks.specs.engine_calls.Answers.{EveryAnswer}
+use Rattle.paged_desks.specs.engine_calls.Clauses.{EveryComing}
+use Rattle.paged_desks.specs.engine_calls.Parts.{behind_first}
+use Rattle.paged_desks.specs.engine_trait.Calls.{IsTold, MayCome, is_half_done}
+use Rattle.paged_desks.specs.engine_trait.Limits.{limits}
+use Rattle.paged_desks.specs.engine_trait.Refusals.{log_refusal, refusal_in}
+use Rattle.paged_desks.specs.engine_trait.Rooms.{needs_sync}
 use Rattle.lean_disk.specs.Faults.{HasCause}
 use Rattle.lean_disk.specs.Story.{IsLawful, Story}
-use Rattle.rows_trait.specs.row_words.Moments.{events_of}
-use Rattle.rows_trait.specs.Views.{state}
+use Rattle.paged_desks.specs.row_words.Moments.{events_of}
+use Rattle.paged_desks.specs.rows_trait.Views.{state}
 use Rattle.row_ends.proofs.BeginLemmas.{begin_told, test_is}
 use Rattle.row_ends.specs.Tests.{begin_test}
-use Rattle.session_state.specs.Holds.{Holds, IsOf}
-use Rattle.session_state.specs.Syncs.{flushed_of}
-use Rattle.session_state.specs.declared.session.Session.{Session}
-use Rattle.session_desks.proofs.DeskLemmas.{desk_own}
-use Rattle.session_desks.proofs.SeatLemmas.{holds_of, turn_high, turn_low}
-use Rattle.session_desks.specs.Desks.{desk_of}
-use Rattle.session_desks.specs.Parts.{AreAsMany, here, shape}
-use Rattle.session_desks.specs.declared.desk.Desk.{Desk}
-use Rattle.disk_runs.specs.worker_log.Logs.{Log, limit, used}
-use Rattle.call_parts.proofs.RunLemmas.{core_is, front_is}
-use Rattle.call_parts.proofs.StepLemmas.{every_step}
+use Rattle.paged_desks.specs.session_state.Holds.{Holds, IsOf}
+use Rattle.paged_desks.specs.session_state.Syncs.{flushed_of}
+use Rattle.paged_desks.specs.session_state.declared.session.Session.{Session}
+use Rattle.paged_desks.proofs.session_desks.DeskLemmas.{desk_own}
+use Rattle.paged_desks.proofs.session_desks.SeatLemmas.{holds_of, turn_high, turn_low}
+use Rattle.paged_desks.specs.session_desks.Desks.{desk_of}
+use Rattle.paged_desks.specs.session_desks.Parts.{AreAsMany, here, shape}
+use Rattle.paged_desks.specs.session_desks.declared.desk.Desk.{Desk}
+use Rattle.paged_desks.specs.worker_log.Logs.{Log, limit, used}
+use Rattle.paged_desks.proofs.call_parts.RunLemmas.{core_is, front_is}
+use Rattle.paged_desks.proofs.call_parts.StepLemmas.{every_step}
 use Rattle.paged_desks.specs.Calls as calls
 use Rattle.paged_desks.specs.Calls.{AreHalf, DoesTied, Tied}
 use Rattle.paged_desks.specs.Machines.{IsReady, memory, view_of}
@@ -47,8 +47,8 @@ use Rattle.paged_ends.proofs.BeginRuns.{Comes, at_p, began, not_begun}
 use Rattle.paged_ends.proofs.StayLemmas.{begin_by, limit_of, stays_closed, used_of}
 use Rattle.paged_ends.proofs.SyncEvents.{sync_logs, sync_none}
 use Rattle.paged_ends.proofs.SyncLemmas.{few_events}
-use Rattle.call_parts.specs.Deeds.{Fails}
-use Rattle.call_parts.specs.Memory.{Memory}
+use Rattle.paged_desks.specs.call_parts.Deeds.{Fails}
+use Rattle.paged_desks.specs.call_parts.Memory.{Memory}
 use Rattle.paged_desks.proofs.StandLemmas.{memory_is}
 use Rattle.paged_ends.proofs.BeginStands.{same_begun}
 use Rattle.paged_ends.specs.Ends.{KeepsFlushed, OnBegin, begin_answer}

@@ -9,44 +9,44 @@ use Rattle.map_model.specs.declared.call.Call.TheVariants as call
 use Rattle.map_model.specs.declared.call.Refusal.{Refusal}
 use Rattle.map_model.specs.declared.call.Refusal.TheVariants as refusal
 use Rattle.rfa_model.specs.Reaches.{least}
-use Rattle.core_calls.specs.Deeds.{marks_by}
-use Rattle.core_calls.specs.Fronts.{Done, front, outcomes}
-use Rattle.core_calls.specs.LogEvents.{Prepares, RefusedLogs, is_log}
-use Rattle.core_calls.specs.Marks.{is_half}
-use Rattle.core_calls.specs.Refusals.{IsCause}
-use Rattle.core_calls.specs.Runs.{Tells}
-use Rattle.core_calls.specs.Scans.{StopsOnWay}
-use Rattle.core_calls.specs.Steps.{Tries, call_behind, is_step, is_structure}
-use Rattle.rows_trait.specs.core_state.Events as happening
-use Rattle.rows_trait.specs.core_state.Openings.{Opening}
-use Rattle.rows_trait.specs.core_state.States.{State}
-use Rattle.rows_trait.specs.core_state.Steps.{AllMet, state_after}
-use Rattle.engine_calls.proofs.MarkLemmas.{any_append, keep_none}
-use Rattle.engine_calls.specs.Answers.{EveryAnswer}
-use Rattle.engine_calls.specs.Begins.{IsBegin, begun_by}
-use Rattle.engine_calls.specs.Clauses.{EveryComing, IsNewLine}
-use Rattle.engine_calls.specs.Parts.{behind_first}
-use Rattle.engine_calls.specs.Refused.{IsRefusal, TakesRows, refused_by}
-use Rattle.engine_trait.specs.Calls.{is_half_done}
-use Rattle.engine_trait.specs.Limits.{limits}
-use Rattle.engine_trait.specs.Refusals.{log_refusal, refusal_in}
-use Rattle.engine_trait.specs.Rooms.{MakesItsRoom}
+use Rattle.paged_desks.specs.core_calls.Deeds.{marks_by}
+use Rattle.paged_desks.specs.core_calls.Fronts.{Done, front, outcomes}
+use Rattle.paged_desks.specs.core_calls.LogEvents.{Prepares, RefusedLogs, is_log}
+use Rattle.paged_desks.specs.core_calls.Marks.{is_half}
+use Rattle.paged_desks.specs.core_calls.Refusals.{IsCause}
+use Rattle.paged_desks.specs.core_calls.Runs.{Tells}
+use Rattle.paged_desks.specs.core_calls.Scans.{StopsOnWay}
+use Rattle.paged_desks.specs.core_calls.Steps.{Tries, call_behind, is_step, is_structure}
+use Rattle.paged_desks.specs.core_state.Events as happening
+use Rattle.paged_desks.specs.core_state.Openings.{Opening}
+use Rattle.paged_desks.specs.core_state.States.{State}
+use Rattle.paged_desks.specs.core_state.Steps.{AllMet, state_after}
+use Rattle.paged_desks.proofs.engine_calls.MarkLemmas.{any_append, keep_none}
+use Rattle.paged_desks.specs.engine_calls.Answers.{EveryAnswer}
+use Rattle.paged_desks.specs.engine_calls.Begins.{IsBegin, begun_by}
+use Rattle.paged_desks.specs.engine_calls.Clauses.{EveryComing, IsNewLine}
+use Rattle.paged_desks.specs.engine_calls.Parts.{behind_first}
+use Rattle.paged_desks.specs.engine_calls.Refused.{IsRefusal, TakesRows, refused_by}
+use Rattle.paged_desks.specs.engine_trait.Calls.{is_half_done}
+use Rattle.paged_desks.specs.engine_trait.Limits.{limits}
+use Rattle.paged_desks.specs.engine_trait.Refusals.{log_refusal, refusal_in}
+use Rattle.paged_desks.specs.engine_trait.Rooms.{MakesItsRoom}
 use Rattle.lean_disk.specs.Story.{IsLawful, Story}
-use Rattle.rows_trait.specs.row_words.declared.event.Event.{Event}
-use Rattle.rows_trait.specs.row_words.declared.event.Event.TheVariants as told
-use Rattle.rows_trait.specs.row_words.Moments.{events_of}
-use Rattle.rows_trait.specs.Views.{state}
-use Rattle.session_state.proofs.Moments.{events_more}
-use Rattle.session_state.specs.Ties.{Behind}
-use Rattle.session_state.specs.declared.session.Session.{Session}
-use Rattle.session_desks.proofs.DeskLemmas.{desk_own}
-use Rattle.session_desks.specs.Desks.{desk_of}
-use Rattle.session_desks.specs.Parts.{AreAsMany, here}
-use Rattle.session_desks.specs.declared.desk.Desk.{Desk}
-use Rattle.disk_runs.specs.worker_log.Logs.{Log, limit, used}
-use Rattle.call_parts.proofs.RunLemmas.{behind_more, core_is}
-use Rattle.call_parts.specs.Deeds.{Answers}
-use Rattle.call_parts.specs.Parts.{Part}
+use Rattle.paged_desks.specs.row_words.declared.event.Event.{Event}
+use Rattle.paged_desks.specs.row_words.declared.event.Event.TheVariants as told
+use Rattle.paged_desks.specs.row_words.Moments.{events_of}
+use Rattle.paged_desks.specs.rows_trait.Views.{state}
+use Rattle.paged_desks.proofs.session_state.Moments.{events_more}
+use Rattle.paged_desks.specs.session_state.Ties.{Behind}
+use Rattle.paged_desks.specs.session_state.declared.session.Session.{Session}
+use Rattle.paged_desks.proofs.session_desks.DeskLemmas.{desk_own}
+use Rattle.paged_desks.specs.session_desks.Desks.{desk_of}
+use Rattle.paged_desks.specs.session_desks.Parts.{AreAsMany, here}
+use Rattle.paged_desks.specs.session_desks.declared.desk.Desk.{Desk}
+use Rattle.paged_desks.specs.worker_log.Logs.{Log, limit, used}
+use Rattle.paged_desks.proofs.call_parts.RunLemmas.{behind_more, core_is}
+use Rattle.paged_desks.specs.call_parts.Deeds.{Answers}
+use Rattle.paged_desks.specs.call_parts.Parts.{Part}
 use Rattle.paged_desks.specs.Calls.{AreHalf, DoesTied, Tied}
 use Rattle.paged_desks.specs.Machines.{IsReady, memory, view_of}
 use Rattle.paged_desks.specs.declared.machine.PagedMachine.{PagedMachine}

@@ -1,18 +1,18 @@
 -- A machine behind a begin.
 use Rattle.std.proofs.Common.{◌∙◌, ◌++◌, ℕ, List, [], ◌∷◌, ap, refl, sym, subst}
-use Rattle.engine_calls.proofs.MoveLemmas.{every_move}
+use Rattle.paged_desks.proofs.engine_calls.MoveLemmas.{every_move}
 use Rattle.lean_disk.specs.Story.{IsLawful, Story}
-use Rattle.rows_trait.specs.row_words.declared.event.Event.{Event}
-use Rattle.rows_trait.specs.row_words.declared.event.Event.TheVariants as told
+use Rattle.paged_desks.specs.row_words.declared.event.Event.{Event}
+use Rattle.paged_desks.specs.row_words.declared.event.Event.TheVariants as told
 use Rattle.row_ends.specs.Begins.{Begins}
-use Rattle.session_desks.specs.Parts.{SeatFits, shape}
-use Rattle.session_state.specs.Holds.{Holds, IsSameSession}
-use Rattle.session_state.specs.Others.{EveryOther, Steps}
-use Rattle.session_state.specs.declared.session.Session.{Session}
-use Rattle.call_parts.proofs.JoinLemmas.{every_join}
-use Rattle.call_parts.proofs.StepLemmas.{every_step}
-use Rattle.call_parts.specs.Memory.{Memory}
-use Rattle.call_parts.specs.Parts.{Part}
+use Rattle.paged_desks.specs.session_desks.Parts.{SeatFits, shape}
+use Rattle.paged_desks.specs.session_state.Holds.{Holds, IsSameSession}
+use Rattle.paged_desks.specs.session_state.Others.{EveryOther, Steps}
+use Rattle.paged_desks.specs.session_state.declared.session.Session.{Session}
+use Rattle.paged_desks.proofs.call_parts.JoinLemmas.{every_join}
+use Rattle.paged_desks.proofs.call_parts.StepLemmas.{every_step}
+use Rattle.paged_desks.specs.call_parts.Memory.{Memory}
+use Rattle.paged_desks.specs.call_parts.Parts.{Part}
 use Rattle.paged_desks.specs.Calls.{IsBeside}
 use Rattle.paged_desks.specs.Machines.{IsReady, memory, view_of}
 use Rattle.paged_desks.specs.declared.machine.PagedMachine.{PagedMachine}

@@ -4,16 +4,16 @@ use Rattle.map_model.specs.declared.call.Answer.TheVariants as answer
 use Rattle.map_model.specs.declared.call.Call.TheVariants as call
 use Rattle.map_model.specs.declared.call.Refusal.{Refusal}
 use Rattle.map_model.specs.declared.call.Refusal.TheVariants as refusal
-use Rattle.engine_calls.specs.Answers.{EveryAnswer}
-use Rattle.engine_calls.specs.Clauses.{EveryComing}
-use Rattle.engine_calls.specs.Entries.{EveryEntry}
-use Rattle.engine_trait.specs.Calls.{MayCome}
+use Rattle.paged_desks.specs.engine_calls.Answers.{EveryAnswer}
+use Rattle.paged_desks.specs.engine_calls.Clauses.{EveryComing}
+use Rattle.paged_desks.specs.engine_calls.Entries.{EveryEntry}
+use Rattle.paged_desks.specs.engine_trait.Calls.{MayCome}
 use Rattle.lean_disk.specs.Story.{IsLawful, Story}
 use Rattle.row_ends.proofs.GoingLemmas.{Tested, tested}
 use Rattle.row_ends.specs.Tests.{call_test}
 use Rattle.row_ends.specs.declared.ending.Ended as replies
-use Rattle.session_state.specs.Holds.{IsSameSession}
-use Rattle.session_state.specs.declared.session.Session.{Session}
+use Rattle.paged_desks.specs.session_state.Holds.{IsSameSession}
+use Rattle.paged_desks.specs.session_state.declared.session.Session.{Session}
 use Rattle.paged_desks.specs.Calls.{CallDoes, EndsWork, IsAside, OnLine, ends_work, works_behind}
 use Rattle.paged_desks.specs.Machines.{IsReady}
 use Rattle.paged_desks.specs.declared.machine.PagedMachine.{PagedMachine}

@@ -6,40 +6,40 @@ use Rattle.map_model.specs.Lists.{upd}
 use Rattle.map_model.specs.declared.call.Answer.TheVariants as answer
 use Rattle.map_model.specs.declared.call.Call.{Call}
 use Rattle.map_model.specs.declared.call.Call.TheVariants as call
-use Rattle.core_calls.specs.Fronts.{Done, front, outcomes}
-use Rattle.rows_trait.specs.core_state.Events as happening
-use Rattle.rows_trait.specs.core_state.Openings.{Opening}
-use Rattle.rows_trait.specs.core_state.Steps.{AllMet, state_after}
-use Rattle.engine_calls.specs.Answers.{EveryAnswer}
-use Rattle.engine_calls.specs.Clauses.{IsNewLine}
-use Rattle.engine_calls.specs.Commits.{ending}
-use Rattle.engine_calls.specs.Entries.{EveryEntry}
-use Rattle.engine_trait.specs.Calls.{is_half_done}
+use Rattle.paged_desks.specs.core_calls.Fronts.{Done, front, outcomes}
+use Rattle.paged_desks.specs.core_state.Events as happening
+use Rattle.paged_desks.specs.core_state.Openings.{Opening}
+use Rattle.paged_desks.specs.core_state.Steps.{AllMet, state_after}
+use Rattle.paged_desks.specs.engine_calls.Answers.{EveryAnswer}
+use Rattle.paged_desks.specs.engine_calls.Clauses.{IsNewLine}
+use Rattle.paged_desks.specs.engine_calls.Commits.{ending}
+use Rattle.paged_desks.specs.engine_calls.Entries.{EveryEntry}
+use Rattle.paged_desks.specs.engine_trait.Calls.{is_half_done}
 use Rattle.lean_disk.specs.Story.{IsLawful, Story}
-use Rattle.rows_trait.specs.row_words.declared.event.Event.{Event}
-use Rattle.rows_trait.specs.row_words.declared.event.Event.TheVariants as told
-use Rattle.rows_trait.specs.row_words.Moments.{events_of}
-use Rattle.rows_trait.specs.row_words.Openings.{opening}
-use Rattle.rows_trait.specs.declared.view.View.{View}
+use Rattle.paged_desks.specs.row_words.declared.event.Event.{Event}
+use Rattle.paged_desks.specs.row_words.declared.event.Event.TheVariants as told
+use Rattle.paged_desks.specs.row_words.Moments.{events_of}
+use Rattle.paged_desks.specs.row_words.Openings.{opening}
+use Rattle.paged_desks.specs.rows_trait.declared.view.View.{View}
 use Rattle.row_ends.specs.Ends.{gives}
-use Rattle.disk_runs.specs.worker_log.Logs.{Log}
+use Rattle.paged_desks.specs.worker_log.Logs.{Log}
 use Rattle.row_ends.specs.Outcomes.{FailsToCommit, HasCommitted, IsGrouped}
 use Rattle.row_ends.specs.declared.ending.Ended as replies
-use Rattle.session_state.proofs.Moments.{events_more}
-use Rattle.session_state.specs.Holds.{Holds, IsSameSession}
-use Rattle.session_state.specs.Ties.{Behind}
-use Rattle.session_state.specs.declared.session.Session.{Session}
-use Rattle.session_desks.proofs.DeskLemmas.{desk_own}
-use Rattle.session_desks.proofs.SeatLemmas.{holds_of, turn_high, turn_low}
-use Rattle.session_desks.specs.Desks.{desk_of}
-use Rattle.session_desks.specs.Parts.{here, shape}
-use Rattle.session_desks.specs.declared.desk.Desk.{Desk}
-use Rattle.call_parts.proofs.MemoryLemmas.{every_memory}
-use Rattle.call_parts.proofs.OwnLemmas.{every_own}
-use Rattle.call_parts.proofs.SightLemmas.{every_enter}
-use Rattle.call_parts.specs.Deeds.{Fails}
-use Rattle.call_parts.specs.Memory.{IsSame, with_own}
-use Rattle.call_parts.specs.Parts.{Part}
+use Rattle.paged_desks.proofs.session_state.Moments.{events_more}
+use Rattle.paged_desks.specs.session_state.Holds.{Holds, IsSameSession}
+use Rattle.paged_desks.specs.session_state.Ties.{Behind}
+use Rattle.paged_desks.specs.session_state.declared.session.Session.{Session}
+use Rattle.paged_desks.proofs.session_desks.DeskLemmas.{desk_own}
+use Rattle.paged_desks.proofs.session_desks.SeatLemmas.{holds_of, turn_high, turn_low}
+use Rattle.paged_desks.specs.session_desks.Desks.{desk_of}
+use Rattle.paged_desks.specs.session_desks.Parts.{here, shape}
+use Rattle.paged_desks.specs.session_desks.declared.desk.Desk.{Desk}
+use Rattle.paged_desks.proofs.call_parts.MemoryLemmas.{every_memory}
+use Rattle.paged_desks.proofs.call_parts.OwnLemmas.{every_own}
+use Rattle.paged_desks.proofs.call_parts.SightLemmas.{every_enter}
+use Rattle.paged_desks.specs.call_parts.Deeds.{Fails}
+use Rattle.paged_desks.specs.call_parts.Memory.{IsSame, with_own}
+use Rattle.paged_desks.specs.call_parts.Parts.{Part}
 use Rattle.paged_desks.specs.Calls.{AreHalf, DoesTied, IsAside, Tied}
 use Rattle.paged_desks.specs.Machines.{IsReady, memory, view_of}
 use Rattle.paged_desks.specs.declared.machine.PagedMachine.{PagedMachine}
@@ -123,7 +123,7 @@ module _ (l : Grounds) (answers : EveryAnswer) (entries : EveryEntry) {D : Type 
     by (IsGrouped.Waits few view session log disk) = as_told (does_tied l m n old (story n.machine.work.disk) (lawful m.machine.work.disk) g xs many tied halves (told.End own true c.ended.floor ∷ gives own c.ended.ended.rows) part ready_n.logged (same.1, same.2) own call.Commit (answer.Committed x.txn (suc x.clock.clock)) (done_by false)
         (append-nil (ending own c.ended.floor c.ended.ended.rows) ∙ sym events_is) refl refl refl
         (tells l answers entries g x.group xs line (shape m.machine) (view_of m) c.view x m.machine.work.log c.log held opened start refl half reply old (story c.disk) c.ended met false (lt-leb x.group (suc x.unflushed) few))
-        (subst (λ k. Rattle.call_parts.specs.Deeds.Answers g xs (done_by false) k) (sym log_own) (how l answers entries g x.group xs line (shape m.machine) (view_of m) c.view x m.machine.work.log c.log held opened start refl half reply old (story c.disk) c.ended met false))
+        (subst (λ k. Rattle.paged_desks.specs.call_parts.Deeds.Answers g xs (done_by false) k) (sym log_own) (how l answers entries g x.group xs line (shape m.machine) (view_of m) c.view x m.machine.work.log c.log held opened start refl half reply old (story c.disk) c.ended met false))
         (n_half_too (ap (λ (k : Session). k.is_half_aborted) session)) others)
       where
         events_is : events_of (told.End own true c.ended.floor ∷ gives own c.ended.ended.rows) ≡ ending own c.ended.floor c.ended.ended.rows
@@ -137,7 +137,7 @@ module _ (l : Grounds) (answers : EveryAnswer) (entries : EveryEntry) {D : Type 
     by (IsGrouped.Flushed full f keeps) = as_told (does_tied l m n old (story n.machine.work.disk) (lawful m.machine.work.disk) g xs many tied halves es part ready_n.logged (same.1, same.2) own call.Commit (answer.Committed x.txn (suc x.clock.clock)) (done_by true)
         (sym (events_more (told.End own true c.ended.floor ∷ gives own c.ended.ended.rows) (told.Flush own (suc x.clock.clock) ∷ []) ∙ ap (λ ys. ys ++ happening.Event.Flush own (suc x.clock.clock) ∷ []) events_is)) refl refl refl
         (tells l answers entries g x.group xs line (shape m.machine) (view_of m) c.view x m.machine.work.log c.log held opened start refl half reply old (story c.disk) c.ended met true (le-leb x.group (suc x.unflushed) full))
-        (subst (λ k. Rattle.call_parts.specs.Deeds.Answers g xs (done_by true) k) (sym log_own) (how l answers entries g x.group xs line (shape m.machine) (view_of m) c.view x m.machine.work.log c.log held opened start refl half reply old (story c.disk) c.ended met true))
+        (subst (λ k. Rattle.paged_desks.specs.call_parts.Deeds.Answers g xs (done_by true) k) (sym log_own) (how l answers entries g x.group xs line (shape m.machine) (view_of m) c.view x m.machine.work.log c.log held opened start refl half reply old (story c.disk) c.ended met true))
         (n_half (ap (λ (k : Session). k.is_half_aborted) f.session)) others)
       where
         events_is : events_of (told.End own true c.ended.floor ∷ gives own c.ended.ended.rows) ≡ ending own c.ended.floor c.ended.ended.rows
@@ -164,8 +164,8 @@ module _ (l : Grounds) (answers : EveryAnswer) (entries : EveryEntry) {D : Type 
   pub fails_commit : FailsToCommit story (view_of m) x m.machine.work.log m.machine.work.disk n.machine.work.disk → Fails g x.group xs own call.Commit (memory m) old new
   fails_commit (FailsToCommit.Unstaged k) =
       (end_laws g x.group xs (view_of m) (memory m) tied x.workers own call.Commit old new many).fails false false []
-      ((every_own l.reached l.needs old new x.workers own (view_of m) (view_of m) (memory m) m.machine.work.log low high workers).fails (subst (λ j. Rattle.session_state.specs.Staging.KeepsLog own j old new) (sym log_own) k))
-      (no _) (no _) (subst (λ (d : Call). Rattle.call_parts.specs.Rooms.IsRoomFor g xs own d []) (sym (line_call xs call.Commit line)) (refl, omega arith))
+      ((every_own l.reached l.needs old new x.workers own (view_of m) (view_of m) (memory m) m.machine.work.log low high workers).fails (subst (λ j. Rattle.paged_desks.specs.session_state.Staging.KeepsLog own j old new) (sym log_own) k))
+      (no _) (no _) (subst (λ (d : Call). Rattle.paged_desks.specs.call_parts.Rooms.IsRoomFor g xs own d []) (sym (line_call xs call.Commit line)) (refl, omega arith))
   fails_commit (FailsToCommit.Unflushed reply view log disk e0 full k) =
       (end_laws g x.group xs (view_of m) (memory m) tied x.workers own call.Commit old new many).stops false false (events_of (told.End own true e0.floor ∷ gives own e0.ended.rows) ++ []) (happening.Event.Flush own (suc x.clock.clock) ∷ []) (done l answers entries g x.group xs line (shape m.machine) (view_of m) view x m.machine.work.log log held opened start refl half reply old (story disk) e0 met true)
       (flush_fails l (every_enter entries) story lawful x.workers (view_of m) view x (memory m) m.machine.work.log log log_own m.machine.work.disk disk low high workers held.session reply e0 n.machine.work.disk k) (no _) (no _)

@@ -7,53 +7,53 @@ use Rattle.map_model.specs.declared.call.Call.{Call}
 use Rattle.map_model.specs.declared.call.Call.TheVariants as call
 use Rattle.map_model.specs.declared.call.Refusal.{Refusal}
 use Rattle.map_model.specs.declared.call.Refusal.TheVariants as refusal
-use Rattle.core_calls.proofs.WhereLemmas.{refused_kept}
-use Rattle.core_calls.specs.Deeds.{marks_by}
-use Rattle.core_calls.specs.Fronts.{Done, front, outcomes}
-use Rattle.core_calls.specs.LogEvents.{is_log}
-use Rattle.core_calls.specs.Marks.{is_half}
-use Rattle.core_calls.specs.Scans.{StopsOnWay}
-use Rattle.core_calls.specs.Steps.{Tries, call_behind, is_step}
-use Rattle.rows_trait.specs.core_state.Events as happening
-use Rattle.rows_trait.specs.core_state.Openings.{Opening}
-use Rattle.rows_trait.specs.core_state.States.{State}
-use Rattle.rows_trait.specs.core_state.Steps.{state_after}
-use Rattle.engine_calls.proofs.MarkLemmas.{keep_none}
-use Rattle.engine_calls.specs.Answers.{EveryAnswer}
-use Rattle.engine_calls.specs.Clauses.{EveryComing, IsNewLine}
-use Rattle.engine_calls.specs.Parts.{behind_first}
-use Rattle.engine_calls.specs.Refused.{TakesRows, refused_by}
-use Rattle.engine_trait.specs.Calls.{MayCome, is_half_done}
-use Rattle.engine_trait.specs.Limits.{limits}
-use Rattle.engine_trait.specs.Refusals.{refusal_in}
-use Rattle.engine_trait.specs.Rooms.{MakesItsRoom}
+use Rattle.paged_desks.proofs.core_calls.WhereLemmas.{refused_kept}
+use Rattle.paged_desks.specs.core_calls.Deeds.{marks_by}
+use Rattle.paged_desks.specs.core_calls.Fronts.{Done, front, outcomes}
+use Rattle.paged_desks.specs.core_calls.LogEvents.{is_log}
+use Rattle.paged_desks.specs.core_calls.Marks.{is_half}
+use Rattle.paged_desks.specs.core_calls.Scans.{StopsOnWay}
+use Rattle.paged_desks.specs.core_calls.Steps.{Tries, call_behind, is_step}
+use Rattle.paged_desks.specs.core_state.Events as happening
+use Rattle.paged_desks.specs.core_state.Openings.{Opening}
+use Rattle.paged_desks.specs.core_state.States.{State}
+use Rattle.paged_desks.specs.core_state.Steps.{state_after}
+use Rattle.paged_desks.proofs.engine_calls.MarkLemmas.{keep_none}
+use Rattle.paged_desks.specs.engine_calls.Answers.{EveryAnswer}
+use Rattle.paged_desks.specs.engine_calls.Clauses.{EveryComing, IsNewLine}
+use Rattle.paged_desks.specs.engine_calls.Parts.{behind_first}
+use Rattle.paged_desks.specs.engine_calls.Refused.{TakesRows, refused_by}
+use Rattle.paged_desks.specs.engine_trait.Calls.{MayCome, is_half_done}
+use Rattle.paged_desks.specs.engine_trait.Limits.{limits}
+use Rattle.paged_desks.specs.engine_trait.Refusals.{refusal_in}
+use Rattle.paged_desks.specs.engine_trait.Rooms.{MakesItsRoom}
 use Rattle.lean_disk.proofs.MomentLemmas.{framed}
 use Rattle.lean_disk.specs.Moments.{Framed}
 use Rattle.lean_disk.specs.Story.{IsLawful, Story}
-use Rattle.rows_trait.specs.row_words.declared.event.Event.{Event}
-use Rattle.rows_trait.specs.row_words.Moments.{events_of}
-use Rattle.rows_trait.specs.row_words.Openings.{opening}
-use Rattle.rows_trait.specs.Views.{state}
+use Rattle.paged_desks.specs.row_words.declared.event.Event.{Event}
+use Rattle.paged_desks.specs.row_words.Moments.{events_of}
+use Rattle.paged_desks.specs.row_words.Openings.{opening}
+use Rattle.paged_desks.specs.rows_trait.Views.{state}
 use Rattle.row_ends.proofs.GoingLemmas.{not_going, tests_as}
 use Rattle.row_ends.proofs.Misses.{misses_core, misses_log, misses_met, misses_quiet, misses_steps, misses_structure}
 use Rattle.row_ends.specs.Outcomes.{Commits, IsSpent}
 use Rattle.row_ends.specs.Tests.{is_going}
 use Rattle.row_ends.specs.declared.ending.Ended as replies
-use Rattle.session_state.proofs.Moments.{seen_state}
-use Rattle.session_state.specs.Holds.{Holds, IsSameSession}
-use Rattle.session_state.specs.Others.{EveryOther, Steps}
-use Rattle.session_state.specs.Ties.{Behind}
-use Rattle.session_state.specs.declared.session.Session.{Session}
-use Rattle.session_desks.proofs.DeskLemmas.{desk_own}
-use Rattle.session_desks.proofs.SeatLemmas.{holds_of, turn_high, turn_low}
-use Rattle.session_desks.specs.Machines.{AreLogged}
-use Rattle.session_desks.specs.Parts.{SeatFits, here, shape}
-use Rattle.session_desks.specs.declared.desk.Desk.{Desk}
-use Rattle.disk_runs.specs.worker_log.Logs.{Log}
-use Rattle.call_parts.proofs.RunLemmas.{behind_more, core_is}
-use Rattle.call_parts.proofs.StepLemmas.{every_step}
-use Rattle.call_parts.specs.Memory.{Memory}
-use Rattle.call_parts.specs.Parts.{Part}
+use Rattle.paged_desks.proofs.session_state.Moments.{seen_state}
+use Rattle.paged_desks.specs.session_state.Holds.{Holds, IsSameSession}
+use Rattle.paged_desks.specs.session_state.Others.{EveryOther, Steps}
+use Rattle.paged_desks.specs.session_state.Ties.{Behind}
+use Rattle.paged_desks.specs.session_state.declared.session.Session.{Session}
+use Rattle.paged_desks.proofs.session_desks.DeskLemmas.{desk_own}
+use Rattle.paged_desks.proofs.session_desks.SeatLemmas.{holds_of, turn_high, turn_low}
+use Rattle.paged_desks.specs.session_desks.Machines.{AreLogged}
+use Rattle.paged_desks.specs.session_desks.Parts.{SeatFits, here, shape}
+use Rattle.paged_desks.specs.session_desks.declared.desk.Desk.{Desk}
+use Rattle.paged_desks.specs.worker_log.Logs.{Log}
+use Rattle.paged_desks.proofs.call_parts.RunLemmas.{behind_more, core_is}
+use Rattle.paged_desks.proofs.call_parts.StepLemmas.{every_step}
+use Rattle.paged_desks.specs.call_parts.Memory.{Memory}
+use Rattle.paged_desks.specs.call_parts.Parts.{Part}
 use Rattle.paged_desks.specs.Calls.{AreHalf, DoesTied, EndsWork, IsAside, IsBeside, Tied, works_behind}
 use Rattle.paged_desks.specs.Machines.{IsReady, memory, view_of}
 use Rattle.paged_desks.specs.declared.machine.PagedMachine.{PagedMachine}

@@ -9,58 +9,58 @@ use Rattle.map_model.specs.declared.call.Call.TheVariants as call
 use Rattle.map_model.specs.declared.call.Refusal.{Refusal}
 use Rattle.map_model.specs.declared.call.Refusal.TheVariants as refusal
 use Rattle.rfa_model.specs.Reaches.{least}
-use Rattle.core_calls.specs.Fronts.{Done, front, outcomes}
-use Rattle.core_calls.specs.LogEvents as log_events
-use Rattle.core_calls.specs.Runs.{Tells}
-use Rattle.core_calls.specs.Steps.{call_behind, is_structure}
-use Rattle.rows_trait.specs.core_state.Events as happening
-use Rattle.rows_trait.specs.core_state.Needs.{holds_row}
-use Rattle.rows_trait.specs.core_state.Openings.{Opening}
-use Rattle.rows_trait.specs.core_state.States.{State}
-use Rattle.rows_trait.specs.core_state.Steps.{AllMet, state_after}
-use Rattle.disk_runs.specs.disk_image.Records.{entry_of}
-use Rattle.disk_runs.specs.Quiet.{is_quiet}
-use Rattle.engine_calls.proofs.MoveLemmas.{every_move}
-use Rattle.engine_calls.proofs.UnlockLemmas.{unlocks_quiet}
-use Rattle.engine_calls.specs.Answers.{EveryAnswer}
-use Rattle.engine_calls.specs.Clauses.{IsNewLine}
-use Rattle.engine_calls.specs.Commits.{IsCommit, committed_by, ending, flush_if, unlocks}
-use Rattle.engine_calls.specs.Entries.{EveryEntry, commit_record}
-use Rattle.engine_calls.specs.Parts.{behind_first}
-use Rattle.engine_trait.specs.Calls.{is_half_done}
-use Rattle.engine_trait.specs.Limits.{limits}
-use Rattle.engine_trait.specs.Refusals.{refusal_in}
-use Rattle.engine_trait.specs.Rooms.{MakesItsRoom}
+use Rattle.paged_desks.specs.core_calls.Fronts.{Done, front, outcomes}
+use Rattle.paged_desks.specs.core_calls.LogEvents as log_events
+use Rattle.paged_desks.specs.core_calls.Runs.{Tells}
+use Rattle.paged_desks.specs.core_calls.Steps.{call_behind, is_structure}
+use Rattle.paged_desks.specs.core_state.Events as happening
+use Rattle.paged_desks.specs.core_state.Needs.{holds_row}
+use Rattle.paged_desks.specs.core_state.Openings.{Opening}
+use Rattle.paged_desks.specs.core_state.States.{State}
+use Rattle.paged_desks.specs.core_state.Steps.{AllMet, state_after}
+use Rattle.paged_desks.specs.disk_image.Records.{entry_of}
+use Rattle.paged_desks.specs.disk_runs.Quiet.{is_quiet}
+use Rattle.paged_desks.proofs.engine_calls.MoveLemmas.{every_move}
+use Rattle.paged_desks.proofs.engine_calls.UnlockLemmas.{unlocks_quiet}
+use Rattle.paged_desks.specs.engine_calls.Answers.{EveryAnswer}
+use Rattle.paged_desks.specs.engine_calls.Clauses.{IsNewLine}
+use Rattle.paged_desks.specs.engine_calls.Commits.{IsCommit, committed_by, ending, flush_if, unlocks}
+use Rattle.paged_desks.specs.engine_calls.Entries.{EveryEntry, commit_record}
+use Rattle.paged_desks.specs.engine_calls.Parts.{behind_first}
+use Rattle.paged_desks.specs.engine_trait.Calls.{is_half_done}
+use Rattle.paged_desks.specs.engine_trait.Limits.{limits}
+use Rattle.paged_desks.specs.engine_trait.Refusals.{refusal_in}
+use Rattle.paged_desks.specs.engine_trait.Rooms.{MakesItsRoom}
 use Rattle.lean_disk.specs.Story.{IsLawful, Story}
-use Rattle.disk_runs.specs.log_record.declared.record.Body.TheVariants as body
-use Rattle.disk_runs.specs.log_record.declared.record.Record.{Record}
-use Rattle.rows_trait.specs.row_words.declared.event.Event.{Event}
-use Rattle.rows_trait.specs.row_words.declared.event.Event.TheVariants as told
-use Rattle.rows_trait.specs.row_words.Moments.{events_of}
-use Rattle.rows_trait.specs.row_words.Openings.{opening}
-use Rattle.rows_trait.specs.declared.view.View.{View}
-use Rattle.rows_trait.specs.Views.{Shape, state}
+use Rattle.paged_desks.specs.log_record.declared.record.Body.TheVariants as body
+use Rattle.paged_desks.specs.log_record.declared.record.Record.{Record}
+use Rattle.paged_desks.specs.row_words.declared.event.Event.{Event}
+use Rattle.paged_desks.specs.row_words.declared.event.Event.TheVariants as told
+use Rattle.paged_desks.specs.row_words.Moments.{events_of}
+use Rattle.paged_desks.specs.row_words.Openings.{opening}
+use Rattle.paged_desks.specs.rows_trait.declared.view.View.{View}
+use Rattle.paged_desks.specs.rows_trait.Views.{Shape, state}
 use Rattle.row_ends.proofs.LatchLemmas.{gives_events}
 use Rattle.row_ends.specs.Ends.{HasFlushed, gives, waiting_session}
 use Rattle.row_ends.specs.Outcomes.{HasEnded, end_record}
 use Rattle.row_ends.specs.declared.ending.Ended as replies
-use Rattle.session_state.specs.Holds.{Holds, IsOf}
-use Rattle.session_state.specs.Staging.{KeepsLog}
-use Rattle.session_state.specs.Ties.{Behind}
-use Rattle.session_state.specs.declared.session.Session.{Session}
-use Rattle.log_calls.specs.Calls.{StagesOn}
-use Rattle.disk_runs.specs.worker_log.Calls.{After}
-use Rattle.disk_runs.specs.worker_log.Logs.{Log}
-use Rattle.call_parts.proofs.JoinLemmas.{every_join}
-use Rattle.call_parts.proofs.OwnLemmas.{every_own}
-use Rattle.call_parts.proofs.RunLemmas.{behind_more, core_is}
-use Rattle.call_parts.proofs.SightLemmas.{every_sight}
-use Rattle.call_parts.proofs.StepLemmas.{every_step}
-use Rattle.call_parts.specs.Deeds.{Answers}
-use Rattle.call_parts.specs.Laws.{EveryEnter}
-use Rattle.call_parts.specs.Memory.{Memory, with_own}
-use Rattle.call_parts.specs.Parts.{Failed, Part}
-use Rattle.call_parts.specs.Steps.{Sees, SeesBetween}
+use Rattle.paged_desks.specs.session_state.Holds.{Holds, IsOf}
+use Rattle.paged_desks.specs.session_state.Staging.{KeepsLog}
+use Rattle.paged_desks.specs.session_state.Ties.{Behind}
+use Rattle.paged_desks.specs.session_state.declared.session.Session.{Session}
+use Rattle.paged_desks.specs.log_calls.Calls.{StagesOn}
+use Rattle.paged_desks.specs.worker_log.Calls.{After}
+use Rattle.paged_desks.specs.worker_log.Logs.{Log}
+use Rattle.paged_desks.proofs.call_parts.JoinLemmas.{every_join}
+use Rattle.paged_desks.proofs.call_parts.OwnLemmas.{every_own}
+use Rattle.paged_desks.proofs.call_parts.RunLemmas.{behind_more, core_is}
+use Rattle.paged_desks.proofs.call_parts.SightLemmas.{every_sight}
+use Rattle.paged_desks.proofs.call_parts.StepLemmas.{every_step}
+use Rattle.paged_desks.specs.call_parts.Deeds.{Answers}
+use Rattle.paged_desks.specs.call_parts.Laws.{EveryEnter}
+use Rattle.paged_desks.specs.call_parts.Memory.{Memory, with_own}
+use Rattle.paged_desks.specs.call_parts.Parts.{Failed, Part}
+use Rattle.paged_desks.specs.call_parts.Steps.{Sees, SeesBetween}
 use Rattle.paged_desks.proofs.EndingLemmas.{Grounds}
 
 -- ## Parts, with what is in memory
@@ -132,8 +132,8 @@ module _ (l : Grounds) (enter : EveryEnter) {D : Type 0} (story : D → Story) (
       ((every_own l.reached l.needs (story at) (story new) many own u w ended is low high workers_u).flush (suc x.clock.clock) (record {
         sees = record { given = f.given; seen = f.seen; met = (f.met, tt) };
         within = (let a = ap (λ (k : Log). k.last) own_is in let b = e.last in omega arith);
-        after = f.after ∙ ap Rattle.disk_runs.specs.worker_log.Calls.flushed_log (sym own_is);
-        stands = subst (λ (k : Log). Rattle.log_calls.specs.Calls.FlushesOn own k is (story at) (story new)) (sym own_is) f.stands;
+        after = f.after ∙ ap Rattle.paged_desks.specs.worker_log.Calls.flushed_log (sym own_is);
+        stands = subst (λ (k : Log). Rattle.paged_desks.specs.log_calls.Calls.FlushesOn own k is (story at) (story new)) (sym own_is) f.stands;
         keeps = subst (λ (k : Log). KeepsLog own k (story at) (story new)) (sym own_is) keeps;
       }))
 
@@ -147,11 +147,11 @@ module _ (l : Grounds) (enter : EveryEnter) {D : Type 0} (story : D → Story) (
       unlocks_none p h [] = refl
       unlocks_none p h (i ∷ rows) = subst (λ b. (b || any p (unlocks own rows)) ≡ false) (sym (h own i)) (unlocks_none p h rows)
 
-      saves : (any Rattle.call_parts.specs.Areas.is_save (events_of events) || false) ≡ false
-      saves = ap (λ ys. any Rattle.call_parts.specs.Areas.is_save ys || false) events_are ∙ ap (λ b. b || false) (unlocks_none Rattle.call_parts.specs.Areas.is_save (λ _ _. refl) e.ended.rows)
+      saves : (any Rattle.paged_desks.specs.call_parts.Areas.is_save (events_of events) || false) ≡ false
+      saves = ap (λ ys. any Rattle.paged_desks.specs.call_parts.Areas.is_save ys || false) events_are ∙ ap (λ b. b || false) (unlocks_none Rattle.paged_desks.specs.call_parts.Areas.is_save (λ _ _. refl) e.ended.rows)
 
-      syncs : (any Rattle.rows_trait.specs.core_state.Local.is_sync (events_of events) || false) ≡ false
-      syncs = ap (λ ys. any Rattle.rows_trait.specs.core_state.Local.is_sync ys || false) events_are ∙ ap (λ b. b || false) (unlocks_none Rattle.rows_trait.specs.core_state.Local.is_sync (λ _ _. refl) e.ended.rows)
+      syncs : (any Rattle.paged_desks.specs.core_state.Local.is_sync (events_of events) || false) ≡ false
+      syncs = ap (λ ys. any Rattle.paged_desks.specs.core_state.Local.is_sync ys || false) events_are ∙ ap (λ b. b || false) (unlocks_none Rattle.paged_desks.specs.core_state.Local.is_sync (λ _ _. refl) e.ended.rows)
 
 -- ## In a run
 
@@ -247,7 +247,7 @@ module _ (l : Grounds) (answers : EveryAnswer) (entries : EveryEntry) (g : Openi
         one_most false = omega arith
 
     no_change : (due : Bool) → any is_structure (done due).events ≡ false
-    no_change due = Rattle.engine_calls.proofs.MarkLemmas.any_append is_structure (ending owner e.floor rows) (flush_if due owner number) (none rows) (flush_none due)
+    no_change due = Rattle.paged_desks.proofs.engine_calls.MarkLemmas.any_append is_structure (ending owner e.floor rows) (flush_if due owner number) (none rows) (flush_none due)
       where
         none : (rows : List ℕ) → any is_structure (unlocks owner rows) ≡ false
         none [] = refl

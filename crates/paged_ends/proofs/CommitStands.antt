@@ -3,36 +3,36 @@ use Rattle.std.proofs.Common.{◌≡◌, ◌∙◌, ◌≤◌, ◌<◌, ◌⊎�
 use Rattle.std.proofs.lemmas.Bool.{cases_eq}
 use Rattle.map_model.proofs.ListLemmas.{upd_other, upd_same}
 use Rattle.map_model.specs.Lists.{Has}
-use Rattle.rows_trait.specs.image_model.Entries.{Entry, Kind, is_record}
-use Rattle.rows_trait.specs.core_state.Events as happening
-use Rattle.rows_trait.specs.core_state.Needs.{may}
-use Rattle.rows_trait.specs.core_state.Openings.{Opening}
-use Rattle.rows_trait.specs.core_state.States.{State}
-use Rattle.rows_trait.specs.core_state.Steps.{end_entry, ends, happens, run, step}
-use Rattle.engine_calls.specs.Commits.{unlocks}
+use Rattle.paged_desks.specs.image_model.Entries.{Entry, Kind, is_record}
+use Rattle.paged_desks.specs.core_state.Events as happening
+use Rattle.paged_desks.specs.core_state.Needs.{may}
+use Rattle.paged_desks.specs.core_state.Openings.{Opening}
+use Rattle.paged_desks.specs.core_state.States.{State}
+use Rattle.paged_desks.specs.core_state.Steps.{end_entry, ends, happens, run, step}
+use Rattle.paged_desks.specs.engine_calls.Commits.{unlocks}
 use Rattle.lean_disk.specs.Moments.{Framed}
 use Rattle.lean_disk.specs.Story.{Story}
-use Rattle.rows_trait.specs.row_words.declared.event.Event.TheVariants as told
-use Rattle.rows_trait.specs.row_words.Openings.{opening}
-use Rattle.rows_trait.specs.declared.view.View.{View}
-use Rattle.rows_trait.specs.Views.{Shape, state}
+use Rattle.paged_desks.specs.row_words.declared.event.Event.TheVariants as told
+use Rattle.paged_desks.specs.row_words.Openings.{opening}
+use Rattle.paged_desks.specs.rows_trait.declared.view.View.{View}
+use Rattle.paged_desks.specs.rows_trait.Views.{Shape, state}
 use Rattle.row_ends.proofs.CommitLemmas.{core_w, entries_w, flushed_w}
 use Rattle.row_ends.proofs.OutcomeLemmas.{next}
 use Rattle.row_ends.specs.Ends.{HasFlushed, waiting_session}
 use Rattle.row_ends.specs.Outcomes.{HasCommitted, HasEnded, IsGrouped}
 use Rattle.row_ends.specs.declared.ending.Ended as replies
-use Rattle.session_state.proofs.Frames.{framed_then}
-use Rattle.session_state.proofs.Moments.{met_core, seen_state}
-use Rattle.session_state.proofs.StageLemmas.{staged_flushed}
-use Rattle.session_state.specs.Holds.{Holds, IsSameSession}
-use Rattle.session_state.specs.Others.{EveryOther, Steps}
-use Rattle.session_state.specs.declared.session.Session.{Session}
-use Rattle.session_desks.proofs.DeskLemmas.{desk_own}
-use Rattle.session_desks.proofs.SeatLemmas.{holds_of, turn_high, turn_low}
-use Rattle.session_desks.specs.Machines.{IsLogged}
-use Rattle.session_desks.specs.Parts.{HasLogs, SeatFits, here, logs, shape}
-use Rattle.session_desks.specs.declared.desk.Desk.{Desk}
-use Rattle.disk_runs.specs.worker_log.Logs.{Log}
+use Rattle.paged_desks.proofs.session_state.Frames.{framed_then}
+use Rattle.paged_desks.proofs.session_state.Moments.{met_core, seen_state}
+use Rattle.paged_desks.proofs.session_state.StageLemmas.{staged_flushed}
+use Rattle.paged_desks.specs.session_state.Holds.{Holds, IsSameSession}
+use Rattle.paged_desks.specs.session_state.Others.{EveryOther, Steps}
+use Rattle.paged_desks.specs.session_state.declared.session.Session.{Session}
+use Rattle.paged_desks.proofs.session_desks.DeskLemmas.{desk_own}
+use Rattle.paged_desks.proofs.session_desks.SeatLemmas.{holds_of, turn_high, turn_low}
+use Rattle.paged_desks.specs.session_desks.Machines.{IsLogged}
+use Rattle.paged_desks.specs.session_desks.Parts.{HasLogs, SeatFits, here, logs, shape}
+use Rattle.paged_desks.specs.session_desks.declared.desk.Desk.{Desk}
+use Rattle.paged_desks.specs.worker_log.Logs.{Log}
 use Rattle.paged_desks.specs.Calls.{IsAside}
 use Rattle.paged_desks.specs.Machines.{IsReady, view_of}
 use Rattle.paged_desks.specs.declared.machine.PagedMachine.{PagedMachine}

@@ -3,11 +3,11 @@ use Rattle.std.proofs.Common.{◌≡◌, ◌≤◌, ◌+◌, ◌-◌, ◌^◌, �
 use Rattle.std.proofs.lemmas.Bool.{le-leb, leb-true}
 use Rattle.map_model.specs.declared.call.Refusal.{Refusal}
 use Rattle.map_model.specs.declared.call.Refusal.TheVariants as refusal
-use Rattle.rows_trait.specs.core_state.States.{State}
-use Rattle.engine_trait.specs.Refusals.{log_refusal}
-use Rattle.disk_runs.specs.worker_log.Calls.{flushed_log}
-use Rattle.disk_runs.specs.worker_log.Logs.{Log, limit, used}
-use Rattle.session_state.specs.Syncs.{flushed_of}
+use Rattle.paged_desks.specs.core_state.States.{State}
+use Rattle.paged_desks.specs.engine_trait.Refusals.{log_refusal}
+use Rattle.paged_desks.specs.worker_log.Calls.{flushed_log}
+use Rattle.paged_desks.specs.worker_log.Logs.{Log, limit, used}
+use Rattle.paged_desks.specs.session_state.Syncs.{flushed_of}
 
 none_is : (r : Refusal) → None ≡ Some r → ⊥
 none_is r e = absurd (cc)

@@ -1,9 +1,9 @@
 -- The events of a sync.
 use Rattle.std.proofs.Common.{◌≡◌, ◌∙◌, ◌||◌, ◌++◌, ℕ, Bool, true, false, List, [], ◌∷◌, ap, refl, sym, subst, true≢false}
 use Rattle.map_model.specs.Lists.{any, keep}
-use Rattle.core_calls.specs.LogEvents.{AreFlushes, IsSync, is_log}
-use Rattle.rows_trait.specs.core_state.Events.{Event}
-use Rattle.engine_calls.proofs.MarkLemmas.{any_append, keep_append}
+use Rattle.paged_desks.specs.core_calls.LogEvents.{AreFlushes, IsSync, is_log}
+use Rattle.paged_desks.specs.core_state.Events.{Event}
+use Rattle.paged_desks.proofs.engine_calls.MarkLemmas.{any_append, keep_append}
 
 either : (a b : Bool) → a ≡ false → b ≡ false → (a || b) ≡ false
 either false false x y = refl

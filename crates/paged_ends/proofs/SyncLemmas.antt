@@ -5,29 +5,29 @@ use Rattle.map_model.specs.declared.call.Answer.TheVariants as answer
 use Rattle.map_model.specs.declared.call.Call.{Call}
 use Rattle.map_model.specs.declared.call.Call.TheVariants as call
 use Rattle.map_model.specs.declared.call.Refusal.{Refusal}
-use Rattle.core_calls.specs.Deeds.{Synced}
-use Rattle.core_calls.specs.Fronts.{Done, front, outcomes}
-use Rattle.core_calls.specs.Marks.{Mark}
-use Rattle.core_calls.specs.Runs.{Tells}
-use Rattle.core_calls.specs.Steps.{call_behind, is_step, is_structure}
-use Rattle.rows_trait.specs.core_state.Events.{Event}
-use Rattle.rows_trait.specs.core_state.Openings.{Opening}
-use Rattle.rows_trait.specs.core_state.Steps.{AllMet, state_after}
-use Rattle.engine_calls.proofs.ComingLemmas.{follows, goes_on}
-use Rattle.engine_calls.proofs.MarkLemmas.{fresh_none, has_mark, keep_none, marks_none}
-use Rattle.engine_calls.specs.Clauses.{IsNewLine}
-use Rattle.engine_calls.specs.Syncs.{kept_by}
-use Rattle.engine_trait.specs.Calls.{is_half_done}
-use Rattle.engine_trait.specs.Limits.{limits}
-use Rattle.engine_trait.specs.Refusals.{refusal_in}
-use Rattle.engine_trait.specs.Rooms.{MakesItsRoom, needs_sync}
+use Rattle.paged_desks.specs.core_calls.Deeds.{Synced}
+use Rattle.paged_desks.specs.core_calls.Fronts.{Done, front, outcomes}
+use Rattle.paged_desks.specs.core_calls.Marks.{Mark}
+use Rattle.paged_desks.specs.core_calls.Runs.{Tells}
+use Rattle.paged_desks.specs.core_calls.Steps.{call_behind, is_step, is_structure}
+use Rattle.paged_desks.specs.core_state.Events.{Event}
+use Rattle.paged_desks.specs.core_state.Openings.{Opening}
+use Rattle.paged_desks.specs.core_state.Steps.{AllMet, state_after}
+use Rattle.paged_desks.proofs.engine_calls.ComingLemmas.{follows, goes_on}
+use Rattle.paged_desks.proofs.engine_calls.MarkLemmas.{fresh_none, has_mark, keep_none, marks_none}
+use Rattle.paged_desks.specs.engine_calls.Clauses.{IsNewLine}
+use Rattle.paged_desks.specs.engine_calls.Syncs.{kept_by}
+use Rattle.paged_desks.specs.engine_trait.Calls.{is_half_done}
+use Rattle.paged_desks.specs.engine_trait.Limits.{limits}
+use Rattle.paged_desks.specs.engine_trait.Refusals.{refusal_in}
+use Rattle.paged_desks.specs.engine_trait.Rooms.{MakesItsRoom, needs_sync}
 use Rattle.lean_disk.specs.Story.{IsLawful, Story}
-use Rattle.rows_trait.specs.row_words.Moments.{events_of}
-use Rattle.call_parts.specs.Deeds.{Answers, Fails}
-use Rattle.call_parts.specs.Rooms.{IsRoomFor, makes_sync, may_save}
-use Rattle.session_desks.proofs.SeatLemmas.{holds_of}
-use Rattle.session_desks.specs.Parts.{here, shape}
-use Rattle.session_state.specs.declared.session.Session.{Session}
+use Rattle.paged_desks.specs.row_words.Moments.{events_of}
+use Rattle.paged_desks.specs.call_parts.Deeds.{Answers, Fails}
+use Rattle.paged_desks.specs.call_parts.Rooms.{IsRoomFor, makes_sync, may_save}
+use Rattle.paged_desks.proofs.session_desks.SeatLemmas.{holds_of}
+use Rattle.paged_desks.specs.session_desks.Parts.{here, shape}
+use Rattle.paged_desks.specs.session_state.declared.session.Session.{Session}
 use Rattle.paged_desks.specs.Calls.{AreHalf, DoesTied, Tied}
 use Rattle.paged_desks.specs.Machines.{IsReady, memory, view_of}
 use Rattle.paged_desks.specs.Syncs.{HasNotSynced, IsSynced}

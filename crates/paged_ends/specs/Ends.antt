@@ -4,12 +4,12 @@ use Rattle.map_model.specs.declared.call.Answer.{Answer}
 use Rattle.map_model.specs.declared.call.Answer.TheVariants as answer
 use Rattle.map_model.specs.declared.call.Call.TheVariants as call
 use Rattle.map_model.specs.declared.call.Refusal.{Refusal}
-use Rattle.rows_trait.specs.core_state.Openings.{Opening}
-use Rattle.core_calls.specs.Fronts.{Done, outcomes}
-use Rattle.engine_calls.specs.Clauses.{IsNewLine}
-use Rattle.engine_trait.specs.Rooms.{needs_sync}
+use Rattle.paged_desks.specs.core_state.Openings.{Opening}
+use Rattle.paged_desks.specs.core_calls.Fronts.{Done, outcomes}
+use Rattle.paged_desks.specs.engine_calls.Clauses.{IsNewLine}
+use Rattle.paged_desks.specs.engine_trait.Rooms.{needs_sync}
 use Rattle.row_ends.specs.declared.ending.Ended.{Ended}
-use Rattle.session_desks.specs.Parts.{logs}
+use Rattle.paged_desks.specs.session_desks.Parts.{logs}
 use Rattle.paged_desks.specs.declared.machine.PagedMachine.{PagedMachine}
 
 -- a begin on a new line, where so many ends of the session wait that a sync is due, or not

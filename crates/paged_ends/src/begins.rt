@@ -3,9 +3,9 @@ ghost use Rattle.std.specs.Prelude.{◌≡◌, ◌⊎◌, ◌↔◌, ◌≤◌, 
 ghost use Rattle.map_model.specs.declared.call.Call.TheVariants as call;
 ghost use Rattle.map_model.specs.declared.call.Refusal.{Refusal};
 ghost use Rattle.lean_disk.specs.Faults.{HasCause};
-ghost use Rattle.engine_trait.specs.Calls.{MayCome};
+ghost use Rattle.paged_desks.specs.engine_trait.Calls.{MayCome};
 ghost use Rattle.row_ends.specs.Tests.{begin_test};
-ghost use Rattle.session_desks.specs.Parts.{AreAsMany, MaySync, SeatFits, Works};
+ghost use Rattle.paged_desks.specs.session_desks.Parts.{AreAsMany, MaySync, SeatFits, Works};
 ghost use Rattle.paged_desks.specs.Calls.{CallDoes, EndsWork, works_behind};
 ghost use Rattle.paged_desks.specs.Machines.{IsReady};
 ghost use Rattle.paged_ends.specs.Ends.{KeepsFlushed, OnBegin, begin_answer};
@@ -13,9 +13,8 @@ ghost use Rattle.paged_ends.specs.Pieces.{HasBegun};
 
 use crate::laws::laws;
 use map_model::Refusal;
-use paged_desks::PagedMachine;
+use paged_desks::{PagedMachine, Stages};
 use row_ends::{begin_refusal, begin_tested};
-use session_state::Stages;
 
 // The transaction of the session whose turn it is begins, unless a test refuses it.
 fn begin_once<D: Stages>(machine: &mut PagedMachine<D>) -> Result<u64, Refusal>

@@ -3,10 +3,10 @@ ghost use Rattle.std.specs.Prelude.{◌≡◌, ◌⊎◌, ◌↔◌, IfErr, IfOk
 ghost use Rattle.map_model.specs.declared.call.Call.TheVariants as call;
 ghost use Rattle.map_model.specs.declared.call.Refusal.{Refusal};
 ghost use Rattle.lean_disk.specs.Faults.{HasCause};
-ghost use Rattle.engine_trait.specs.Calls.{MayCome};
+ghost use Rattle.paged_desks.specs.engine_trait.Calls.{MayCome};
 ghost use Rattle.row_ends.specs.Receipts.{IsEnded};
-ghost use Rattle.session_desks.specs.Parts.{AreAsMany, SeatFits, Works};
-ghost use Rattle.session_state.specs.Holds.{IsSameSession};
+ghost use Rattle.paged_desks.specs.session_desks.Parts.{AreAsMany, SeatFits, Works};
+ghost use Rattle.paged_desks.specs.session_state.Holds.{IsSameSession};
 ghost use Rattle.paged_desks.specs.Calls.{CallDoes, EndsWork, IsAside, OnLine, works_behind};
 ghost use Rattle.paged_desks.specs.Machines.{IsReady, view_of};
 ghost use Rattle.paged_ends.specs.Ends.{commit_answer};
@@ -14,9 +14,8 @@ ghost use Rattle.paged_ends.specs.Pieces.{CommitsOn};
 
 use crate::laws::laws;
 use map_model::Refusal;
-use paged_desks::PagedMachine;
+use paged_desks::{PagedMachine, Stages};
 use row_ends::{Ended, call_refusal, commit_tested};
-use session_state::Stages;
 
 // The transaction of the session whose turn it is commits, behind its tests.
 fn commit_open<D: Stages>(machine: &mut PagedMachine<D>) -> Result<Ended, Refusal>

@@ -1,14 +1,14 @@
 // What the calls rest on.
-ghost use Rattle.disk_runs.specs.core_disk.Versions.{EveryVersion};
-ghost use Rattle.disk_runs.specs.disk_image.Laws.{EverySealed};
-ghost use Rattle.engine_calls.specs.Answers.{EveryAnswer};
-ghost use Rattle.engine_calls.specs.Clauses.{EveryComing};
-ghost use Rattle.engine_calls.specs.Entries.{EveryEntry};
-ghost use Rattle.page_pool.specs.Pools.{EveryStanding};
-ghost use Rattle.row_opening.specs.Openings.{EveryNeed, EveryReached};
-ghost use Rattle.session_state.specs.Others.{EveryOther};
-ghost use Rattle.session_state.specs.Syncs.{EveryFlush};
-ghost use Rattle.disk_runs.specs.worker_log.Laws.{EveryKept, EveryPrefix};
+ghost use Rattle.paged_desks.specs.core_disk.Versions.{EveryVersion};
+ghost use Rattle.paged_desks.specs.disk_image.Laws.{EverySealed};
+ghost use Rattle.paged_desks.specs.engine_calls.Answers.{EveryAnswer};
+ghost use Rattle.paged_desks.specs.engine_calls.Clauses.{EveryComing};
+ghost use Rattle.paged_desks.specs.engine_calls.Entries.{EveryEntry};
+ghost use Rattle.paged_desks.specs.page_pool.Pools.{EveryStanding};
+ghost use Rattle.paged_desks.specs.row_opening.Openings.{EveryNeed, EveryReached};
+ghost use Rattle.paged_desks.specs.session_state.Others.{EveryOther};
+ghost use Rattle.paged_desks.specs.session_state.Syncs.{EveryFlush};
+ghost use Rattle.paged_desks.specs.worker_log.Laws.{EveryKept, EveryPrefix};
 
 // The laws of versions, logs, seals and openings, of answers and entries, of other sessions and of flushes, and of what the pager knows over their steps.
 pub(crate) fn laws()
@@ -25,11 +25,11 @@ pub(crate) fn laws()
     ensures flush { EveryFlush }
     ensures standing { EveryStanding }
 {
-    call_parts::laws();
-    engine_calls::every_answer();
-    engine_calls::every_coming();
-    engine_calls::every_entry();
-    session_state::every_other();
-    session_state::every_flush();
-    page_pool::every_standing();
+    paged_desks::call_parts_laws();
+    paged_desks::every_answer();
+    paged_desks::every_coming();
+    paged_desks::every_entry();
+    paged_desks::every_other();
+    paged_desks::every_flush();
+    paged_desks::every_standing();
 }

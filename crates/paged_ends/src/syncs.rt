@@ -3,18 +3,16 @@ ghost use Rattle.std.specs.Prelude.{◌≡◌, ◌⊎◌, ◌↔◌, IfErr, Err,
 ghost use Rattle.map_model.specs.declared.call.Call.TheVariants as call;
 ghost use Rattle.map_model.specs.declared.call.Refusal.{Refusal};
 ghost use Rattle.lean_disk.specs.Faults.{HasCause};
-ghost use Rattle.engine_trait.specs.Calls.{MayCome};
-ghost use Rattle.session_desks.specs.Parts.{AreAsMany, SeatFits, Works};
+ghost use Rattle.paged_desks.specs.engine_trait.Calls.{MayCome};
+ghost use Rattle.paged_desks.specs.session_desks.Parts.{AreAsMany, SeatFits, Works};
 ghost use Rattle.paged_desks.specs.Calls.{CallDoes, EndsWork, OnLine, works_behind};
 ghost use Rattle.paged_desks.specs.Machines.{IsReady};
 ghost use Rattle.paged_desks.specs.Parts.{IsCramped};
 ghost use Rattle.paged_ends.specs.Ends.{sync_answer};
 
 use crate::laws::laws;
-use disk_runs::worker_log::DiskFault;
 use map_model::Refusal;
-use paged_desks::PagedMachine;
-use session_state::Stages;
+use paged_desks::{DiskFault, PagedMachine, Stages};
 
 /// Flushes every log, and raises every clock, and what is flushed of every log, to the greatest clock; where some log ends below that, the next master is
 /// written first. The answer is that number. Where an abort is half done and what it has still to put back would find no room behind a flush of its log, it is refused,

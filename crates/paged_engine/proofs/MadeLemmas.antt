@@ -1,14 +1,14 @@
 -- The logs and desks that are made as a machine is opened.
 use Rattle.std.proofs.Common.{◌≡◌, ⊎_elim, ◌+◌, ◌++◌, ◌∷◌, [], ℕ, List, length, slice_get, Some, Result, Ok, Err, IfOk, sym, subst, arith}
-use Rattle.disk_runs.specs.disk_slots.declared.master.Master.{Master}
+use Rattle.paged_desks.specs.disk_slots.declared.master.Master.{Master}
 use Rattle.lean_disk.specs.Area.{Area}
 use Rattle.recovery.proofs.LoadLemmas.{get_more}
-use Rattle.session_state.specs.declared.session.Session.{Session}
+use Rattle.paged_desks.specs.session_state.declared.session.Session.{Session}
 use Rattle.run_opening.specs.Starts.{empty_log}
-use Rattle.disk_runs.specs.worker_log.Kept.{IsFresh, IsInRange, IsKept, fresh_account}
-use Rattle.disk_runs.specs.worker_log.Logs.{Log}
+use Rattle.paged_desks.specs.worker_log.Kept.{IsFresh, IsInRange, IsKept, fresh_account}
+use Rattle.paged_desks.specs.worker_log.Logs.{Log}
 use Rattle.paged_engine.specs.Openings.{IsFurther, IsMadeBy}
-use Rattle.session_desks.specs.declared.desk.Desk.{Desk}
+use Rattle.paged_desks.specs.session_desks.declared.desk.Desk.{Desk}
 
 -- a log that is as it should be is made
 pub made_if : {E : Type 0} (n : Master) (w : ℕ) (log : Result Log E) → IfOk log (λ it. it ≡ empty_log n w) → IfOk log IsInRange → IfOk log (λ it. (area : Area) → IsFresh it area → IsKept (fresh_account area) it area) → IfOk log (IsMadeBy n w)

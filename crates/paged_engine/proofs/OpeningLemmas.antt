@@ -6,27 +6,27 @@ use Rattle.page_model.specs.Page.{Page}
 use Rattle.page_model.specs.Nodes.{Format, Node, holds}
 use Rattle.page_model.specs.Pairs.{find}
 use Rattle.page_model.specs.Tree.{entry, value_of}
-use Rattle.btree_descent.specs.image_model.Entries.{Contents}
-use Rattle.btree_descent.specs.image_model.Images.{Image, map_of, recovered_page}
-use Rattle.btree_descent.specs.image_model.Laws.{EveryUndone, UndoneLaws}
-use Rattle.btree_descent.proofs.image_model_lemmas.WordLemmas.{words}
-use Rattle.btree_descent.specs.core_state.Openings.{Opening, first_map, start_page}
+use Rattle.paged_desks.specs.image_model.Entries.{Contents}
+use Rattle.paged_desks.specs.image_model.Images.{Image, map_of, recovered_page}
+use Rattle.paged_desks.specs.image_model.Laws.{EveryUndone, UndoneLaws}
+use Rattle.paged_desks.proofs.image_model.WordLemmas.{words}
+use Rattle.paged_desks.specs.core_state.Openings.{Opening, first_map, start_page}
 use Rattle.lean_disk.specs.Story.{Story, areas_of, Tells}
-use Rattle.disk_runs.specs.Pages.{Firm}
-use Rattle.disk_runs.specs.disk_slots.declared.master.Master.{Master}
-use Rattle.disk_runs.specs.disk_image.Formats.{format_of}
-use Rattle.disk_runs.specs.disk_image.Shown.{Areas, IsCleanDisk, image_by}
-use Rattle.disk_runs.specs.worker_log.Logs.{Log}
+use Rattle.paged_desks.specs.disk_runs.Pages.{Firm}
+use Rattle.paged_desks.specs.disk_slots.declared.master.Master.{Master}
+use Rattle.paged_desks.specs.disk_image.Formats.{format_of}
+use Rattle.paged_desks.specs.disk_image.Shown.{Areas, IsCleanDisk, image_by}
+use Rattle.paged_desks.specs.worker_log.Logs.{Log}
 use Rattle.recovery.specs.Masters.{IsOpenable}
 use Rattle.recovery.specs.Opened.{IsGreatest, IsRecovered, IsUntouched, Keeps}
 use Rattle.recovery.specs.Own.{EveryOwn}
 use Rattle.recovery.specs.Starts.{IsStartOf}
 use Rattle.recovery.specs.Telling as telling
 use Rattle.recovery.specs.declared.opening.Recovered.{Recovered}
-use Rattle.row_opening.specs.Opened.{contents_of, page_at, page_or}
+use Rattle.paged_desks.specs.row_opening.Opened.{contents_of, page_at, page_or}
 use Rattle.run_opening.specs.Starts.{EveryStart, IsStart}
-use Rattle.page_calls.specs.Slots.{number_of, opened_slot}
-use Rattle.page_calls.specs.declared.slots.Slot.{Slot}
+use Rattle.paged_desks.specs.page_calls.Slots.{number_of, opened_slot}
+use Rattle.paged_desks.specs.page_calls.declared.slots.Slot.{Slot}
 use Rattle.paged_opening.specs.Opened.{HasRecovered}
 use Rattle.paged_opening.proofs.MirrorLemmas.{last_is, opened_at}
 use Rattle.paged_engine.specs.Openings.{BeginsOn, IsFrom, IsMadeBy, OpeningLaws}

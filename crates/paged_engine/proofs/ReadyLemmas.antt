@@ -1,37 +1,37 @@
 -- What an opening made is a machine that is ready, at the start of a run.
 use Rattle.std.proofs.Common.{◌≡◌, ◌≤◌, ◌<◌, ◌+◌, ◌-◌, ◌^◌, ℕ, suc, true, false, List, [], length, map, replicate, refl, sym, ap, ◌∙◌, subst, arith}
-use Rattle.btree_descent.specs.image_model.Laws.{EveryUndone}
-use Rattle.btree_descent.specs.core_state.Openings.{Opening}
-use Rattle.btree_descent.specs.core_state.States as core
-use Rattle.btree_descent.specs.draw_trait.declared.staged.Staged.{Staged}
-use Rattle.disk_runs.specs.Openings as runs
-use Rattle.disk_runs.specs.disk_slots.declared.master.Master.{Master}
+use Rattle.paged_desks.specs.image_model.Laws.{EveryUndone}
+use Rattle.paged_desks.specs.core_state.Openings.{Opening}
+use Rattle.paged_desks.specs.core_state.States as core
+use Rattle.paged_desks.specs.draw_trait.declared.staged.Staged.{Staged}
+use Rattle.paged_desks.specs.disk_runs.Openings as runs
+use Rattle.paged_desks.specs.disk_slots.declared.master.Master.{Master}
 use Rattle.lean_disk.specs.Story.{Story, Tells}
-use Rattle.btree_descent.specs.Known as descent
-use Rattle.btree_descent.specs.row_words.declared.given.Given.{Given}
-use Rattle.btree_descent.specs.rows_trait.declared.view.View.{View}
-use Rattle.btree_descent.specs.rows_trait.Views.{Shape, first_plain, state}
-use Rattle.call_parts.specs.Memory.{Memory}
-use Rattle.page_calls.specs.Mirrors.{IsMirror}
-use Rattle.page_calls.specs.Slots.{opened_slot}
-use Rattle.page_calls.specs.declared.slots.Slot.{Slot}
-use Rattle.page_provider.specs.Providers.{Provider}
-use Rattle.paged_rows.specs.Paged.{IsFedIfFaithful}
+use Rattle.paged_desks.specs.btree_descent.Known as descent
+use Rattle.paged_desks.specs.row_words.declared.given.Given.{Given}
+use Rattle.paged_desks.specs.rows_trait.declared.view.View.{View}
+use Rattle.paged_desks.specs.rows_trait.Views.{Shape, first_plain, state}
+use Rattle.paged_desks.specs.call_parts.Memory.{Memory}
+use Rattle.paged_desks.specs.page_calls.Mirrors.{IsMirror}
+use Rattle.paged_desks.specs.page_calls.Slots.{opened_slot}
+use Rattle.paged_desks.specs.page_calls.declared.slots.Slot.{Slot}
+use Rattle.paged_desks.specs.page_provider.Providers.{Provider}
+use Rattle.paged_desks.specs.paged_rows.Paged.{IsFedIfFaithful}
 use Rattle.recovery.specs.Opened.{IsUntouched, Keeps}
 use Rattle.recovery.specs.Own.{EveryOwn}
 use Rattle.recovery.specs.Telling.{TellsAll}
 use Rattle.recovery.specs.declared.opening.Recovered.{Recovered}
 use Rattle.run_opening.proofs.StartLemmas.{every_start}
-use Rattle.session_desks.specs.Desks.{desk_of, log_of}
-use Rattle.session_desks.specs.Machines.{AreDesks, IsDesk, IsLogged, IsMachine}
-use Rattle.session_desks.specs.Syncs.{HasOpening}
-use Rattle.session_desks.specs.declared.desk.Desk.{Desk}
-use Rattle.session_state.specs.Holds.{Holds}
-use Rattle.session_state.specs.Opened.{IsFirst, plain_shape}
-use Rattle.session_state.specs.Ties.{Behind, Ties}
-use Rattle.session_state.specs.Undo.{HasHand}
-use Rattle.session_state.specs.declared.session.Session.{Session}
-use Rattle.disk_runs.specs.worker_log.Logs.{Log}
+use Rattle.paged_desks.specs.session_desks.Desks.{desk_of, log_of}
+use Rattle.paged_desks.specs.session_desks.Machines.{AreDesks, IsDesk, IsLogged, IsMachine}
+use Rattle.paged_desks.specs.session_desks.Syncs.{HasOpening}
+use Rattle.paged_desks.specs.session_desks.declared.desk.Desk.{Desk}
+use Rattle.paged_desks.specs.session_state.Holds.{Holds}
+use Rattle.paged_desks.specs.session_state.Opened.{IsFirst, plain_shape}
+use Rattle.paged_desks.specs.session_state.Ties.{Behind, Ties}
+use Rattle.paged_desks.specs.session_state.Undo.{HasHand}
+use Rattle.paged_desks.specs.session_state.declared.session.Session.{Session}
+use Rattle.paged_desks.specs.worker_log.Logs.{Log}
 use Rattle.paged_opening.specs.Opened as paging
 use Rattle.paged_opening.specs.Opened.{given_by}
 use Rattle.paged_opening.specs.declared.opening.Opened as paged

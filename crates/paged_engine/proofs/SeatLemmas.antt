@@ -2,12 +2,12 @@
 use Rattle.std.proofs.Common.{◌≡◌, ◌≤◌, ◌<◌, ◌-◌, ◌==◌, ℕ, Bool, List, get_or, cond, refl, sym, subst, inl, inr, arith}
 use Rattle.std.proofs.lemmas.Bool.{cases_eq, ne_eqb}
 use Rattle.std.proofs.lemmas.Option.{slice_get-get_or}
-use Rattle.disk_runs.specs.disk_slots.declared.master.Master.{Master}
-use Rattle.session_state.specs.declared.session.Session.{Session}
-use Rattle.disk_runs.specs.worker_log.Logs.{Log}
-use Rattle.session_desks.specs.Desks.{desk_of, place_of}
+use Rattle.paged_desks.specs.disk_slots.declared.master.Master.{Master}
+use Rattle.paged_desks.specs.session_state.declared.session.Session.{Session}
+use Rattle.paged_desks.specs.worker_log.Logs.{Log}
+use Rattle.paged_desks.specs.session_desks.Desks.{desk_of, place_of}
 use Rattle.paged_engine.specs.Openings.{AreFurther, IsFurther}
-use Rattle.session_desks.specs.declared.desk.Desk.{Desk}
+use Rattle.paged_desks.specs.session_desks.declared.desk.Desk.{Desk}
 
 module _ (n : Master) (x : Session) (own : x.own ≡ 1) (log : Log) (desks : List Desk) (further : AreFurther n x desks) where
   abbrev first : Desk

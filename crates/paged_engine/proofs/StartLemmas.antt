@@ -6,33 +6,33 @@ use Rattle.map_model.specs.Lists.{Has}
 use Rattle.page_model.specs.Nodes.{Node}
 use Rattle.page_model.specs.Page.{Page}
 use Rattle.rfa_model.proofs.ReachLemmas.{least_from}
-use Rattle.btree_descent.specs.core_state.Needs.{holds_row, is_worker}
-use Rattle.btree_descent.specs.core_state.Openings.{Opening, start_page}
-use Rattle.btree_descent.specs.core_state.States.{State, flushed_by_all, nodes_of, start}
-use Rattle.core_calls.specs.LogEvents.{behind}
-use Rattle.core_calls.specs.Room.{frees_from}
-use Rattle.core_numbers.specs.Numbers.{AreUpTo}
-use Rattle.row_numbers.specs.Views.{EveryBegun}
-use Rattle.btree_descent.specs.row_words.declared.given.Given.{Given}
-use Rattle.btree_descent.specs.row_words.Moments.{format_of}
-use Rattle.btree_descent.specs.row_words.Openings.{opening}
-use Rattle.btree_descent.specs.rows_trait.Views.{Shape, first_plain, state}
-use Rattle.row_opening.specs.Opened.{contents_of, page_at, pages_of}
-use Rattle.row_opening.specs.Openings.{EveryOpened, EveryReached, Opens}
-use Rattle.row_opening.specs.Rooted.{IsRooted, rooted_of}
-use Rattle.btree_descent.specs.Known as descent
-use Rattle.key_locks.specs.Rows as locking
-use Rattle.key_locks.specs.Rows.{IsWorker}
-use Rattle.key_locks.specs.Soundness.{EverySound, unbegun}
-use Rattle.disk_runs.specs.worker_log.Logs.{Log}
-use Rattle.session_state.specs.Free.{nodes_in}
-use Rattle.session_state.specs.Holds.{AreNumbers, AreRows, Holds, IsOf}
-use Rattle.session_state.specs.Numbers.{AreNumbered}
-use Rattle.session_state.specs.Opened.{IsFirst, plain_shape}
-use Rattle.session_state.specs.Ties.{Behind, Ties}
-use Rattle.session_state.specs.Undo.{HasHand}
-use Rattle.session_state.specs.declared.session.Session.{Session}
-use Rattle.session_state.proofs.EntryNumbers.{entries_clocked}
+use Rattle.paged_desks.specs.core_state.Needs.{holds_row, is_worker}
+use Rattle.paged_desks.specs.core_state.Openings.{Opening, start_page}
+use Rattle.paged_desks.specs.core_state.States.{State, flushed_by_all, nodes_of, start}
+use Rattle.paged_desks.specs.core_calls.LogEvents.{behind}
+use Rattle.paged_desks.specs.core_calls.Room.{frees_from}
+use Rattle.paged_desks.specs.core_numbers.Numbers.{AreUpTo}
+use Rattle.paged_desks.specs.row_numbers.Views.{EveryBegun}
+use Rattle.paged_desks.specs.row_words.declared.given.Given.{Given}
+use Rattle.paged_desks.specs.row_words.Moments.{format_of}
+use Rattle.paged_desks.specs.row_words.Openings.{opening}
+use Rattle.paged_desks.specs.rows_trait.Views.{Shape, first_plain, state}
+use Rattle.paged_desks.specs.row_opening.Opened.{contents_of, page_at, pages_of}
+use Rattle.paged_desks.specs.row_opening.Openings.{EveryOpened, EveryReached, Opens}
+use Rattle.paged_desks.specs.row_opening.Rooted.{IsRooted, rooted_of}
+use Rattle.paged_desks.specs.btree_descent.Known as descent
+use Rattle.paged_desks.specs.key_locks.Rows as locking
+use Rattle.paged_desks.specs.key_locks.Rows.{IsWorker}
+use Rattle.paged_desks.specs.key_locks.Soundness.{EverySound, unbegun}
+use Rattle.paged_desks.specs.worker_log.Logs.{Log}
+use Rattle.paged_desks.specs.session_state.Free.{nodes_in}
+use Rattle.paged_desks.specs.session_state.Holds.{AreNumbers, AreRows, Holds, IsOf}
+use Rattle.paged_desks.specs.session_state.Numbers.{AreNumbered}
+use Rattle.paged_desks.specs.session_state.Opened.{IsFirst, plain_shape}
+use Rattle.paged_desks.specs.session_state.Ties.{Behind, Ties}
+use Rattle.paged_desks.specs.session_state.Undo.{HasHand}
+use Rattle.paged_desks.specs.session_state.declared.session.Session.{Session}
+use Rattle.paged_desks.proofs.session_state.EntryNumbers.{entries_clocked}
 use Rattle.paged_opening.proofs.BeginLemmas.{pages_long}
 
 -- ## Rows

@@ -1,8 +1,8 @@
 -- Words of private functions.
 use Rattle.std.specs.Prelude.{◌≡◌, ℕ, false, List, length, replicate}
-use Rattle.disk_runs.specs.disk_slots.declared.master.Master.{Master}
-use Rattle.session_state.specs.Opened.{IsFirst}
-use Rattle.session_state.specs.declared.session.Session.{Session}
+use Rattle.paged_desks.specs.disk_slots.declared.master.Master.{Master}
+use Rattle.paged_desks.specs.session_state.Opened.{IsFirst}
+use Rattle.paged_desks.specs.session_state.declared.session.Session.{Session}
 use Rattle.paged_engine.specs.Openings.{AreFurther, IsMadeBy}
 use Rattle.paged_engine.specs.declared.opening.Size.{Size}
 use Rattle.paged_engine.specs.declared.seats.Seats.{Seats}

@@ -1,15 +1,15 @@
 -- What the opening of a disk gives to a machine whose pages need not all be in memory.
 use Rattle.std.specs.Prelude.{◌≡◌, ◌≤◌, ◌<◌, ◌%◌, ◌+◌, ℕ, suc, true, false, List, [], length, slice_get, Some}
 use Rattle.page_model.specs.Limits.{most_sessions}
-use Rattle.btree_descent.specs.image_model.Images.{lost_by, map_of, won_by}
-use Rattle.call_parts.specs.Memory.{IsOf, Memory}
-use Rattle.btree_descent.specs.core_state.Openings.{Opening, first_map}
-use Rattle.btree_descent.specs.core_state.States.{start}
-use Rattle.disk_runs.specs.disk_image.Breaks.{IsDamaged}
-use Rattle.disk_runs.specs.disk_image.Shown.{IsCleanDisk, IsSoundDisk, image_by}
-use Rattle.disk_runs.specs.Fair.{IsAsRead}
-use Rattle.disk_runs.specs.Stands.{Known, Stands}
-use Rattle.disk_runs.specs.disk_slots.declared.master.Master.{Master}
+use Rattle.paged_desks.specs.image_model.Images.{lost_by, map_of, won_by}
+use Rattle.paged_desks.specs.call_parts.Memory.{IsOf, Memory}
+use Rattle.paged_desks.specs.core_state.Openings.{Opening, first_map}
+use Rattle.paged_desks.specs.core_state.States.{start}
+use Rattle.paged_desks.specs.disk_image.Breaks.{IsDamaged}
+use Rattle.paged_desks.specs.disk_image.Shown.{IsCleanDisk, IsSoundDisk, image_by}
+use Rattle.paged_desks.specs.disk_runs.Fair.{IsAsRead}
+use Rattle.paged_desks.specs.disk_runs.Stands.{Known, Stands}
+use Rattle.paged_desks.specs.disk_slots.declared.master.Master.{Master}
 use Rattle.lean_disk.specs.Area.{Area}
 use Rattle.lean_disk.specs.Moments.{LeavesOnly}
 use Rattle.lean_disk.specs.Story.{Crash, Story, areas_of}
@@ -25,15 +25,15 @@ use Rattle.recovery.specs.declared.opening.Recovered.{Recovered}
 use Rattle.recovery.specs.declared.opening.Unrecovered.{Unrecovered}
 use Rattle.recovery.specs.declared.opening.Unrecovered.TheVariants as why
 use Rattle.run_opening.specs.Starts.{empty_log}
-use Rattle.session_desks.specs.Desks.{desk_of}
-use Rattle.session_desks.specs.Machines.{IsLogged}
-use Rattle.session_desks.specs.Parts.{here}
-use Rattle.session_desks.specs.declared.desk.Desk.{Desk}
-use Rattle.session_state.specs.Opened.{IsFirst}
-use Rattle.session_state.specs.Ties.{Behind, Ties}
-use Rattle.session_state.specs.declared.session.Session.{Session}
-use Rattle.disk_runs.specs.worker_log.Kept.{IsFresh, IsInRange, IsKept, fresh_account}
-use Rattle.disk_runs.specs.worker_log.Logs.{Log}
+use Rattle.paged_desks.specs.session_desks.Desks.{desk_of}
+use Rattle.paged_desks.specs.session_desks.Machines.{IsLogged}
+use Rattle.paged_desks.specs.session_desks.Parts.{here}
+use Rattle.paged_desks.specs.session_desks.declared.desk.Desk.{Desk}
+use Rattle.paged_desks.specs.session_state.Opened.{IsFirst}
+use Rattle.paged_desks.specs.session_state.Ties.{Behind, Ties}
+use Rattle.paged_desks.specs.session_state.declared.session.Session.{Session}
+use Rattle.paged_desks.specs.worker_log.Kept.{IsFresh, IsInRange, IsKept, fresh_account}
+use Rattle.paged_desks.specs.worker_log.Logs.{Log}
 use Rattle.paged_engine.specs.declared.opening.Size.{Size}
 
 -- ## Sessions and logs

@@ -8,12 +8,9 @@ ghost use Rattle.paged_desks.specs.Machines.{IsReady};
 ghost use Rattle.paged_engine.specs.Openings.{HasOpened, OpenKeeps, Shows};
 
 use crate::seats::{Seats, seat_sessions};
-use btree_descent::image_model;
 use lean_disk::Disk;
-use paged_desks::PagedMachine;
+use paged_desks::{Desk, PagedMachine, SessionDesksMachine as Machine, Staged, Work};
 use recovery::Unrecovered;
-use session_desks::{Desk, Machine};
-use session_state::{Staged, Work};
 use std::alloc::Global;
 use std::marker::Brand;
 
@@ -56,12 +53,12 @@ pub fn open<D: Disk>(alloc: Global, mut disk: D, size: Size) -> Result<Opened<D>
     ensures cause_disk_fault { IfErr result (λ u. HasCause (D.faults disk) (D.faults u.disk) (u.reason ≡ Unrecovered.DiskFault)) }
     ensures no_fault { IfOk result (λ o. D.faults o.machine.machine.work.disk ≡ D.faults disk) }
 {
-    image_model::every_undone();
+    paged_desks::every_undone();
     recovery::every_own();
-    row_opening::every_opened();
-    row_opening::every_reached();
-    key_locks::every_sound();
-    row_numbers::every_begun();
+    paged_desks::every_opened();
+    paged_desks::every_reached();
+    paged_desks::every_sound();
+    paged_desks::every_begun();
     let opened = match paged_opening::open(
         alloc,
         &mut disk,
@@ -72,7 +69,7 @@ pub fn open<D: Disk>(alloc: Global, mut disk: D, size: Size) -> Result<Opened<D>
         Ok(opened) => opened,
         Err(reason) => return Err(Unopened { disk, reason }),
     };
-    disk_runs::every_opened(&disk);
+    paged_desks::disk_runs_every_opened(&disk);
     let paged_opening::Opened {
         rows,
         seat,

@@ -1,17 +1,15 @@
 // The sessions of a machine that is opened, each with its empty log.
 ghost use Rattle.std.specs.Prelude.{◌≡◌, ◌≤◌, [], IfOk};
 ghost use Rattle.page_model.specs.Limits.{most_sessions};
-ghost use Rattle.disk_runs.specs.master_store.Masters.{IsOfSlot};
+ghost use Rattle.paged_desks.specs.master_store.Masters.{IsOfSlot};
 ghost use Rattle.paged_engine.specs.Openings.{AreFurther, IsFurther, IsMadeBy};
 ghost use Rattle.paged_engine.specs.Inside.{HasSeats, IsFirstOf};
 
 use crate::opening::Size;
-use disk_runs::disk_slots::Master;
-use disk_runs::worker_log::WorkerLog;
-use flush_avoidance::Clock;
-use key_locks::latches::Latches;
-use session_desks::Desk;
-use session_state::{FreePages, HeldRows, Session, UndoList, further_session};
+use paged_desks::{
+    Clock, Desk, FreePages, HeldRows, Latches, Master, Session, UndoList, WorkerLog,
+    further_session,
+};
 use std::alloc::{AllocError, Global};
 
 /// The first session with its log, those at the other desks, and the marks of latched lock rows.

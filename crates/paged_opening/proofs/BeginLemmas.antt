@@ -1,23 +1,23 @@
 -- Rows of which the root alone is in a frame are those that a new pager begins with.
 use Rattle.std.proofs.Common.{◌≡◌, ◌<◌, ◌≤◌, ◌-◌, ℕ, zero, suc, Bool, ltb, List, [], ◌∷◌, length, map, not, refl, sym, ap, ◌∙◌, subst, arith}
 use Rattle.page_model.specs.Page.{Page}
-use Rattle.btree_descent.specs.row_words.Openings.{opening}
-use Rattle.btree_descent.specs.row_words.declared.given.Given.{Given}
-use Rattle.btree_descent.specs.rows_trait.Plain.{sizes}
-use Rattle.btree_descent.specs.rows_trait.Rule.{IsPicture, plan}
-use Rattle.btree_descent.specs.rows_trait.Views.{first_plain}
-use Rattle.btree_descent.specs.rows_trait.declared.view.View.{View}
-use Rattle.btree_descent.specs.Known.{IsSound}
-use Rattle.row_opening.specs.Opened.{ArePages, pages_of}
-use Rattle.row_opening.specs.Openings.{EveryOpened}
-use Rattle.row_opening.specs.Rooted.{IsRooted, rooted_of}
+use Rattle.session_state.specs.row_words.Openings.{opening}
+use Rattle.session_state.specs.row_words.declared.given.Given.{Given}
+use Rattle.session_state.specs.rows_trait.Plain.{sizes}
+use Rattle.session_state.specs.rows_trait.Rule.{IsPicture, plan}
+use Rattle.session_state.specs.rows_trait.Views.{first_plain}
+use Rattle.session_state.specs.rows_trait.declared.view.View.{View}
+use Rattle.session_state.specs.btree_descent.Known.{IsSound}
+use Rattle.session_state.specs.row_opening.Opened.{ArePages, pages_of}
+use Rattle.session_state.specs.row_opening.Openings.{EveryOpened}
+use Rattle.session_state.specs.row_opening.Rooted.{IsRooted, rooted_of}
 use Rattle.page_calls.specs.Slots.{opened_slot}
 use Rattle.page_calls.specs.declared.slots.Slot.{Slot}
 use Rattle.page_model.specs.Tree.{IsTree}
-use Rattle.btree_descent.specs.core_state.States.{is_cold}
-use Rattle.btree_descent.specs.row_words.Moments.{format_of}
-use Rattle.btree_descent.specs.row_words.Sealed.{begun}
-use Rattle.row_opening.specs.Opened.{page_at}
+use Rattle.session_state.specs.core_state.States.{is_cold}
+use Rattle.session_state.specs.row_words.Moments.{format_of}
+use Rattle.session_state.specs.row_words.Sealed.{begun}
+use Rattle.session_state.specs.row_opening.Opened.{page_at}
 use Rattle.std.proofs.lemmas.Bool.{and_from, lt-ltb}
 use Rattle.cold_pages.specs.declared.kept.Kept.{Kept}
 use Rattle.cold_pages.specs.Laws.{EveryKept, EveryNew, contents}

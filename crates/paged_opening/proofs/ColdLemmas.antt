@@ -2,7 +2,7 @@
 use Rattle.std.proofs.Common.{◌≡◌, ◌≢◌, ◌≤◌, ◌<◌, ◌+◌, ◌⊎◌, ◌&&◌, ℕ, zero, suc, Bool, true, false, ltb, List, [], ◌∷◌, length, replicate, set, Some, inl, inr, refl, sym, ap, ◌∙◌, subst, arith}
 use Rattle.std.proofs.lemmas.Bool.{and_from, cases_lt, le-ltb, lt-ltb}
 use Rattle.std.proofs.lemmas.List.{length-replicate, length-set}
-use Rattle.btree_descent.specs.image_model.Entries.{Contents}
+use Rattle.session_state.specs.image_model.Entries.{Contents}
 use Rattle.page_model.specs.Nodes.{Format}
 use Rattle.page_model.specs.Page.{Page}
 use Rattle.page_model.specs.Tree.{IsTree}
@@ -10,7 +10,7 @@ use Rattle.cold_pages.specs.declared.kept.Kept.{Kept}
 use Rattle.cold_pages.specs.Kept.{AreWithin, children, kept_of, left, nothing, own}
 use Rattle.cold_pages.specs.Laws.{EveryKept, EveryNew, IsButEntries, IsRight, contents}
 use Rattle.cold_pages.proofs.TableLemmas.{length-named}
-use Rattle.row_opening.specs.Opened.{page_at}
+use Rattle.session_state.specs.row_opening.Opened.{page_at}
 use Rattle.paged_opening.specs.Opened.{cold_of, cold_to}
 
 pub cold_length : (pages : List Page) (n : ℕ) → length (cold_to pages n) ≡ length pages

@@ -3,7 +3,7 @@ use Rattle.std.proofs.Common.{◌≡◌, ◌<◌, ◌+◌, ℕ, zero, suc, Bool,
 use Rattle.std.proofs.lemmas.List.{length-replicate}
 use Rattle.std.proofs.lemmas.Option.{none-some, same_Some}
 use Rattle.page_model.specs.Page.{Page}
-use Rattle.row_opening.specs.Opened.{page_at}
+use Rattle.session_state.specs.row_opening.Opened.{page_at}
 use Rattle.paged_opening.specs.Opened.{free_of}
 
 -- the marks of the first n pages are set, and no other

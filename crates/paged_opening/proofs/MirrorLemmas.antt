@@ -5,19 +5,19 @@ use Rattle.page_model.specs.Nodes.{free}
 use Rattle.page_model.specs.Page.{Page, new_page}
 use Rattle.lean_disk.specs.Area.{Area, IsApart}
 use Rattle.lean_disk.specs.Story.{Story, Tells}
-use Rattle.page_store.specs.disk_image.PageSlots.{page_in}
-use Rattle.btree_descent.specs.row_words.declared.given.Given.{Given}
-use Rattle.btree_descent.specs.rows_trait.Views.{first_plain, state}
-use Rattle.btree_descent.specs.rows_trait.declared.view.View.{View}
-use Rattle.page_store.specs.Bases.{image_page}
-use Rattle.page_store.specs.Laws.{EveryWhole}
-use Rattle.page_store.specs.Saved.{Reaches, place_of}
-use Rattle.page_store.specs.Slots.{slot_bytes}
+use Rattle.session_state.specs.disk_image.PageSlots.{page_in}
+use Rattle.session_state.specs.row_words.declared.given.Given.{Given}
+use Rattle.session_state.specs.rows_trait.Views.{first_plain, state}
+use Rattle.session_state.specs.rows_trait.declared.view.View.{View}
+use Rattle.session_state.specs.page_store.Bases.{image_page}
+use Rattle.session_state.specs.page_store.Laws.{EveryWhole}
+use Rattle.session_state.specs.page_store.Saved.{Reaches, place_of}
+use Rattle.session_state.specs.page_store.Slots.{slot_bytes}
 use Rattle.page_calls.specs.declared.slots.Slot.{Slot}
 use Rattle.page_calls.specs.Slots.{last_slot, opened_slot}
 use Rattle.page_calls.specs.Mirrors.{IsMirror, IsOnDisk, Mirrors}
 use Rattle.page_provider.specs.Providers.{Provider}
-use Rattle.row_opening.specs.Rooted.{IsRooted}
+use Rattle.session_state.specs.row_opening.Rooted.{IsRooted}
 use Rattle.recovery.specs.Opened.{Counts, HasSlots, IsSettled, IsWhole}
 use Rattle.recovery.specs.declared.opening.Recovered.{Recovered}
 use Rattle.paged_opening.specs.Opened.{HasOpened, given_by}

@@ -4,11 +4,11 @@ use Rattle.std.proofs.lemmas.Option.{slice_get_cases}
 use Rattle.page_model.specs.Nodes.{Node}
 use Rattle.page_model.specs.Page.{Page}
 use Rattle.page_model.specs.Tree.{IsTree}
-use Rattle.page_store.specs.disk_image.Formats.{format_of}
+use Rattle.session_state.specs.disk_image.Formats.{format_of}
 use Rattle.node_tree.specs.Nodes.{node_or, nodes_of}
 use Rattle.recovery.specs.Opened.{IsWhole}
 use Rattle.recovery.specs.declared.opening.Recovered.{Recovered}
-use Rattle.row_opening.specs.Opened.{ArePages, page_at, page_or}
+use Rattle.session_state.specs.row_opening.Opened.{ArePages, page_at, page_or}
 
 -- each page is there
 at : (pages : List Page) (p : ℕ) → p < length pages → (v : Page) × (slice_get pages p ≡ Some v)

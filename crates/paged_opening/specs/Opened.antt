@@ -2,20 +2,20 @@
 -- pager that brings the other pages in.
 use Rattle.std.specs.Prelude.{◌≡◌, ◌<◌, ◌≤◌, ◌+◌, ◌^◌, ℕ, zero, suc, Bool, true, false, not, List, length, map, replicate, Some}
 use Rattle.page_model.specs.Page.{Page}
-use Rattle.core_calls.specs.Room.{frees_from}
+use Rattle.session_state.specs.core_calls.Room.{frees_from}
 use Rattle.lean_disk.specs.Story.{Story, Tells, areas_of}
-use Rattle.page_store.specs.disk_slots.declared.master.Master.{Master}
-use Rattle.page_store.specs.disk_image.MasterSlots.{master_on}
-use Rattle.page_store.specs.disk_image.Shown.{IsCleanDisk}
-use Rattle.btree_descent.specs.row_words.declared.given.Given.{Given}
-use Rattle.btree_descent.specs.rows_trait.Plain.{sizes}
-use Rattle.btree_descent.specs.rows_trait.Rule.{IsPicture, plan}
-use Rattle.btree_descent.specs.rows_trait.Views.{Shape, first_plain, no_place}
-use Rattle.btree_descent.specs.rows_trait.declared.plain.PlainRows.{PlainRows}
-use Rattle.row_opening.specs.Rooted.{IsRooted, rooted_of}
+use Rattle.session_state.specs.disk_slots.declared.master.Master.{Master}
+use Rattle.session_state.specs.disk_image.MasterSlots.{master_on}
+use Rattle.session_state.specs.disk_image.Shown.{IsCleanDisk}
+use Rattle.session_state.specs.row_words.declared.given.Given.{Given}
+use Rattle.session_state.specs.rows_trait.Plain.{sizes}
+use Rattle.session_state.specs.rows_trait.Rule.{IsPicture, plan}
+use Rattle.session_state.specs.rows_trait.Views.{Shape, first_plain, no_place}
+use Rattle.session_state.specs.rows_trait.declared.plain.PlainRows.{PlainRows}
+use Rattle.session_state.specs.row_opening.Rooted.{IsRooted, rooted_of}
 use Rattle.cold_pages.specs.declared.kept.Kept.{Kept}
 use Rattle.cold_pages.specs.Kept.{left, nothing}
-use Rattle.row_opening.specs.Opened.{page_at}
+use Rattle.session_state.specs.row_opening.Opened.{page_at}
 use Rattle.page_calls.specs.Slots.{opened_slot}
 use Rattle.page_provider.specs.Fresh.{fresh}
 use Rattle.page_provider.specs.Providers.{Keeps}

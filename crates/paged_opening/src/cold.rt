@@ -1,11 +1,11 @@
 // What memory keeps of the pages that are in no frame as the rows begin.
 ghost use Rattle.std.specs.Prelude.{◌≡◌, ◌<◌, ◌^◌, ℕ, length, IfOk};
 ghost use Rattle.cold_pages.specs.Kept.{AreWithin};
-ghost use Rattle.row_opening.specs.Opened.{page_at};
+ghost use Rattle.session_state.specs.row_opening.Opened.{page_at};
 ghost use Rattle.paged_opening.specs.Opened.{cold_of};
 
-use btree_descent::btree_node::Node;
 use cold_pages::ColdPages;
+use session_state::Node;
 use std::alloc::{AllocError, Global};
 
 /// What is kept of each page but page 0, which stands in a frame. The one error is that memory is refused.

@@ -2,8 +2,8 @@
 ghost use Rattle.std.specs.Prelude.{◌≡◌, ◌<◌, ◌^◌, length, IfOk};
 ghost use Rattle.paged_opening.specs.Opened.{free_of};
 
-use btree_descent::btree_node::Node;
 use free_pages::FreePages;
+use session_state::Node;
 use std::alloc::{AllocError, Global};
 
 /// The pages that are not live. The one error is that memory is refused.

@@ -3,10 +3,10 @@ ghost use Rattle.std.specs.Prelude.{◌≡◌, ◌<◌, ◌≤◌, ◌+◌, ◌^
 ghost use Rattle.lean_disk.specs.Faults.{HasCause};
 ghost use Rattle.lean_disk.specs.Moments.{LeavesOnly};
 ghost use Rattle.lean_disk.specs.Story.{Tells, areas_of};
-ghost use Rattle.page_store.specs.disk_slots.declared.master.Master.{Master};
-ghost use Rattle.page_store.specs.disk_image.Breaks.{IsDamaged};
-ghost use Rattle.page_store.specs.disk_image.Shown.{IsCleanDisk};
-ghost use Rattle.btree_descent.specs.rows_trait.Views.{state};
+ghost use Rattle.session_state.specs.disk_slots.declared.master.Master.{Master};
+ghost use Rattle.session_state.specs.disk_image.Breaks.{IsDamaged};
+ghost use Rattle.session_state.specs.disk_image.Shown.{IsCleanDisk};
+ghost use Rattle.session_state.specs.rows_trait.Views.{state};
 ghost use Rattle.page_calls.specs.Mirrors.{IsMirror};
 ghost use Rattle.recovery.specs.Crashes.{RecoveryLeaves};
 ghost use Rattle.recovery.specs.Masters.{HasOpenable};
@@ -18,15 +18,11 @@ ghost use Rattle.paged_opening.specs.Opened.{HasOpened, IsPaged};
 use crate::cold::cold_pages_of;
 use crate::free::free_pages_of;
 use crate::pages::are_pages;
-use btree_descent::rows_trait::plain::PlainRows;
-use btree_descent::rows_trait::trace::Trace;
 use lean_disk::Disk;
 use page_calls::Slots;
 use page_provider::Pager;
-use page_store::disk_slots::Master;
 use recovery::{Recovered, Unrecovered, recover};
-use row_opening::{Faith, open_root};
-use session_state::FreePages;
+use session_state::{Faith, FreePages, Master, PlainRows, Trace, open_root};
 use std::alloc::{AllocError, Global};
 use std::marker::Brand;
 
@@ -57,7 +53,7 @@ fn page_in<D: Disk, F: Faith>(
     requires few { frames + locks + length recovered.master.heads < 2 ^ 32 }
     ensures { IfOk result (IsPaged F.faithful frames locks recovered) }
 {
-    row_opening::every_opened();
+    session_state::every_opened();
     page_provider::every_fresh();
     cold_pages::every_new();
     cold_pages::every_kept();
@@ -125,7 +121,7 @@ pub fn open<D: Disk>(
     // Whenever it stops, a clean disk stands for the same map.
     ensures any_moment { (m : Master) → TellsAll sessions (D.story disk.old) → IsCleanDisk m (areas_of (D.story disk.old)) → LeavesOnly (D.story disk.old) (D.story disk.new) (RecoveryLeaves m (D.story disk.old)) }
 {
-    page_store::every_whole();
+    session_state::every_whole();
     let recovered = match recover(alloc, disk, sessions) {
         Ok(recovered) => recovered,
         Err(reason) => return Err(reason),

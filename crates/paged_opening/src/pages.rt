@@ -1,6 +1,6 @@
 // Rows may begin with the pages that recovery gives.
 ghost use Rattle.recovery.specs.Opened.{IsWhole};
-ghost use Rattle.row_opening.specs.Opened.{ArePages};
+ghost use Rattle.session_state.specs.row_opening.Opened.{ArePages};
 
 use recovery::Recovered;
 

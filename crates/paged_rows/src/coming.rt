@@ -9,9 +9,8 @@ ghost use Rattle.paged_rows.specs.Paged.{IsFedIfFaithful, IsPaged, paged};
 ghost use Rattle.paged_rows.specs.Warms.{IsRefusedTo, LostTo, ReadsUnlessSaved, Warms};
 ghost use Rattle.paged_rows.specs.declared.wanted.Wanted.TheVariants as want;
 
-use btree_descent::lean_proto::path::Path;
 use btree_descent::reach::{Way, reach};
-use btree_descent::rows_trait::rows::Rows;
+use btree_descent::{Path, Rows};
 use lean_disk::Part;
 use page_provider::{Pager, Refusal};
 

@@ -10,7 +10,7 @@ ghost use Rattle.paged_rows.specs.Warms.{Brings, CanBring, IsRefusedTo, LostTo, 
 
 use crate::coming::bring;
 use crate::joining::bring_free;
-use btree_descent::rows_trait::rows::Rows;
+use btree_descent::Rows;
 use lean_disk::Part;
 use page_provider::{Pager, Refusal};
 

@@ -1,9 +1,9 @@
 -- How many pages have a fence above a key.
 use Rattle.std.proofs.Common.{◌≡◌, ◌<◌, ◌≤◌, ltb, ℕ, zero, suc, Bool, true, false, cond, inl, inr, refl, sym, ap, ◌∙◌, arith, true≢false}
 use Rattle.std.proofs.lemmas.Bool.{cases_eq, lt-ltb, ltb-true}
-use Rattle.rows_trait.specs.core_state.Lists.{count_below}
-use Rattle.rows_trait.specs.core_state.Openings.{Opening}
-use Rattle.rows_trait.specs.core_state.States.{State}
+use Rattle.paged_calls.specs.core_state.Lists.{count_below}
+use Rattle.paged_calls.specs.core_state.Openings.{Opening}
+use Rattle.paged_calls.specs.core_state.States.{State}
 use Rattle.paged_scans.specs.Steps.{pages_above}
 
 -- ## Counts

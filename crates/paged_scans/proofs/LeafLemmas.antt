@@ -2,36 +2,36 @@
 use Rattle.std.proofs.Common.{◌≡◌, ◌∙◌, ◌≤◌, ◌<◌, ◌^◌, ◌++◌, ◌&&◌, ◌==◌, ltb, leb, ℕ, suc, Bool, true, false, cond, List, [], ◌∷◌, map, length, refl, sym, ap, subst, arith, true≢false}
 use Rattle.std.proofs.lemmas.Bool.{and_parts, eqb-true, ltb-true}
 use Rattle.map_model.specs.Maps.{MapAnswer}
-use Rattle.core_calls.specs.Scans.{rows_met}
-use Rattle.core_index.specs.Walks.{met_keys}
-use Rattle.disk_runs.specs.core_paging.Paging.{Residence}
-use Rattle.rows_trait.specs.core_state.Events as happening
-use Rattle.rows_trait.specs.core_state.Lists.{count_below}
-use Rattle.rows_trait.specs.core_state.Needs.{are_hot, following, holds_answer, is_following, is_leaf_of, may, needs, pages_of}
-use Rattle.rows_trait.specs.core_state.Openings.{Opening}
-use Rattle.rows_trait.specs.core_state.States.{State, is_hot}
-use Rattle.rows_trait.specs.core_state.Steps.{AllMet, happens, run, step}
-use Rattle.rows_trait.specs.image_model.Entries.{Contents}
+use Rattle.paged_calls.specs.core_calls.Scans.{rows_met}
+use Rattle.paged_calls.specs.core_index.Walks.{met_keys}
+use Rattle.paged_calls.specs.core_paging.Paging.{Residence}
+use Rattle.paged_calls.specs.core_state.Events as happening
+use Rattle.paged_calls.specs.core_state.Lists.{count_below}
+use Rattle.paged_calls.specs.core_state.Needs.{are_hot, following, holds_answer, is_following, is_leaf_of, may, needs, pages_of}
+use Rattle.paged_calls.specs.core_state.Openings.{Opening}
+use Rattle.paged_calls.specs.core_state.States.{State, is_hot}
+use Rattle.paged_calls.specs.core_state.Steps.{AllMet, happens, run, step}
+use Rattle.paged_calls.specs.image_model.Entries.{Contents}
 use Rattle.lean_disk.specs.Story.{Story}
 use Rattle.page_model.specs.Nodes.{Format, Node, holds}
 use Rattle.page_model.specs.Pairs.{Pair}
-use Rattle.rows_trait.specs.row_words.declared.event.Event.{Event}
-use Rattle.rows_trait.specs.row_words.declared.event.Event.TheVariants.{Next}
-use Rattle.rows_trait.specs.row_words.Moments.{Moment, events_of, met_of}
-use Rattle.rows_trait.specs.row_words.Openings.{opening}
-use Rattle.rows_trait.specs.row_words.Sealed.{begun}
-use Rattle.rows_trait.proofs.row_words_lemmas.SealedLemmas.{run_append}
-use Rattle.rows_trait.specs.declared.view.View.{View}
-use Rattle.rows_trait.specs.Views.{state}
-use Rattle.session_state.proofs.Moments.{seen_state}
-use Rattle.call_parts.proofs.RunLemmas.{run_core}
+use Rattle.paged_calls.specs.row_words.declared.event.Event.{Event}
+use Rattle.paged_calls.specs.row_words.declared.event.Event.TheVariants.{Next}
+use Rattle.paged_calls.specs.row_words.Moments.{Moment, events_of, met_of}
+use Rattle.paged_calls.specs.row_words.Openings.{opening}
+use Rattle.paged_calls.specs.row_words.Sealed.{begun}
+use Rattle.paged_calls.proofs.row_words.SealedLemmas.{run_append}
+use Rattle.paged_calls.specs.rows_trait.declared.view.View.{View}
+use Rattle.paged_calls.specs.rows_trait.Views.{state}
+use Rattle.paged_calls.proofs.session_state.Moments.{seen_state}
+use Rattle.paged_calls.proofs.call_parts.RunLemmas.{run_core}
 use Rattle.row_scans.specs.Meets.{HasMet, takes_of, told_of}
 use Rattle.row_scans.specs.declared.meets.Met.{Met}
 use Rattle.row_scans.specs.declared.meets.Met.TheVariants as met
-use Rattle.paged_desks.specs.Machines.{IsReady, view_of}
-use Rattle.paged_desks.specs.Pages.{ArePaging, hot_in}
-use Rattle.paged_desks.specs.declared.machine.PagedMachine.{PagedMachine}
-use Rattle.page_pool.specs.Counts.{hot_pages}
+use Rattle.paged_calls.specs.paged_desks.Machines.{IsReady, view_of}
+use Rattle.paged_calls.specs.paged_desks.Pages.{ArePaging, hot_in}
+use Rattle.paged_calls.specs.paged_desks.declared.machine.PagedMachine.{PagedMachine}
+use Rattle.paged_calls.specs.page_pool.Counts.{hot_pages}
 use Rattle.paged_calls.specs.Growths.{AreLike}
 use Rattle.paged_calls.proofs.EventLemmas.{paging_structure}
 use Rattle.paged_calls.proofs.LikeLemmas.{run_like}

@@ -2,7 +2,7 @@
 use Rattle.std.proofs.Common.{◌≡◌, ◌∙◌, ◌++◌, ◌==◌, ℕ, true, List, [], ◌∷◌, Result, Ok, Err, append-nil, ap, refl, sym, subst}
 use Rattle.std.proofs.lemmas.Bool.{and_from}
 use Rattle.std.proofs.lemmas.List.{append_assoc}
-use Rattle.rows_trait.specs.core_state.States.{State}
+use Rattle.paged_calls.specs.core_state.States.{State}
 use Rattle.lean_disk.specs.Story.{Story}
 use Rattle.map_model.specs.Lists.{Has, all}
 use Rattle.map_model.specs.declared.call.Refusal.TheVariants as refusal
@@ -10,21 +10,21 @@ use Rattle.row_scans.specs.Meets.{HasMet, HasTaken, IsButRows, Meets, takes_of, 
 use Rattle.row_scans.specs.declared.meets.Met.{Met}
 use Rattle.row_scans.specs.declared.meets.Unmet.{Unmet}
 use Rattle.row_scans.specs.declared.meets.Unmet.TheVariants as unmet
-use Rattle.rows_trait.specs.row_words.declared.event.Event.{Event}
-use Rattle.rows_trait.specs.row_words.declared.event.Event.TheVariants.{Next}
-use Rattle.rows_trait.specs.row_words.Openings.{opening}
-use Rattle.rows_trait.specs.declared.view.View.{View}
-use Rattle.rows_trait.specs.Views.{state}
-use Rattle.core_calls.specs.Scans.{rows_met}
-use Rattle.session_desks.specs.Parts.{SeatFits, shape}
-use Rattle.session_state.proofs.OtherLemmas.{is_own, no_steps}
-use Rattle.session_state.specs.Holds.{Holds, IsSameSession}
-use Rattle.session_state.specs.Others.{EveryOther, Steps, is_of}
-use Rattle.session_state.specs.declared.session.Session.{Session}
-use Rattle.paged_desks.specs.Calls.{IsBeside}
-use Rattle.paged_desks.specs.Machines.{IsReady, view_of}
-use Rattle.paged_desks.specs.declared.machine.PagedMachine.{PagedMachine}
-use Rattle.paged_desks.proofs.StandLemmas.{IsLook, IsLooked, looked_one, looked_same, ready_on}
+use Rattle.paged_calls.specs.row_words.declared.event.Event.{Event}
+use Rattle.paged_calls.specs.row_words.declared.event.Event.TheVariants.{Next}
+use Rattle.paged_calls.specs.row_words.Openings.{opening}
+use Rattle.paged_calls.specs.rows_trait.declared.view.View.{View}
+use Rattle.paged_calls.specs.rows_trait.Views.{state}
+use Rattle.paged_calls.specs.core_calls.Scans.{rows_met}
+use Rattle.paged_calls.specs.session_desks.Parts.{SeatFits, shape}
+use Rattle.paged_calls.proofs.session_state.OtherLemmas.{is_own, no_steps}
+use Rattle.paged_calls.specs.session_state.Holds.{Holds, IsSameSession}
+use Rattle.paged_calls.specs.session_state.Others.{EveryOther, Steps, is_of}
+use Rattle.paged_calls.specs.session_state.declared.session.Session.{Session}
+use Rattle.paged_calls.specs.paged_desks.Calls.{IsBeside}
+use Rattle.paged_calls.specs.paged_desks.Machines.{IsReady, view_of}
+use Rattle.paged_calls.specs.paged_desks.declared.machine.PagedMachine.{PagedMachine}
+use Rattle.paged_calls.proofs.paged_desks.StandLemmas.{IsLook, IsLooked, looked_one, looked_same, ready_on}
 
 -- ## Looks, one behind another
 

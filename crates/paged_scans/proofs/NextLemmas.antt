@@ -6,50 +6,50 @@ use Rattle.map_model.specs.Lists.{all, any, keep}
 use Rattle.map_model.specs.Maps.{MapAnswer}
 use Rattle.map_model.specs.declared.call.Refusal.{Refusal}
 use Rattle.map_model.specs.declared.call.Refusal.TheVariants as refusal
-use Rattle.core_calls.specs.Fronts.{Done, front}
-use Rattle.core_calls.specs.LogEvents.{IsTight, IsTightSomewhere, SyncsWhere}
-use Rattle.core_calls.specs.Scans.{TakesMet, rows_met}
-use Rattle.core_calls.specs.Steps.{Walks, is_step, is_structure}
-use Rattle.core_calls.proofs.WhereLemmas.{syncs_more, syncs_weaker}
-use Rattle.core_index.specs.Walks.{met_keys}
-use Rattle.rows_trait.specs.core_state.Steps.{run, state_after}
-use Rattle.rows_trait.proofs.core_state_lemmas.Runs.{run_more}
-use Rattle.engine_calls.specs.Parts.{behind_first}
-use Rattle.engine_calls.specs.Scans.{PassesGaps}
-use Rattle.engine_calls.proofs.MarkLemmas.{any_append}
-use Rattle.session_state.specs.Ties.{Behind}
-use Rattle.session_state.specs.declared.session.Session.{Session}
-use Rattle.session_state.proofs.Moments.{events_more}
-use Rattle.call_parts.proofs.RunLemmas.{behind_more, core_is}
-use Rattle.paged_desks.specs.Parts.{StandsNowhere}
-use Rattle.paged_desks.proofs.StandLemmas.{halves_are}
+use Rattle.paged_calls.specs.core_calls.Fronts.{Done, front}
+use Rattle.paged_calls.specs.core_calls.LogEvents.{IsTight, IsTightSomewhere, SyncsWhere}
+use Rattle.paged_calls.specs.core_calls.Scans.{TakesMet, rows_met}
+use Rattle.paged_calls.specs.core_calls.Steps.{Walks, is_step, is_structure}
+use Rattle.paged_calls.proofs.core_calls.WhereLemmas.{syncs_more, syncs_weaker}
+use Rattle.paged_calls.specs.core_index.Walks.{met_keys}
+use Rattle.paged_calls.specs.core_state.Steps.{run, state_after}
+use Rattle.paged_calls.proofs.core_state.Runs.{run_more}
+use Rattle.paged_calls.specs.engine_calls.Parts.{behind_first}
+use Rattle.paged_calls.specs.engine_calls.Scans.{PassesGaps}
+use Rattle.paged_calls.proofs.engine_calls.MarkLemmas.{any_append}
+use Rattle.paged_calls.specs.session_state.Ties.{Behind}
+use Rattle.paged_calls.specs.session_state.declared.session.Session.{Session}
+use Rattle.paged_calls.proofs.session_state.Moments.{events_more}
+use Rattle.paged_calls.proofs.call_parts.RunLemmas.{behind_more, core_is}
+use Rattle.paged_calls.specs.paged_desks.Parts.{StandsNowhere}
+use Rattle.paged_calls.proofs.paged_desks.StandLemmas.{halves_are}
 use Rattle.paged_calls.specs.Steps.{FailsWarm}
 use Rattle.paged_calls.proofs.EventLemmas.{paging_steps, paging_structure}
-use Rattle.rows_trait.specs.core_state.Events as happening
-use Rattle.rows_trait.specs.core_state.Openings.{Opening}
-use Rattle.rows_trait.specs.core_state.States.{State}
-use Rattle.disk_runs.specs.Quiet.{is_quiet}
+use Rattle.paged_calls.specs.core_state.Events as happening
+use Rattle.paged_calls.specs.core_state.Openings.{Opening}
+use Rattle.paged_calls.specs.core_state.States.{State}
+use Rattle.paged_calls.specs.disk_runs.Quiet.{is_quiet}
 use Rattle.lean_disk.specs.Story.{IsLawful, Story}
-use Rattle.rows_trait.specs.row_words.declared.event.Event.{Event}
-use Rattle.rows_trait.specs.row_words.declared.event.Event.TheVariants.{Next}
-use Rattle.rows_trait.specs.row_words.Moments.{events_of}
-use Rattle.rows_trait.specs.row_words.Openings.{opening}
-use Rattle.rows_trait.specs.Views.{state}
-use Rattle.call_parts.specs.Parts.{Part}
-use Rattle.call_parts.specs.Rooms.{AreWalk, is_paging, walks}
+use Rattle.paged_calls.specs.row_words.declared.event.Event.{Event}
+use Rattle.paged_calls.specs.row_words.declared.event.Event.TheVariants.{Next}
+use Rattle.paged_calls.specs.row_words.Moments.{events_of}
+use Rattle.paged_calls.specs.row_words.Openings.{opening}
+use Rattle.paged_calls.specs.rows_trait.Views.{state}
+use Rattle.paged_calls.specs.call_parts.Parts.{Part}
+use Rattle.paged_calls.specs.call_parts.Rooms.{AreWalk, is_paging, walks}
 use Rattle.row_scans.specs.Meets.{HasMet, HasMetConflict, takes_of, told_of, walk_of}
 use Rattle.row_scans.specs.declared.meets.Met.{Met}
 use Rattle.row_scans.specs.declared.meets.Met.TheVariants as met
-use Rattle.paged_desks.specs.Calls.{IsBeside}
-use Rattle.paged_desks.specs.Machines.{IsReady, memory, view_of}
-use Rattle.paged_desks.specs.Pages.{ArePaging, hot_in}
-use Rattle.paged_desks.specs.declared.machine.PagedMachine.{PagedMachine}
-use Rattle.paged_desks.proofs.EndingLemmas.{Grounds}
+use Rattle.paged_calls.specs.paged_desks.Calls.{IsBeside}
+use Rattle.paged_calls.specs.paged_desks.Machines.{IsReady, memory, view_of}
+use Rattle.paged_calls.specs.paged_desks.Pages.{ArePaging, hot_in}
+use Rattle.paged_calls.specs.paged_desks.declared.machine.PagedMachine.{PagedMachine}
+use Rattle.paged_calls.proofs.paged_desks.EndingLemmas.{Grounds}
 use Rattle.paged_calls.proofs.PieceLemmas.{as_beside, joins_at, none_part, steps_at}
 use Rattle.paged_calls.proofs.WarmLemmas.{beside_self}
 use Rattle.paged_calls.proofs.MadeLemmas.{core_paging, making_paging}
-use Rattle.session_desks.proofs.SeatLemmas.{holds_of}
-use Rattle.session_desks.specs.Parts.{here, shape}
+use Rattle.paged_calls.proofs.session_desks.SeatLemmas.{holds_of}
+use Rattle.paged_calls.specs.session_desks.Parts.{here, shape}
 use Rattle.paged_scans.specs.Steps.{Behinds, HasPassed, IsSpentWarm, MeetsWarm, Nexts, Then, above_in, most_a_leaf}
 use Rattle.paged_scans.proofs.LeafLemmas.{above_come, events_walk, few_walk, gap_fewer, hot_walk, walk_long}
 use Rattle.paged_scans.proofs.PassLemmas.{gap_passes, gap_walks, gaps_more, idle_steps, idle_takes, keep_more, steps_more, takes_more, walk, walk_steps, walk_structure, walk_syncs, walk_takes}

@@ -3,16 +3,16 @@ use Rattle.std.proofs.Common.{◌≡◌, ◌∙◌, ◌++◌, ◌||◌, ℕ, suc
 use Rattle.std.proofs.lemmas.List.{append_assoc}
 use Rattle.map_model.specs.Lists.{any, keep}
 use Rattle.map_model.specs.Maps.{MapAnswer}
-use Rattle.core_index.specs.Walks.{met_keys}
-use Rattle.rows_trait.specs.core_state.Events as happening
-use Rattle.rows_trait.specs.core_state.Needs.{may}
-use Rattle.rows_trait.specs.core_state.Openings.{Opening}
-use Rattle.rows_trait.specs.core_state.States.{State}
-use Rattle.rows_trait.specs.core_state.Steps.{happens, run, step}
-use Rattle.core_calls.specs.LogEvents.{SyncsWhere}
-use Rattle.core_calls.specs.Scans.{TakesMet, behind, rows_met}
-use Rattle.core_calls.specs.Steps.{Walks, is_step, is_structure}
-use Rattle.engine_calls.specs.Scans.{PassesGaps}
+use Rattle.paged_calls.specs.core_index.Walks.{met_keys}
+use Rattle.paged_calls.specs.core_state.Events as happening
+use Rattle.paged_calls.specs.core_state.Needs.{may}
+use Rattle.paged_calls.specs.core_state.Openings.{Opening}
+use Rattle.paged_calls.specs.core_state.States.{State}
+use Rattle.paged_calls.specs.core_state.Steps.{happens, run, step}
+use Rattle.paged_calls.specs.core_calls.LogEvents.{SyncsWhere}
+use Rattle.paged_calls.specs.core_calls.Scans.{TakesMet, behind, rows_met}
+use Rattle.paged_calls.specs.core_calls.Steps.{Walks, is_step, is_structure}
+use Rattle.paged_calls.specs.engine_calls.Scans.{PassesGaps}
 
 -- ## Lists of steps
 

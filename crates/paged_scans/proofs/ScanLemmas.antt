@@ -10,73 +10,73 @@ use Rattle.map_model.specs.declared.call.Call.{Call}
 use Rattle.map_model.specs.declared.call.Call.TheVariants as call
 use Rattle.map_model.specs.declared.call.Refusal.{Refusal}
 use Rattle.map_model.specs.declared.call.Refusal.TheVariants as refusal
-use Rattle.call_parts.proofs.RunLemmas.{behind_more, core_is}
-use Rattle.call_parts.specs.Areas.{is_save}
-use Rattle.call_parts.specs.Deeds.{Answers, Fails}
-use Rattle.call_parts.specs.Memory.{Memory}
-use Rattle.call_parts.specs.Parts.{Failed, Part}
-use Rattle.call_parts.specs.Rooms.{IsRoomFor, is_paging, looks, may_save, most_of, walks}
-use Rattle.core_calls.specs.Deeds.{Deed, Met, Over, Paused, Refused, Unsaid, answered, asked, marks_by, marks_for}
-use Rattle.core_calls.specs.Fronts.{Done, front, outcomes}
-use Rattle.core_calls.specs.LogEvents.{IsPressedYet, IsTight, IsTightSomewhere, SyncsWhere}
-use Rattle.core_calls.specs.Marks.{Mark, is_half}
-use Rattle.core_calls.specs.Refusals.{Hinders, IsCause}
-use Rattle.core_calls.specs.Runs.{Tells}
-use Rattle.core_calls.specs.Scans.{IsHinderedNext, IsOnWay, IsTold, IsWay, ScansRows, StopsOnWay, TakesMet, rows_met}
-use Rattle.core_calls.specs.Steps.{IsAnAbort, MayPutBack, Tries, Walks, is_step, is_structure, met_last, scan_from}
-use Rattle.core_calls.proofs.WhereLemmas.{syncs_more, syncs_weaker}
-use Rattle.core_index.specs.Walks.{met_keys}
-use Rattle.rows_trait.proofs.core_state_lemmas.Runs.{run_more}
-use Rattle.rows_trait.specs.core_state.Events as happening
-use Rattle.rows_trait.specs.core_state.Local.{is_sync}
-use Rattle.rows_trait.specs.core_state.Needs.{value_in}
-use Rattle.rows_trait.specs.core_state.Openings.{Opening}
-use Rattle.rows_trait.specs.core_state.States.{State}
-use Rattle.rows_trait.specs.core_state.Steps.{AllMet, run, state_after, step}
-use Rattle.disk_runs.specs.Quiet.{is_quiet}
-use Rattle.disk_runs.specs.Stands.{Stands}
-use Rattle.engine_calls.proofs.MarkLemmas.{any_append, either_false, fresh_none, has_mark, marks_none, no_step}
-use Rattle.engine_calls.specs.Answers.{EveryAnswer}
-use Rattle.engine_calls.specs.Clauses.{EveryComing, IsNewLine, MayCome}
-use Rattle.engine_calls.specs.Parts.{behind_first}
-use Rattle.engine_calls.specs.Puts.{IsWhole, is_alone}
-use Rattle.engine_calls.specs.Refused.{refused_by}
-use Rattle.engine_calls.specs.Scans.{IsPair, IsScan, PassesGaps, pair_behind, scanned_by, unsaid_pair}
-use Rattle.engine_trait.specs.Calls as trait_calls
-use Rattle.engine_trait.specs.Calls.{call_behind, due_call, is_half_done}
-use Rattle.engine_trait.specs.Limits.{limits}
-use Rattle.engine_trait.specs.Refusals.{IsRefusedFor, refusal_in}
-use Rattle.engine_trait.specs.Rooms.{MakesItsRoom, needs_sync}
+use Rattle.paged_calls.proofs.call_parts.RunLemmas.{behind_more, core_is}
+use Rattle.paged_calls.specs.call_parts.Areas.{is_save}
+use Rattle.paged_calls.specs.call_parts.Deeds.{Answers, Fails}
+use Rattle.paged_calls.specs.call_parts.Memory.{Memory}
+use Rattle.paged_calls.specs.call_parts.Parts.{Failed, Part}
+use Rattle.paged_calls.specs.call_parts.Rooms.{IsRoomFor, is_paging, looks, may_save, most_of, walks}
+use Rattle.paged_calls.specs.core_calls.Deeds.{Deed, Met, Over, Paused, Refused, Unsaid, answered, asked, marks_by, marks_for}
+use Rattle.paged_calls.specs.core_calls.Fronts.{Done, front, outcomes}
+use Rattle.paged_calls.specs.core_calls.LogEvents.{IsPressedYet, IsTight, IsTightSomewhere, SyncsWhere}
+use Rattle.paged_calls.specs.core_calls.Marks.{Mark, is_half}
+use Rattle.paged_calls.specs.core_calls.Refusals.{Hinders, IsCause}
+use Rattle.paged_calls.specs.core_calls.Runs.{Tells}
+use Rattle.paged_calls.specs.core_calls.Scans.{IsHinderedNext, IsOnWay, IsTold, IsWay, ScansRows, StopsOnWay, TakesMet, rows_met}
+use Rattle.paged_calls.specs.core_calls.Steps.{IsAnAbort, MayPutBack, Tries, Walks, is_step, is_structure, met_last, scan_from}
+use Rattle.paged_calls.proofs.core_calls.WhereLemmas.{syncs_more, syncs_weaker}
+use Rattle.paged_calls.specs.core_index.Walks.{met_keys}
+use Rattle.paged_calls.proofs.core_state.Runs.{run_more}
+use Rattle.paged_calls.specs.core_state.Events as happening
+use Rattle.paged_calls.specs.core_state.Local.{is_sync}
+use Rattle.paged_calls.specs.core_state.Needs.{value_in}
+use Rattle.paged_calls.specs.core_state.Openings.{Opening}
+use Rattle.paged_calls.specs.core_state.States.{State}
+use Rattle.paged_calls.specs.core_state.Steps.{AllMet, run, state_after, step}
+use Rattle.paged_calls.specs.disk_runs.Quiet.{is_quiet}
+use Rattle.paged_calls.specs.disk_runs.Stands.{Stands}
+use Rattle.paged_calls.proofs.engine_calls.MarkLemmas.{any_append, either_false, fresh_none, has_mark, marks_none, no_step}
+use Rattle.paged_calls.specs.engine_calls.Answers.{EveryAnswer}
+use Rattle.paged_calls.specs.engine_calls.Clauses.{EveryComing, IsNewLine, MayCome}
+use Rattle.paged_calls.specs.engine_calls.Parts.{behind_first}
+use Rattle.paged_calls.specs.engine_calls.Puts.{IsWhole, is_alone}
+use Rattle.paged_calls.specs.engine_calls.Refused.{refused_by}
+use Rattle.paged_calls.specs.engine_calls.Scans.{IsPair, IsScan, PassesGaps, pair_behind, scanned_by, unsaid_pair}
+use Rattle.paged_calls.specs.engine_trait.Calls as trait_calls
+use Rattle.paged_calls.specs.engine_trait.Calls.{call_behind, due_call, is_half_done}
+use Rattle.paged_calls.specs.engine_trait.Limits.{limits}
+use Rattle.paged_calls.specs.engine_trait.Refusals.{IsRefusedFor, refusal_in}
+use Rattle.paged_calls.specs.engine_trait.Rooms.{MakesItsRoom, needs_sync}
 use Rattle.lean_disk.specs.Story.{IsLawful, Story}
 use Rattle.page_model.specs.Nodes.{Format, holds}
 use Rattle.page_model.specs.Pairs.{Pair}
-use Rattle.page_pool.specs.Counts.{EveryFrame}
+use Rattle.paged_calls.specs.page_pool.Counts.{EveryFrame}
 use Rattle.row_scans.specs.Meets.{HasMet, HasMetConflict, HasMetSpent, HasTaken, IsButRows, takes_of, told_of, walk_of}
 use Rattle.row_scans.specs.declared.meets.Met.TheVariants as met
-use Rattle.rows_trait.specs.row_words.declared.event.Event.{Event}
-use Rattle.rows_trait.specs.row_words.declared.event.Event.TheVariants.{Next}
-use Rattle.rows_trait.specs.row_words.Moments.{events_of}
-use Rattle.rows_trait.specs.row_words.Openings.{opening}
-use Rattle.rows_trait.specs.declared.view.View.{View}
-use Rattle.rows_trait.specs.Views.{Shape, state}
-use Rattle.session_desks.proofs.DeskLemmas.{desk_own}
-use Rattle.session_desks.proofs.SeatLemmas.{holds_of, turn_high, turn_low}
-use Rattle.session_desks.specs.Desks.{desk_of}
-use Rattle.session_desks.specs.Parts.{AreAsMany, HasLogs, SeatFits, here, shape}
-use Rattle.session_desks.specs.declared.desk.Desk.{Desk}
-use Rattle.session_state.proofs.Moments.{events_more}
-use Rattle.session_state.specs.Holds.{Holds}
-use Rattle.session_state.specs.Ties.{Behind}
-use Rattle.session_state.specs.declared.session.Session.{Session}
-use Rattle.disk_runs.specs.worker_log.Logs.{Log}
-use Rattle.paged_desks.proofs.Doing.{hot_few}
-use Rattle.paged_desks.proofs.EndingLemmas.{Grounds, begins, does_tied, end_laws, half_own, refused_tied}
-use Rattle.paged_desks.proofs.HalfLates.{half_late}
-use Rattle.paged_desks.proofs.StandLemmas.{halves_are, memory_is}
-use Rattle.paged_desks.specs.Calls.{AreHalf, CallDoes, DoesTied, EndsWork, IsBeside, StandsNot, Tied, works_behind}
-use Rattle.paged_desks.specs.Machines.{IsReady, memory, view_of}
-use Rattle.paged_desks.specs.Parts.{IsSpent, StandsNowhere}
-use Rattle.paged_desks.specs.declared.machine.PagedMachine.{PagedMachine}
+use Rattle.paged_calls.specs.row_words.declared.event.Event.{Event}
+use Rattle.paged_calls.specs.row_words.declared.event.Event.TheVariants.{Next}
+use Rattle.paged_calls.specs.row_words.Moments.{events_of}
+use Rattle.paged_calls.specs.row_words.Openings.{opening}
+use Rattle.paged_calls.specs.rows_trait.declared.view.View.{View}
+use Rattle.paged_calls.specs.rows_trait.Views.{Shape, state}
+use Rattle.paged_calls.proofs.session_desks.DeskLemmas.{desk_own}
+use Rattle.paged_calls.proofs.session_desks.SeatLemmas.{holds_of, turn_high, turn_low}
+use Rattle.paged_calls.specs.session_desks.Desks.{desk_of}
+use Rattle.paged_calls.specs.session_desks.Parts.{AreAsMany, HasLogs, SeatFits, here, shape}
+use Rattle.paged_calls.specs.session_desks.declared.desk.Desk.{Desk}
+use Rattle.paged_calls.proofs.session_state.Moments.{events_more}
+use Rattle.paged_calls.specs.session_state.Holds.{Holds}
+use Rattle.paged_calls.specs.session_state.Ties.{Behind}
+use Rattle.paged_calls.specs.session_state.declared.session.Session.{Session}
+use Rattle.paged_calls.specs.worker_log.Logs.{Log}
+use Rattle.paged_calls.proofs.paged_desks.Doing.{hot_few}
+use Rattle.paged_calls.proofs.paged_desks.EndingLemmas.{Grounds, begins, does_tied, end_laws, half_own, refused_tied}
+use Rattle.paged_calls.proofs.paged_desks.HalfLates.{half_late}
+use Rattle.paged_calls.proofs.paged_desks.StandLemmas.{halves_are, memory_is}
+use Rattle.paged_calls.specs.paged_desks.Calls.{AreHalf, CallDoes, DoesTied, EndsWork, IsBeside, StandsNot, Tied, works_behind}
+use Rattle.paged_calls.specs.paged_desks.Machines.{IsReady, memory, view_of}
+use Rattle.paged_calls.specs.paged_desks.Parts.{IsSpent, StandsNowhere}
+use Rattle.paged_calls.specs.paged_desks.declared.machine.PagedMachine.{PagedMachine}
 use Rattle.paged_calls.specs.Steps.{FailsWarm, HasCome}
 use Rattle.paged_calls.specs.Tests.{is_going}
 use Rattle.paged_calls.proofs.EventLemmas.{length_events, paging_steps, paging_structure, structure_of}

@@ -4,24 +4,24 @@ use Rattle.std.proofs.lemmas.List.{length-append}
 use Rattle.lean_disk.specs.Story.{Story}
 use Rattle.map_model.specs.declared.call.Refusal.{Refusal}
 use Rattle.map_model.specs.declared.call.Refusal.TheVariants as refusal
-use Rattle.page_pool.specs.Counts.{hot_pages}
-use Rattle.rows_trait.specs.row_words.declared.event.Event.{Event}
-use Rattle.rows_trait.specs.row_words.Openings.{opening}
-use Rattle.rows_trait.specs.Views.{after_all}
-use Rattle.rows_trait.specs.declared.view.View.{View}
-use Rattle.session_state.specs.declared.session.Session.{Session}
-use Rattle.row_changes.specs.declared.ways.Cold.{Cold}
+use Rattle.paged_calls.specs.page_pool.Counts.{hot_pages}
+use Rattle.paged_calls.specs.row_words.declared.event.Event.{Event}
+use Rattle.paged_calls.specs.row_words.Openings.{opening}
+use Rattle.paged_calls.specs.rows_trait.Views.{after_all}
+use Rattle.paged_calls.specs.rows_trait.declared.view.View.{View}
+use Rattle.paged_calls.specs.session_state.declared.session.Session.{Session}
+use Rattle.paged_calls.specs.row_changes.declared.ways.Cold.{Cold}
 use Rattle.row_scans.specs.Meets.{HasMet, HasMetConflict, HasMetSpent, IsButRows, IsCut, Meets}
 use Rattle.row_scans.specs.declared.meets.Met.{Met}
 use Rattle.row_scans.specs.declared.meets.Unmet.{Unmet}
 use Rattle.row_scans.specs.declared.meets.Unmet.TheVariants as unmet
-use Rattle.paged_desks.specs.Calls.{IsBeside, works_behind}
-use Rattle.paged_desks.specs.Machines.{IsReady, view_of}
-use Rattle.paged_desks.specs.Pages.{goes_on, hot_in}
-use Rattle.paged_desks.specs.Parts.{HasGone}
-use Rattle.paged_desks.specs.declared.machine.PagedMachine.{PagedMachine}
-use Rattle.paged_desks.specs.declared.warming.Unwarmed.{Unwarmed}
-use Rattle.paged_desks.specs.declared.warming.Unwarmed.TheVariants as stopped
+use Rattle.paged_calls.specs.paged_desks.Calls.{IsBeside, works_behind}
+use Rattle.paged_calls.specs.paged_desks.Machines.{IsReady, view_of}
+use Rattle.paged_calls.specs.paged_desks.Pages.{goes_on, hot_in}
+use Rattle.paged_calls.specs.paged_desks.Parts.{HasGone}
+use Rattle.paged_calls.specs.paged_desks.declared.machine.PagedMachine.{PagedMachine}
+use Rattle.paged_calls.specs.paged_desks.declared.warming.Unwarmed.{Unwarmed}
+use Rattle.paged_calls.specs.paged_desks.declared.warming.Unwarmed.TheVariants as stopped
 use Rattle.paged_calls.specs.Steps.{HasCome, IsStill, ReadsWarm}
 use Rattle.paged_calls.specs.Tests.{refusal_of}
 use Rattle.paged_scans.specs.Steps.{MeetsWarm, Then, most_a_come}

@@ -6,11 +6,11 @@ use Rattle.map_model.specs.declared.call.Answer.TheVariants as answer
 use Rattle.map_model.specs.declared.call.Call.{Call}
 use Rattle.map_model.specs.declared.call.Call.TheVariants as call
 use Rattle.map_model.specs.declared.call.Refusal.{Refusal}
-use Rattle.rows_trait.specs.core_state.Openings.{Opening}
-use Rattle.core_calls.specs.Deeds.{Outcome, answered, asked}
-use Rattle.core_calls.specs.Fronts.{Done, outcomes}
-use Rattle.core_calls.specs.Steps.{hindered_in, met_last, scan_from}
-use Rattle.engine_calls.specs.Clauses.{IsNewLine}
+use Rattle.paged_calls.specs.core_state.Openings.{Opening}
+use Rattle.paged_calls.specs.core_calls.Deeds.{Outcome, answered, asked}
+use Rattle.paged_calls.specs.core_calls.Fronts.{Done, outcomes}
+use Rattle.paged_calls.specs.core_calls.Steps.{hindered_in, met_last, scan_from}
+use Rattle.paged_calls.specs.engine_calls.Clauses.{IsNewLine}
 use Rattle.paged_scans.specs.declared.scans.Scan.{Scan}
 use Rattle.paged_scans.specs.declared.scans.Step.{Step}
 use Rattle.paged_scans.specs.declared.scans.Step.TheVariants as step

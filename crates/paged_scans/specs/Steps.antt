@@ -3,34 +3,34 @@ use Rattle.std.specs.Prelude.{◌≡◌, ◌⊎◌, ◌≤◌, ◌<◌, ◌+◌,
 use Rattle.map_model.specs.Lists.{any, keep}
 use Rattle.map_model.specs.declared.call.Refusal.{Refusal}
 use Rattle.map_model.specs.declared.call.Refusal.TheVariants as refusal
-use Rattle.rows_trait.specs.core_state.Events as happening
-use Rattle.rows_trait.specs.core_state.Lists.{count_below}
-use Rattle.rows_trait.specs.core_state.Openings.{Opening}
-use Rattle.rows_trait.specs.core_state.States.{State}
-use Rattle.core_calls.specs.Fronts.{Done}
-use Rattle.core_calls.specs.LogEvents.{IsTightSomewhere, SyncsWhere}
-use Rattle.core_calls.specs.Scans.{TakesMet}
-use Rattle.core_calls.specs.Steps.{Walks, is_step, is_structure}
-use Rattle.engine_calls.specs.Parts.{behind_first}
-use Rattle.engine_calls.specs.Scans.{PassesGaps}
+use Rattle.paged_calls.specs.core_state.Events as happening
+use Rattle.paged_calls.specs.core_state.Lists.{count_below}
+use Rattle.paged_calls.specs.core_state.Openings.{Opening}
+use Rattle.paged_calls.specs.core_state.States.{State}
+use Rattle.paged_calls.specs.core_calls.Fronts.{Done}
+use Rattle.paged_calls.specs.core_calls.LogEvents.{IsTightSomewhere, SyncsWhere}
+use Rattle.paged_calls.specs.core_calls.Scans.{TakesMet}
+use Rattle.paged_calls.specs.core_calls.Steps.{Walks, is_step, is_structure}
+use Rattle.paged_calls.specs.engine_calls.Parts.{behind_first}
+use Rattle.paged_calls.specs.engine_calls.Scans.{PassesGaps}
 use Rattle.lean_disk.specs.Story.{Story}
-use Rattle.rows_trait.specs.row_words.declared.event.Event.{Event}
-use Rattle.rows_trait.specs.row_words.Moments.{events_of}
-use Rattle.rows_trait.specs.row_words.Openings.{opening}
-use Rattle.rows_trait.specs.Views.{state}
-use Rattle.call_parts.specs.Parts.{Part}
-use Rattle.call_parts.specs.Rooms.{AreWalk}
-use Rattle.session_state.specs.Ties.{Behind}
-use Rattle.session_desks.specs.Desks.{desk_of}
-use Rattle.session_desks.specs.Parts.{AreAsMany, here}
+use Rattle.paged_calls.specs.row_words.declared.event.Event.{Event}
+use Rattle.paged_calls.specs.row_words.Moments.{events_of}
+use Rattle.paged_calls.specs.row_words.Openings.{opening}
+use Rattle.paged_calls.specs.rows_trait.Views.{state}
+use Rattle.paged_calls.specs.call_parts.Parts.{Part}
+use Rattle.paged_calls.specs.call_parts.Rooms.{AreWalk}
+use Rattle.paged_calls.specs.session_state.Ties.{Behind}
+use Rattle.paged_calls.specs.session_desks.Desks.{desk_of}
+use Rattle.paged_calls.specs.session_desks.Parts.{AreAsMany, here}
 use Rattle.row_scans.specs.Meets.{HasMet, HasMetConflict, HasMetSpent, IsButRows}
 use Rattle.row_scans.specs.declared.meets.Met.{Met}
 use Rattle.row_scans.specs.declared.meets.Met.TheVariants as met
-use Rattle.paged_desks.specs.Calls.{IsBeside}
-use Rattle.paged_desks.specs.Machines.{IsReady, memory, view_of}
-use Rattle.paged_desks.specs.Pages.{hot_in, most_a_level}
-use Rattle.paged_desks.specs.Parts.{IsSpent, StandsNowhere}
-use Rattle.paged_desks.specs.declared.machine.PagedMachine.{PagedMachine}
+use Rattle.paged_calls.specs.paged_desks.Calls.{IsBeside}
+use Rattle.paged_calls.specs.paged_desks.Machines.{IsReady, memory, view_of}
+use Rattle.paged_calls.specs.paged_desks.Pages.{hot_in, most_a_level}
+use Rattle.paged_calls.specs.paged_desks.Parts.{IsSpent, StandsNowhere}
+use Rattle.paged_calls.specs.paged_desks.declared.machine.PagedMachine.{PagedMachine}
 use Rattle.paged_calls.specs.Steps.{FailsWarm, HasCome}
 
 -- no other session stands in the way

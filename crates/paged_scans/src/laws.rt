@@ -1,15 +1,13 @@
 // What the steps of a scan rest on.
-ghost use Rattle.disk_runs.specs.core_disk.Versions.{EveryVersion};
-ghost use Rattle.disk_runs.specs.core_paging.Paging.{EveryResidence};
-ghost use Rattle.disk_runs.specs.disk_image.Laws.{EverySealed};
-ghost use Rattle.engine_calls.specs.Answers.{EveryAnswer};
-ghost use Rattle.engine_calls.specs.Clauses.{EveryComing};
-ghost use Rattle.page_pool.specs.Counts.{EveryFrame};
-ghost use Rattle.row_opening.specs.Openings.{EveryNeed, EveryReached};
-ghost use Rattle.session_state.specs.Others.{EveryOther};
-ghost use Rattle.disk_runs.specs.worker_log.Laws.{EveryKept, EveryPrefix};
-
-use disk_runs::{core_disk, core_paging, disk_image, worker_log};
+ghost use Rattle.paged_calls.specs.core_disk.Versions.{EveryVersion};
+ghost use Rattle.paged_calls.specs.core_paging.Paging.{EveryResidence};
+ghost use Rattle.paged_calls.specs.disk_image.Laws.{EverySealed};
+ghost use Rattle.paged_calls.specs.engine_calls.Answers.{EveryAnswer};
+ghost use Rattle.paged_calls.specs.engine_calls.Clauses.{EveryComing};
+ghost use Rattle.paged_calls.specs.page_pool.Counts.{EveryFrame};
+ghost use Rattle.paged_calls.specs.row_opening.Openings.{EveryNeed, EveryReached};
+ghost use Rattle.paged_calls.specs.session_state.Others.{EveryOther};
+ghost use Rattle.paged_calls.specs.worker_log.Laws.{EveryKept, EveryPrefix};
 
 // The laws of versions, logs, seals and openings, of answers, of other sessions, and of places and frames.
 pub(crate) fn laws()
@@ -25,15 +23,15 @@ pub(crate) fn laws()
     ensures others { EveryOther }
     ensures residence { EveryResidence }
 {
-    core_disk::every_version();
-    worker_log::every_kept();
-    worker_log::every_prefix();
-    disk_image::every_sealed();
-    row_opening::every_reached();
-    row_opening::every_need();
-    engine_calls::every_answer();
-    engine_calls::every_coming();
-    page_pool::every_frame();
-    session_state::every_other();
-    core_paging::every_residence();
+    paged_calls::every_version();
+    paged_calls::every_kept();
+    paged_calls::every_prefix();
+    paged_calls::every_sealed();
+    paged_calls::every_reached();
+    paged_calls::every_need();
+    paged_calls::every_answer();
+    paged_calls::every_coming();
+    paged_calls::every_frame();
+    paged_calls::every_other();
+    paged_calls::every_residence();
 }

@@ -2,16 +2,15 @@
 ghost use Rattle.std.specs.Prelude.{◌≡◌, ◌≤◌, ◌<◌, ◌-◌, ◌^◌, true, Err, IfErr, IfOk};
 ghost use Rattle.lean_disk.specs.Faults.{HasCause};
 ghost use Rattle.map_model.specs.declared.call.Refusal.{Refusal};
-ghost use Rattle.paged_desks.specs.Calls.{works_behind};
-ghost use Rattle.paged_desks.specs.Machines.{IsReady};
+ghost use Rattle.paged_calls.specs.paged_desks.Calls.{works_behind};
+ghost use Rattle.paged_calls.specs.paged_desks.Machines.{IsReady};
 ghost use Rattle.paged_scans.specs.Steps.{Nexts, NoOther};
 
 use crate::laws::laws;
 use crate::walks::walk_warm;
 use map_model::Refusal;
-use paged_desks::PagedMachine;
+use paged_calls::{PagedMachine, Stages};
 use row_scans::Met;
-use session_state::Stages;
 
 // The least live pair from a key on up to another, over as many leaves as it takes. None: there is none. The pair that follows may have been read behind
 // the other key, which nobody is told.

@@ -3,18 +3,17 @@ ghost use Rattle.std.specs.Prelude.{◌≡◌, ◌⊎◌, ◌↔◌, ◌≤◌, 
 ghost use Rattle.map_model.specs.declared.call.Call.TheVariants as call;
 ghost use Rattle.map_model.specs.declared.call.Refusal.{Refusal};
 ghost use Rattle.lean_disk.specs.Faults.{HasCause};
-ghost use Rattle.engine_trait.specs.Calls.{MayCome};
-ghost use Rattle.session_desks.specs.Parts.{AreAsMany, SeatFits, Works};
-ghost use Rattle.paged_desks.specs.Machines.{IsReady};
-ghost use Rattle.paged_desks.specs.Calls.{CallDoes, EndsWork, works_behind};
+ghost use Rattle.paged_calls.specs.engine_trait.Calls.{MayCome};
+ghost use Rattle.paged_calls.specs.session_desks.Parts.{AreAsMany, SeatFits, Works};
+ghost use Rattle.paged_calls.specs.paged_desks.Machines.{IsReady};
+ghost use Rattle.paged_calls.specs.paged_desks.Calls.{CallDoes, EndsWork, works_behind};
 ghost use Rattle.paged_scans.specs.Calls.{IsIn, StandsAt, step_answer, step_behind};
 
 use crate::laws::laws;
 use crate::nexts::next;
 use map_model::Refusal;
-use paged_desks::PagedMachine;
+use paged_calls::{PagedMachine, Stages};
 use row_ends::call_refusal;
-use session_state::Stages;
 
 /// How many pairs a scan tells, before it stops.
 pub const PAIRS: u32 = 64;

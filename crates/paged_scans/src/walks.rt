@@ -3,17 +3,16 @@ ghost use Rattle.std.specs.Prelude.{◌≡◌, ◌<◌, ◌-◌, ◌^◌, true, 
 ghost use Rattle.lean_disk.specs.Faults.{HasCause};
 ghost use Rattle.map_model.specs.declared.call.Refusal.{Refusal};
 ghost use Rattle.row_scans.specs.Meets.{IsButRows, IsCut, IsNoConflict, Meets};
-ghost use Rattle.paged_rows.specs.Paged.{IsWarm};
-ghost use Rattle.paged_desks.specs.Calls.{IsBeside, works_behind};
-ghost use Rattle.paged_desks.specs.Machines.{IsReady, pages, view_of};
+ghost use Rattle.paged_calls.specs.paged_rows.Paged.{IsWarm};
+ghost use Rattle.paged_calls.specs.paged_desks.Calls.{IsBeside, works_behind};
+ghost use Rattle.paged_calls.specs.paged_desks.Machines.{IsReady, pages, view_of};
 ghost use Rattle.paged_calls.specs.Tests.{refusal_of};
 ghost use Rattle.paged_scans.specs.Steps.{MeetsWarm, NoOther};
 
 use crate::laws::laws;
 use map_model::Refusal;
-use paged_desks::{PagedMachine, Unwarmed};
+use paged_calls::{PagedMachine, Stages, Unwarmed};
 use row_scans::{Met, Unmet, meet};
-use session_state::Stages;
 
 // Why the pages of a way did not come, as a scan is answered.
 fn refusal_of(why: Unwarmed) -> Refusal

@@ -1,14 +1,12 @@
 // A disk in memory that shows zeros in place of pages from some read on. It tells contracts nothing.
 ghost use Rattle.disk_file.specs.Untold.{untold, untold_lawful, untold_whole};
 
-use buffered_engine::{Engine, Hosts};
-use engine_front::calls::{Durable, Unanswered};
 use lean_disk::{Did, Disk, MemDisk, Read};
-use log_record::Record;
+use lean_shell::{
+    DiskFault, Durable, Engine, Hosts, Record, Stages, Unanswered, WorkerLog, stage_end,
+};
 use map_model::{Answer, Call};
 use quiet_disk::QuietPart;
-use session_state::{Stages, stage_end};
-use worker_log::{DiskFault, WorkerLog};
 
 // The area of the pages.
 const PAGES: u32 = 1;

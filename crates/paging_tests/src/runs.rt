@@ -1,8 +1,7 @@
 // Runs of the program on a disk in memory. Memory that is refused ends the test.
 use crate::sinks::TimedSink;
 use lean_disk::{Choice, MemDisk};
-use lean_edge::MemSource;
-use lean_shell::{Ended, Gate, run};
+use lean_shell::{Ended, Gate, MemSource, run};
 use rand_core::utils::NextWord;
 use rand_pcg::Pcg32;
 use std::alloc::Global;

@@ -1,10 +1,10 @@
 // A sink that tells when each line went out.
 ghost use Rattle.lean_disk.specs.Calls.{Noted};
 ghost use Rattle.lean_disk.specs.Faults.{HasCause};
-ghost use Rattle.lean_edge.specs.Outside.{Puts};
+ghost use Rattle.lean_shell.specs.lean_edge.Outside.{Puts};
 
 use lean_disk::MemDisk;
-use lean_edge::{MemSink, Put, Sink};
+use lean_shell::{MemSink, Put, Sink};
 use std::alloc::Global;
 
 /// A sink in memory, and the moment of the disk behind each line. A line whose moment finds no memory has none.

@@ -7,7 +7,7 @@ ghost use Rattle.node_tree.specs.Nodes.{nodes_of};
 ghost use Rattle.pair_walk.specs.Fences.{IsFence};
 ghost use Rattle.pair_walk.specs.Listings.{Lists, live};
 
-use disk_image::btree_node::Node;
+use disk_image::Node;
 use node_tree::leaf_of;
 
 /// The page of the leaf that begins at this fence. The walk begins at 0 and goes on at the leaf's high fence.

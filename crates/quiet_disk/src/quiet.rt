@@ -2,9 +2,7 @@
 ghost use Rattle.disk_file.specs.Untold.{untold, untold_lawful, untold_whole};
 
 use lean_disk::{Did, Disk, MemDisk, Part, Read};
-use log_record::Record;
-use session_state::{Stages, stage_end};
-use worker_log::{DiskFault, WorkerLog};
+use session_state::{DiskFault, Record, Stages, WorkerLog, stage_end};
 
 /// The disk, and how often it has failed.
 #[derive(Drop)]

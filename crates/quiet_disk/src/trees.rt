@@ -1,9 +1,8 @@
 // A disk with a tree of three levels.
 ghost use Rattle.std.specs.Prelude.{◌*◌, ◌≤◌, ◌<◌, ◌^◌};
 
-use btree_node::Node;
-use disk_slots::{Heads, Master, master_bytes, page_bytes};
 use lean_disk::{Choice, Disk, MemDisk};
+use session_state::{Heads, Master, Node, master_bytes, page_bytes};
 use std::alloc::{AllocError, Global};
 
 /// How many pages there are.

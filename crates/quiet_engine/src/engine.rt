@@ -1,15 +1,13 @@
 // The calls of the one session over a quiet disk, each of which leaves a machine that works as it is between two calls.
 ghost use Rattle.std.specs.Prelude.{◌≡◌, ◌<◌, ◌≤◌, ◌-◌, ◌^◌};
 ghost use Rattle.page_model.specs.Limits.{tombstone};
-ghost use Rattle.paged_desks.specs.Calls.{works_behind};
+ghost use Rattle.paged_calls.specs.paged_desks.Calls.{works_behind};
 
 use lean_disk::MemDisk;
 use map_model::Refusal;
-use paged_desks::PagedMachine;
+use paged_calls::{Machine, PagedMachine, Work};
 use paged_engine::{Opened, Size, Unopened, open};
 use quiet_disk::QuietDisk;
-use session_desks::Machine;
-use session_state::Work;
 use std::alloc::Global;
 use std::marker::Model;
 
@@ -29,8 +27,8 @@ pub struct Engine {
 impl Model for Engine {
     ghost use Rattle.std.specs.Prelude.{Bool};
     ghost use Rattle.disk_file.specs.Untold.{untold};
-    ghost use Rattle.paged_desks.specs.Machines.{IsReady};
-    ghost use Rattle.session_desks.specs.Parts.{Works};
+    ghost use Rattle.paged_calls.specs.paged_desks.Machines.{IsReady};
+    ghost use Rattle.paged_calls.specs.session_desks.Parts.{Works};
 
     ghost Value = { Bool };
 

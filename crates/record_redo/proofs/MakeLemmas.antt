@@ -8,7 +8,7 @@ use Rattle.page_model.specs.Nodes.{Node}
 use Rattle.page_model.specs.Check.{is_rising}
 use Rattle.page_model.specs.Redo.{is_ordered}
 use Rattle.disk_image.specs.btree_node.Words.{IsOrdered, pairs_of, flat}
-use Rattle.disk_image.proofs.btree_node_lemmas.FlatLemmas.{words-pairs_of, words-whole, length-flat, flat-append}
+use Rattle.disk_image.proofs.btree_node.FlatLemmas.{words-pairs_of, words-whole, length-flat, flat-append}
 use Rattle.disk_image.specs.log_record.Model.{model_pair, model_pairs}
 use Rattle.disk_image.specs.log_record.declared.record.PageRef.{PageRef}
 use Rattle.disk_image.specs.log_record.declared.record.Pairs.{Pairs}

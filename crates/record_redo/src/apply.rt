@@ -12,8 +12,7 @@ ghost use Rattle.record_redo.specs.Inside as inside;
 ghost use Rattle.record_redo.specs.Inside.{record_in, AreWordsOf, model_refs};
 
 use crate::asks::counted;
-use disk_image::btree_node::Node;
-use disk_image::log_record::{Body, PageRef, Record};
+use disk_image::{Body, Node, PageRef, Record};
 
 /// Writes and marks each page that stands at its prev.
 pub(crate) fn write_all(

@@ -9,8 +9,7 @@ ghost use Rattle.record_redo.specs.Pages.{pages_of};
 ghost use Rattle.record_redo.specs.Inside as inside;
 ghost use Rattle.record_redo.specs.Inside.{record_in, AreWordsOf, model_refs};
 
-use disk_image::btree_node::{Node, are_ordered};
-use disk_image::log_record::{Body, Keys, PageRef};
+use disk_image::{Body, Keys, Node, PageRef, are_ordered};
 
 /// The word of a tombstone, which is the greatest word of a leaf.
 const DEAD: u64 = 1 << 63;

@@ -5,7 +5,7 @@ ghost use Rattle.disk_image.specs.log_record.Spelling.{IsCounted};
 ghost use Rattle.disk_image.specs.log_record.Model.{model_pair};
 ghost use Rattle.record_redo.specs.Inside.{record_in, AreWordsOf};
 
-use disk_image::log_record::{Body, Pair, Pairs};
+use disk_image::{Body, Pair, Pairs};
 
 /// How many words the pairs of a record take at most.
 pub(crate) const MOST_WORDS: usize = 120;

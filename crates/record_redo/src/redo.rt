@@ -14,8 +14,7 @@ use crate::apply::{write_all, write_one};
 use crate::asks::{are_met, can_all, can_one, is_met, is_sayable};
 use crate::flat::{MOST_WORDS, spell_pairs};
 use crate::refs::{are_there, refs_of};
-use disk_image::btree_node::Node;
-use disk_image::log_record::{Body, PageRef, Record};
+use disk_image::{Body, Node, PageRef, Record};
 
 /// Redoes a record of a log, and marks the pages that it changes. The answer is whether the record counts. None where
 /// it names a page that there is not, or counts and can't be done: then nothing has changed.

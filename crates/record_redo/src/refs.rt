@@ -4,7 +4,7 @@ ghost use Rattle.disk_image.specs.log_record.Model.{model_ref, root_ref};
 ghost use Rattle.disk_image.specs.Records.{refs_of};
 ghost use Rattle.record_redo.specs.Inside.{refs_in, model_refs, are_below};
 
-use disk_image::log_record::{Body, PageRef};
+use disk_image::{Body, PageRef};
 
 /// The first `count` of these.
 #[derive(Clone, Copy)]

@@ -7,7 +7,7 @@ use Rattle.lean_disk.specs.Story.{Story, areas_of}
 use Rattle.master_store.specs.disk_slots.Masters.{master_slot}
 use Rattle.master_store.specs.page_store.Laws.{IsRead}
 use Rattle.master_store.specs.page_store.Saved.{AreApart, AreSaves, HoldsSaves, IsSpared, Reaches, Save, saved, write_of}
-use Rattle.master_store.proofs.page_store_lemmas.HeldLemmas.{every_read}
+use Rattle.master_store.proofs.page_store.HeldLemmas.{every_read}
 use Rattle.recovery.specs.Inside.{IsBased, IsPrepared, IsReadied, OnlySettles, save_of, saves_to}
 use Rattle.recovery.specs.Installed.{HasInstalled}
 use Rattle.recovery.specs.declared.opening.Recovered.{Recovered}

@@ -22,8 +22,7 @@ use crate::master::next_master;
 use crate::pages::{save_pages, turn};
 use crate::prepare::{Prepared, prepare};
 use lean_disk::{AreaOf, Did, Disk};
-use master_store::btree_node::Node;
-use master_store::disk_slots::Master;
+use master_store::{Master, Node};
 use std::alloc::Global;
 
 /// What recovery gives: all pages, by their numbers, and which slot of each counts; how many transactions are committed by the log, and how many were

@@ -41,7 +41,7 @@ use Rattle.recovery_redo.proofs.LogLemmas.{entries_split, has_at, has_entry_of, 
 use Rattle.recovery_redo.proofs.PageLemmas.{node_at}
 use Rattle.page_model.proofs.Same.{entry_same}
 use Rattle.recovery_redo.proofs.SameLemmas.{page_ok_same}
-use Rattle.disk_image.proofs.image_model_lemmas.SameLemmas.{SameRedone, redo_same, passes_same}
+use Rattle.disk_image.proofs.image_model.SameLemmas.{SameRedone, redo_same, passes_same}
 use Rattle.recovery_redo.proofs.CountLemmas.{AreApart, apart_gathered, apart_order, redone_pages, redone_pass, counts_at}
 use Rattle.recovery_redo.proofs.ImageLemmas.{image_in, lost_from, base_from, won_is, undone_is, recovered_is, sound_is}
 

@@ -20,7 +20,7 @@ use Rattle.recovery_redo.proofs.LogLemmas.{entries_at, entries_all, has_entry_of
 use Rattle.record_redo.proofs.PageLemmas.{keeps_all, keeps_both, marks_none}
 use Rattle.recovery_redo.proofs.PageLemmas.{node_at}
 use Rattle.recovery_redo.proofs.MarkLemmas.{holds_same, leaves_more}
-use Rattle.disk_image.proofs.image_model_lemmas.SetLemmas.{set_tree, set_entries}
+use Rattle.disk_image.proofs.image_model.SetLemmas.{set_tree, set_entries}
 use Rattle.page_model.proofs.Same.{tree_same, entry_same}
 
 -- the last records are undone, and the pages are still a tree with the same keys

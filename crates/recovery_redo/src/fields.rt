@@ -2,7 +2,7 @@
 ghost use Rattle.std.specs.Prelude.{◌≡◌};
 ghost use Rattle.disk_image.specs.Records as records;
 
-use disk_image::log_record::{Body, Record};
+use disk_image::{Body, Record};
 
 /// What an end needs.
 pub(crate) fn need_of(entry: &Record) -> u64

@@ -9,7 +9,7 @@ ghost use Rattle.recovery_redo.specs.Inside.{of_txn, has_txn, number_in, AreGrea
 use crate::fields::need_of;
 use crate::kinds::{is_commit, is_end};
 use crate::txns::{add_txn, has_txn, no_txns};
-use disk_image::log_record::Record;
+use disk_image::Record;
 use log_index::{Head, LogIndex};
 use std::alloc::{AllocError, Global};
 use std::collections::BTreeSet;

@@ -9,8 +9,7 @@ ghost use Rattle.recovery_redo.specs.Inside as inside;
 
 use crate::kinds::is_end;
 use crate::recover::{Failed, damaged_by};
-use disk_image::btree_node::Node;
-use disk_image::log_record::Record;
+use disk_image::{Node, Record};
 use log_index::LogIndex;
 use record_redo::redo_record;
 

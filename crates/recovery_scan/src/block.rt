@@ -4,7 +4,7 @@ ghost use Rattle.disk_image.specs.log_block.Block.{Belongs};
 ghost use Rattle.log_index.specs.Items.{held};
 ghost use Rattle.recovery_scan.specs.Inside.{BlockAdded, IsBadBlock, IsAbove, IsLate, NoneIsLate};
 
-use disk_image::log_block::{Refusal, open_block};
+use disk_image::{LogBlockRefusal as Refusal, open_block};
 use log_index::{LogIndex, PushError};
 
 /// Why the records of a block are not taken.

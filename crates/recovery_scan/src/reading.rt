@@ -9,7 +9,7 @@ ghost use Rattle.recovery_scan.specs.Scans.{AreOfLogs, IsBadLog, IsScanned, Tell
 ghost use Rattle.recovery_scan.specs.Inside.{IsGathered, IsScan, Joined};
 
 use crate::block::{Stop, take_block};
-use disk_image::disk_slots::Master;
+use disk_image::Master;
 use lean_disk::{AreaOf, Disk, Part, Read};
 use log_index::LogIndex;
 use std::alloc::Global;

@@ -1,5 +1,5 @@
 // What a record does, as the plain program has it.
-use master_store::log_record::{Body, Keys, PageRef, Pairs};
+use master_store::{Body, Keys, PageRef, Pairs};
 use plain_images::{Kind, Pair, Record, Ref};
 use std::alloc::AllocError;
 

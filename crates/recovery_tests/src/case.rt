@@ -4,7 +4,7 @@ use crate::engine::{Opened, Stop, read_disk, recover};
 use crate::opening::{is_left, opens_so, stops_so};
 use crate::plain::image_of;
 use lean_disk::MemDisk;
-use master_store::btree_node::Node;
+use master_store::Node;
 use recovery_redo::Outcome;
 use std::alloc::{AllocError, Global};
 

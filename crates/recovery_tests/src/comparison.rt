@@ -2,7 +2,7 @@
 use crate::engine::{Opened, Stop};
 use crate::plain::page_of;
 use log_index::LogIndex;
-use master_store::btree_node::Node;
+use master_store::Node;
 use plain_images::{
     Damage, Image, Page, first_damage, losers, reach, recovered_page, sorted, winners,
 };

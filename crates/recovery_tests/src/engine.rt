@@ -6,10 +6,7 @@ ghost use Rattle.master_store.specs.Masters.{IsOfSlot};
 
 use lean_disk::{AreaOf, Disk};
 use log_index::LogIndex;
-use master_store::btree_node::Node;
-use master_store::disk_slots::Master;
-use master_store::page_store::fetch;
-use master_store::{choose, page_store};
+use master_store::{Master, Node, choose, fetch};
 use recovery_redo::{Failed, Outcome, recover_pages};
 use recovery_scan::{Unread, scan_logs};
 use std::alloc::Global;
@@ -96,11 +93,11 @@ fn read_page<D: Disk>(disk: &mut D, master: &Master, page: u32) -> Result<Node, 
 {
     match fetch(&mut AreaOf::new(disk, 1), master, page) {
         Ok(base) => Ok(base.node),
-        Err(page_store::Unread::Damaged) => Err(Stop::Damaged {
+        Err(master_store::Unread::Damaged) => Err(Stop::Damaged {
             area: 1,
             place: u64::from(page),
         }),
-        Err(page_store::Unread::DiskFault) => Err(Stop::DiskFault),
+        Err(master_store::Unread::DiskFault) => Err(Stop::DiskFault),
     }
 }
 

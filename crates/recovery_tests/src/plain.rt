@@ -2,9 +2,7 @@
 use crate::bodies::{kind_of, set_body};
 use crate::engine::Opened;
 use log_index::LogIndex;
-use master_store::btree_node::Node;
-use master_store::log_record;
-use master_store::log_record::Body;
+use master_store::{Body, Node};
 use plain_images::{Image, Log, Page, Pair, Record, Ref};
 use std::alloc::{AllocError, Global};
 
@@ -66,7 +64,7 @@ fn logs_of(alloc: Global, opened: &Opened) -> Result<Vec<Log>, AllocError> {
 // The records of a log, the newest first.
 fn records_of(alloc: Global, index: &LogIndex, log: u32) -> Result<Vec<Record>, AllocError> {
     let mut records = Vec::new(alloc);
-    let mut entry = log_record::Record {
+    let mut entry = master_store::Record {
         txn: 0,
         gsn: 0,
         body: Body::Commit { need: 0 },
@@ -80,7 +78,7 @@ fn records_of(alloc: Global, index: &LogIndex, log: u32) -> Result<Vec<Record>, 
     Ok(records)
 }
 
-fn record_of(alloc: Global, log: u32, entry: &log_record::Record) -> Result<Record, AllocError> {
+fn record_of(alloc: Global, log: u32, entry: &master_store::Record) -> Result<Record, AllocError> {
     let mut made = Record {
         kind: kind_of(&entry.body),
         log,

@@ -9,7 +9,7 @@ ghost use Rattle.disk_image.specs.Formats.{format_of};
 ghost use Rattle.node_tree.specs.Nodes.{nodes_of};
 
 use btree_descent::descent::{Answer, Found};
-use disk_image::btree_node::Node;
+use disk_image::Node;
 use key_locks::mode::Mode;
 use node_tree::{first_break, leaf_of};
 use page_model::every_check;

@@ -4,30 +4,30 @@ use Rattle.std.specs.Prelude.{if◌then◌else◌}
 use Rattle.std.proofs.Math.Bridge.{le_prop}
 use Rattle.map_model.specs.Lists.{Has}
 use Rattle.map_model.proofs.ListLemmas.{upd_same}
-use Rattle.disk_image.specs.image_model.Entries.{Contents, Entry, Kind, applied_as, touches, written}
-use Rattle.btree_descent.specs.core_state.Events as happening
-use Rattle.btree_descent.specs.core_state.Needs.{holds_row, may}
-use Rattle.btree_descent.specs.core_state.States.{State, Worker, flushed_by_all}
-use Rattle.btree_descent.specs.core_state.Steps.{at_pages, happens, put_back, write_entry, writes}
-use Rattle.core_calls.specs.LogEvents as commits
-use Rattle.core_calls.specs.Room.{EveryRoom, free_list}
-use Rattle.disk_image.specs.Records.{entry_of}
+use Rattle.session_state.specs.image_model.Entries.{Contents, Entry, Kind, applied_as, touches, written}
+use Rattle.session_state.specs.core_state.Events as happening
+use Rattle.session_state.specs.core_state.Needs.{holds_row, may}
+use Rattle.session_state.specs.core_state.States.{State, Worker, flushed_by_all}
+use Rattle.session_state.specs.core_state.Steps.{at_pages, happens, put_back, write_entry, writes}
+use Rattle.session_state.specs.core_calls.LogEvents as commits
+use Rattle.session_state.specs.core_calls.Room.{EveryRoom, free_list}
+use Rattle.session_state.specs.disk_image.Records.{entry_of}
 use Rattle.lean_disk.specs.Story.{Story}
-use Rattle.disk_image.specs.log_record.declared.record.Record.{Record}
-use Rattle.disk_image.specs.log_record.declared.record.Body.TheVariants as body
-use Rattle.disk_image.specs.log_record.Spelling.{record_text}
-use Rattle.disk_image.proofs.log_record_lemmas.PartLemmas.{key_change_long}
-use Rattle.disk_image.proofs.log_record_lemmas.RecordLemmas.{head_long}
-use Rattle.disk_image.specs.log_block.Block.{records_text}
-use Rattle.worker_log.specs.Logs.{Log, used}
-use Rattle.btree_descent.specs.row_words.declared.event.Event.TheVariants.{PutBack}
-use Rattle.btree_descent.specs.row_words.Openings.{opening}
-use Rattle.btree_descent.specs.rows_trait.Views.{Shape, after_all, state}
-use Rattle.btree_descent.specs.rows_trait.declared.view.View.{View}
-use Rattle.btree_descent.specs.lean_proto.declared.change.Write.TheVariants as write
-use Rattle.btree_descent.specs.lean_proto.Writes.{IsNewest}
-use Rattle.btree_descent.specs.Puts.{DrawsFor, MayPutBack, MetNone, Written, back_of}
-use Rattle.flush_avoidance.specs.Clocks.{risen}
+use Rattle.session_state.specs.log_record.declared.record.Record.{Record}
+use Rattle.session_state.specs.log_record.declared.record.Body.TheVariants as body
+use Rattle.session_state.specs.log_record.Spelling.{record_text}
+use Rattle.session_state.proofs.log_record.PartLemmas.{key_change_long}
+use Rattle.session_state.proofs.log_record.RecordLemmas.{head_long}
+use Rattle.session_state.specs.log_block.Block.{records_text}
+use Rattle.session_state.specs.worker_log.Logs.{Log, used}
+use Rattle.session_state.specs.row_words.declared.event.Event.TheVariants.{PutBack}
+use Rattle.session_state.specs.row_words.Openings.{opening}
+use Rattle.session_state.specs.rows_trait.Views.{Shape, after_all, state}
+use Rattle.session_state.specs.rows_trait.declared.view.View.{View}
+use Rattle.session_state.specs.lean_proto.declared.change.Write.TheVariants as write
+use Rattle.session_state.specs.lean_proto.Writes.{IsNewest}
+use Rattle.session_state.specs.btree_descent.Puts.{DrawsFor, MayPutBack, MetNone, Written, back_of}
+use Rattle.session_state.specs.flush_avoidance.Clocks.{risen}
 use Rattle.row_changes.specs.Backs.{IsLostBack, IsPutBack}
 use Rattle.session_state.specs.Holds.{AreNumbers, Holds, IsOf}
 use Rattle.session_state.specs.Numbers.{HaveRoom}
@@ -113,7 +113,7 @@ back_short : (r : Record) (leaf : _) (key before after : ℕ) → r.body ≡ bod
 back_short r leaf key before after is =
     let t = ap length (append-nil (record_text r)) in
     let a = head_long r in
-    let b = ap (λ y. length (Rattle.disk_image.specs.log_record.Spelling.body_text y)) is in
+    let b = ap (λ y. length (Rattle.session_state.specs.log_record.Spelling.body_text y)) is in
     let c = key_change_long (record { leaf = leaf; key = key; before = before; after = after }) in
     omega arith
 

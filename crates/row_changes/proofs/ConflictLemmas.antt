@@ -1,10 +1,10 @@
 -- Who stands in the way of a lock: as a lock finds and as the core names.
 use Rattle.std.proofs.Common.{◌≡◌, ◌⊎◌, inl, inr, ◌≤◌, ℕ, true, Option, Some, None, refl, sym, ap, ◌∙◌, arith, eq-eqb}
-use Rattle.btree_descent.specs.core_state.Events as happening
-use Rattle.btree_descent.specs.core_state.Needs.{is_free, is_held_by, is_reader}
-use Rattle.btree_descent.specs.core_state.States.{Row}
-use Rattle.core_calls.specs.Refusals.{Hinders}
-use Rattle.key_locks.specs.Rows.{IsBlocking, IsRow, IsWorker, Stands}
+use Rattle.session_state.specs.core_state.Events as happening
+use Rattle.session_state.specs.core_state.Needs.{is_free, is_held_by, is_reader}
+use Rattle.session_state.specs.core_state.States.{Row}
+use Rattle.session_state.specs.core_calls.Refusals.{Hinders}
+use Rattle.session_state.specs.key_locks.Rows.{IsBlocking, IsRow, IsWorker, Stands}
 
 -- ## As the core names it
 

@@ -3,19 +3,19 @@ use Rattle.std.proofs.Common.{◌≡◌, ◌↔◌, ◌≤◌, ◌++◌, ◌&&�
 use Rattle.std.proofs.lemmas.Bool.{and_parts}
 use Rattle.map_model.specs.Lists.{Has}
 use Rattle.map_model.proofs.ListLemmas.{upd_same}
-use Rattle.btree_descent.specs.core_state.Events as happening
-use Rattle.btree_descent.specs.core_state.Needs.{are_hot, holds_row, is_value, may, may_read, value_in}
-use Rattle.btree_descent.specs.core_state.States.{State, Worker, flushed_by_all}
-use Rattle.btree_descent.specs.core_state.Steps.{at_pages, happens}
-use Rattle.core_calls.specs.LogEvents as commits
-use Rattle.disk_image.specs.log_record.declared.record.Record.{Record}
-use Rattle.worker_log.specs.Logs.{Log}
-use Rattle.btree_descent.specs.row_words.declared.event.Event.TheVariants.{Read}
-use Rattle.btree_descent.specs.row_words.Openings.{opening}
-use Rattle.btree_descent.specs.rows_trait.Views.{Shape, after_all, state}
-use Rattle.btree_descent.specs.rows_trait.declared.view.View.{View}
-use Rattle.btree_descent.specs.Dels.{WasAbsent}
-use Rattle.flush_avoidance.specs.Clocks.{risen}
+use Rattle.session_state.specs.core_state.Events as happening
+use Rattle.session_state.specs.core_state.Needs.{are_hot, holds_row, is_value, may, may_read, value_in}
+use Rattle.session_state.specs.core_state.States.{State, Worker, flushed_by_all}
+use Rattle.session_state.specs.core_state.Steps.{at_pages, happens}
+use Rattle.session_state.specs.core_calls.LogEvents as commits
+use Rattle.session_state.specs.log_record.declared.record.Record.{Record}
+use Rattle.session_state.specs.worker_log.Logs.{Log}
+use Rattle.session_state.specs.row_words.declared.event.Event.TheVariants.{Read}
+use Rattle.session_state.specs.row_words.Openings.{opening}
+use Rattle.session_state.specs.rows_trait.Views.{Shape, after_all, state}
+use Rattle.session_state.specs.rows_trait.declared.view.View.{View}
+use Rattle.session_state.specs.btree_descent.Dels.{WasAbsent}
+use Rattle.session_state.specs.flush_avoidance.Clocks.{risen}
 use Rattle.session_state.specs.Holds.{AreNumbers, Holds, IsOf, IsSameSession}
 use Rattle.lean_disk.specs.Story.{Story}
 use Rattle.row_changes.specs.Dels.{Dels}

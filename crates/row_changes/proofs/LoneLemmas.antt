@@ -4,22 +4,22 @@ use Rattle.std.proofs.lemmas.Bool.{and_parts, or_cases, eqb-true, leb-true, ltb-
 use Rattle.map_model.specs.Lists.{keep, upd}
 use Rattle.map_model.specs.Maps.{MapAnswer}
 use Rattle.map_model.proofs.ListLemmas.{any_has, at_upd, has_any, keep_has, upd_same}
-use Rattle.disk_image.specs.image_model.Entries.{Entry, Kind}
+use Rattle.session_state.specs.image_model.Entries.{Entry, Kind}
 use Rattle.page_model.specs.Records.{Record}
-use Rattle.btree_descent.specs.core_state.Events as happening
-use Rattle.btree_descent.specs.core_state.Needs.{are_hot, holds_row, is_held_by, is_reader, is_worker, may, may_hold, needs, pages_of}
-use Rattle.btree_descent.specs.core_state.Openings.{Opening}
-use Rattle.btree_descent.specs.core_state.States.{Row, State, Worker}
-use Rattle.btree_descent.specs.core_state.Steps as core
-use Rattle.btree_descent.specs.core_state.Steps.{at_pages, at_row, finished, follows, happens, locked, moves, put_back, unlocked, writes}
-use Rattle.btree_descent.specs.row_words.declared.event.Event.{Event}
-use Rattle.btree_descent.specs.row_words.declared.given.Given.{Given}
-use Rattle.btree_descent.specs.row_words.Moments as moments
-use Rattle.btree_descent.specs.row_words.Moments.{Moment, event_of, first_state}
-use Rattle.btree_descent.specs.row_words.Openings.{opening}
-use Rattle.btree_descent.specs.row_words.Sealed.{begun, run, stepped}
-use Rattle.btree_descent.specs.rows_trait.Views.{state}
-use Rattle.btree_descent.specs.rows_trait.declared.view.View.{View}
+use Rattle.session_state.specs.core_state.Events as happening
+use Rattle.session_state.specs.core_state.Needs.{are_hot, holds_row, is_held_by, is_reader, is_worker, may, may_hold, needs, pages_of}
+use Rattle.session_state.specs.core_state.Openings.{Opening}
+use Rattle.session_state.specs.core_state.States.{Row, State, Worker}
+use Rattle.session_state.specs.core_state.Steps as core
+use Rattle.session_state.specs.core_state.Steps.{at_pages, at_row, finished, follows, happens, locked, moves, put_back, unlocked, writes}
+use Rattle.session_state.specs.row_words.declared.event.Event.{Event}
+use Rattle.session_state.specs.row_words.declared.given.Given.{Given}
+use Rattle.session_state.specs.row_words.Moments as moments
+use Rattle.session_state.specs.row_words.Moments.{Moment, event_of, first_state}
+use Rattle.session_state.specs.row_words.Openings.{opening}
+use Rattle.session_state.specs.row_words.Sealed.{begun, run, stepped}
+use Rattle.session_state.specs.rows_trait.Views.{state}
+use Rattle.session_state.specs.rows_trait.declared.view.View.{View}
 
 -- ## What each event keeps
 

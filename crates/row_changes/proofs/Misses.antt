@@ -1,10 +1,10 @@
 -- Misses change nothing of the core.
 use Rattle.std.proofs.Common.{◌≡◌, ◌∙◌, List, [], ◌∷◌, refl}
-use Rattle.btree_descent.specs.row_words.declared.event.Event.{Event}
-use Rattle.btree_descent.specs.row_words.declared.event.Event.TheVariants.{Miss}
-use Rattle.btree_descent.specs.row_words.declared.given.Given.{Given}
-use Rattle.btree_descent.specs.row_words.Moments.{Moment}
-use Rattle.btree_descent.specs.row_words.Sealed as sealed
+use Rattle.session_state.specs.row_words.declared.event.Event.{Event}
+use Rattle.session_state.specs.row_words.declared.event.Event.TheVariants.{Miss}
+use Rattle.session_state.specs.row_words.declared.given.Given.{Given}
+use Rattle.session_state.specs.row_words.Moments.{Moment}
+use Rattle.session_state.specs.row_words.Sealed as sealed
 use Rattle.held_rows.specs.Steps.{AreMisses}
 use Rattle.session_state.proofs.Moments.{met_core}
 

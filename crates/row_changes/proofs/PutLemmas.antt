@@ -6,30 +6,30 @@ use Rattle.map_model.proofs.ListLemmas.{upd_same}
 use Rattle.page_model.specs.Nodes.{Format}
 use Rattle.page_model.specs.Pairs.{find}
 use Rattle.page_model.specs.Tree.{value_of, word_or}
-use Rattle.disk_image.specs.image_model.Entries.{Entry, Kind}
+use Rattle.session_state.specs.image_model.Entries.{Entry, Kind}
 use Rattle.rfa_model.specs.Reaches.{least}
-use Rattle.btree_descent.specs.core_state.Events as happening
-use Rattle.btree_descent.specs.core_state.Needs.{holds_row, is_held_by, may}
-use Rattle.btree_descent.specs.core_state.States.{State, Worker, flushed_by_all, nodes_of}
-use Rattle.core_calls.specs.LogEvents.{behind}
-use Rattle.core_calls.specs.Room.{EveryRoom, free_list, frees_from, room_takes}
-use Rattle.btree_descent.specs.core_state.Steps.{at_pages, happens, write_entry}
+use Rattle.session_state.specs.core_state.Events as happening
+use Rattle.session_state.specs.core_state.Needs.{holds_row, is_held_by, may}
+use Rattle.session_state.specs.core_state.States.{State, Worker, flushed_by_all, nodes_of}
+use Rattle.session_state.specs.core_calls.LogEvents.{behind}
+use Rattle.session_state.specs.core_calls.Room.{EveryRoom, free_list, frees_from, room_takes}
+use Rattle.session_state.specs.core_state.Steps.{at_pages, happens, write_entry}
 use Rattle.lean_disk.specs.Story.{Story}
-use Rattle.disk_image.specs.log_record.declared.record.Record.{Record}
-use Rattle.disk_image.specs.log_block.Block.{records_text}
-use Rattle.worker_log.specs.Calls.{After}
-use Rattle.worker_log.specs.Logs.{Log}
-use Rattle.btree_descent.specs.row_words.declared.event.Event.TheVariants.{Change}
-use Rattle.btree_descent.specs.row_words.Openings.{opening}
-use Rattle.btree_descent.specs.rows_trait.Causes.{EveryLow}
-use Rattle.btree_descent.specs.rows_trait.Turns.{Ran}
-use Rattle.btree_descent.specs.rows_trait.Views.{AreLow, Shape, after_all, state}
-use Rattle.btree_descent.specs.rows_trait.declared.view.View.{View}
-use Rattle.btree_descent.specs.Known.{said}
-use Rattle.btree_descent.specs.Puts.{Changed, IsRowSpent, MayPut, MetFull, MetSpent, change_of, clock_in}
-use Rattle.btree_descent.specs.Trails.{Came, IsAbove}
-use Rattle.btree_descent.specs.declared.put.Put.TheVariants as put
-use Rattle.flush_avoidance.specs.Clocks.{risen}
+use Rattle.session_state.specs.log_record.declared.record.Record.{Record}
+use Rattle.session_state.specs.log_block.Block.{records_text}
+use Rattle.session_state.specs.worker_log.Calls.{After}
+use Rattle.session_state.specs.worker_log.Logs.{Log}
+use Rattle.session_state.specs.row_words.declared.event.Event.TheVariants.{Change}
+use Rattle.session_state.specs.row_words.Openings.{opening}
+use Rattle.session_state.specs.rows_trait.Causes.{EveryLow}
+use Rattle.session_state.specs.rows_trait.Turns.{Ran}
+use Rattle.session_state.specs.rows_trait.Views.{AreLow, Shape, after_all, state}
+use Rattle.session_state.specs.rows_trait.declared.view.View.{View}
+use Rattle.session_state.specs.btree_descent.Known.{said}
+use Rattle.session_state.specs.btree_descent.Puts.{Changed, IsRowSpent, MayPut, MetFull, MetSpent, change_of, clock_in}
+use Rattle.session_state.specs.btree_descent.Trails.{Came, IsAbove}
+use Rattle.session_state.specs.btree_descent.declared.put.Put.TheVariants as put
+use Rattle.session_state.specs.flush_avoidance.Clocks.{risen}
 use Rattle.session_state.specs.Holds.{AreNumbers, Holds, IsOf}
 use Rattle.session_state.specs.Numbers.{HaveRoom}
 use Rattle.row_changes.specs.Outcomes.{HasNoRoom}

@@ -3,24 +3,24 @@ use Rattle.std.proofs.Common.{◌≡◌, ◌↔◌, ◌≤◌, ◌<◌, ◌%◌,
 use Rattle.map_model.specs.Lists.{Has, upd}
 use Rattle.page_model.specs.Nodes.{holds}
 use Rattle.rfa_model.specs.Stamps.{owed}
-use Rattle.btree_descent.specs.core_state.States.{State, flushed_by_all, is_hot}
-use Rattle.btree_descent.specs.core_state.Events as happening
-use Rattle.btree_descent.specs.core_state.Needs.{holds_row, is_value, may, value_in}
-use Rattle.btree_descent.specs.core_state.Steps.{at_pages, happens}
-use Rattle.core_calls.specs.LogEvents.{behind as waits}
-use Rattle.worker_log.specs.Logs.{Log}
-use Rattle.btree_descent.specs.row_words.declared.event.Event.{Event}
-use Rattle.btree_descent.specs.row_words.declared.event.Event.TheVariants.{Read}
-use Rattle.btree_descent.specs.row_words.declared.given.Given.{Given}
-use Rattle.btree_descent.specs.row_words.Moments.{Moment}
-use Rattle.btree_descent.specs.row_words.Openings.{opening}
-use Rattle.btree_descent.specs.row_words.Sealed.{stepped}
-use Rattle.btree_descent.specs.rows_trait.declared.view.View.{View}
-use Rattle.btree_descent.specs.rows_trait.Views.{Shape, after_all, state}
-use Rattle.btree_descent.specs.declared.descent.Found.{Found}
-use Rattle.btree_descent.specs.Descents as descents
-use Rattle.btree_descent.specs.Known as pages
-use Rattle.flush_avoidance.specs.Clocks.{after_touch}
+use Rattle.session_state.specs.core_state.States.{State, flushed_by_all, is_hot}
+use Rattle.session_state.specs.core_state.Events as happening
+use Rattle.session_state.specs.core_state.Needs.{holds_row, is_value, may, value_in}
+use Rattle.session_state.specs.core_state.Steps.{at_pages, happens}
+use Rattle.session_state.specs.core_calls.LogEvents.{behind as waits}
+use Rattle.session_state.specs.worker_log.Logs.{Log}
+use Rattle.session_state.specs.row_words.declared.event.Event.{Event}
+use Rattle.session_state.specs.row_words.declared.event.Event.TheVariants.{Read}
+use Rattle.session_state.specs.row_words.declared.given.Given.{Given}
+use Rattle.session_state.specs.row_words.Moments.{Moment}
+use Rattle.session_state.specs.row_words.Openings.{opening}
+use Rattle.session_state.specs.row_words.Sealed.{stepped}
+use Rattle.session_state.specs.rows_trait.declared.view.View.{View}
+use Rattle.session_state.specs.rows_trait.Views.{Shape, after_all, state}
+use Rattle.session_state.specs.btree_descent.declared.descent.Found.{Found}
+use Rattle.session_state.specs.btree_descent.Descents as descents
+use Rattle.session_state.specs.btree_descent.Known as pages
+use Rattle.session_state.specs.flush_avoidance.Clocks.{after_touch}
 use Rattle.row_changes.specs.Reads.{HasRead}
 use Rattle.session_state.specs.Holds.{Holds, IsOf}
 use Rattle.session_state.specs.declared.session.Session.{Session}

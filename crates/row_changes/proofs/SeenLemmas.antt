@@ -1,15 +1,15 @@
 -- What a seat has seen where nobody else steps.
 use Rattle.std.proofs.Common.{◌≡◌, ◌∙◌, ◌++◌, Bool, true, List, [], ◌∷◌, ap, append-nil}
-use Rattle.btree_descent.specs.core_state.Needs.{may}
-use Rattle.btree_descent.specs.core_state.Steps.{happens}
-use Rattle.btree_descent.specs.row_words.declared.event.Event.{Event}
-use Rattle.btree_descent.specs.row_words.Moments.{event_of}
-use Rattle.btree_descent.specs.row_words.Openings.{opening}
-use Rattle.btree_descent.specs.row_words.Sealed.{begun}
-use Rattle.btree_descent.proofs.row_words_lemmas.SealedLemmas.{run_append}
-use Rattle.btree_descent.specs.rows_trait.Turns.{Ran}
-use Rattle.btree_descent.specs.rows_trait.Views.{after_all, state}
-use Rattle.btree_descent.specs.rows_trait.declared.view.View.{View}
+use Rattle.session_state.specs.core_state.Needs.{may}
+use Rattle.session_state.specs.core_state.Steps.{happens}
+use Rattle.session_state.specs.row_words.declared.event.Event.{Event}
+use Rattle.session_state.specs.row_words.Moments.{event_of}
+use Rattle.session_state.specs.row_words.Openings.{opening}
+use Rattle.session_state.specs.row_words.Sealed.{begun}
+use Rattle.session_state.proofs.row_words.SealedLemmas.{run_append}
+use Rattle.session_state.specs.rows_trait.Turns.{Ran}
+use Rattle.session_state.specs.rows_trait.Views.{after_all, state}
+use Rattle.session_state.specs.rows_trait.declared.view.View.{View}
 use Rattle.session_state.proofs.Moments.{met_core}
 
 -- its own events alone

@@ -3,7 +3,7 @@ use Rattle.std.proofs.Common.{◌≡◌, ◌≤◌, ◌<◌, ◌^◌, ℕ, Bool,
 use Rattle.std.proofs.lemmas.Bool.{leb-false, leb-true}
 use Rattle.map_model.specs.declared.call.Refusal.{Refusal}
 use Rattle.map_model.specs.declared.call.Refusal.TheVariants as refusal
-use Rattle.engine_trait.specs.Refusals.{clock_refusal}
+use Rattle.session_state.specs.engine_trait.Refusals.{clock_refusal}
 use Rattle.lean_disk.specs.Faults.{HasCause}
 
 -- ## What a test of the clock says

@@ -6,28 +6,28 @@ use Rattle.std.proofs.lemmas.List.{length-append}
 use Rattle.map_model.specs.Lists.{Has, upd}
 use Rattle.map_model.proofs.ListLemmas.{has_cases, has_left, has_right}
 use Rattle.rfa_model.specs.Stamps.{is_remote, owed}
-use Rattle.flush_avoidance.specs.Clocks.{after_raise, after_touch, risen}
-use Rattle.flush_avoidance.specs.declared.Clock.{Clock}
-use Rattle.btree_descent.specs.core_state.Events as happening
-use Rattle.btree_descent.specs.core_state.Needs.{holds_row, is_held_by, is_reader, may, may_hold}
-use Rattle.btree_descent.specs.core_state.States.{Row, State, Worker, flushed_by_all}
-use Rattle.btree_descent.specs.core_state.Steps.{at_row, happens, locked}
-use Rattle.core_calls.specs.LogEvents.{behind}
-use Rattle.core_calls.specs.Refusals.{Hinders}
-use Rattle.core_calls.proofs.HinderLemmas.{every_hinder}
-use Rattle.worker_log.specs.Logs.{Log}
-use Rattle.btree_descent.specs.row_words.declared.event.Event.{Event}
-use Rattle.btree_descent.specs.row_words.declared.event.Event.TheVariants.{Lock}
-use Rattle.btree_descent.specs.row_words.Moments.{event_of, mode_of}
-use Rattle.btree_descent.specs.row_words.Openings.{opening}
-use Rattle.btree_descent.specs.rows_trait.Causes.{EveryLow}
-use Rattle.btree_descent.specs.rows_trait.Views.{AreLow, Shape, after_all, state}
-use Rattle.btree_descent.specs.rows_trait.declared.view.View.{View}
-use Rattle.key_locks.specs.declared.mode.Mode.{Mode}
-use Rattle.key_locks.specs.declared.mode.Mode.TheVariants.{Alone, Shared}
-use Rattle.key_locks.specs.declared.locking.Stamp.{Stamp}
-use Rattle.key_locks.specs.Locking as locking
-use Rattle.key_locks.specs.Rows.{IsRow, core_mode, event_mode}
+use Rattle.session_state.specs.flush_avoidance.Clocks.{after_raise, after_touch, risen}
+use Rattle.session_state.specs.flush_avoidance.declared.Clock.{Clock}
+use Rattle.session_state.specs.core_state.Events as happening
+use Rattle.session_state.specs.core_state.Needs.{holds_row, is_held_by, is_reader, may, may_hold}
+use Rattle.session_state.specs.core_state.States.{Row, State, Worker, flushed_by_all}
+use Rattle.session_state.specs.core_state.Steps.{at_row, happens, locked}
+use Rattle.session_state.specs.core_calls.LogEvents.{behind}
+use Rattle.session_state.specs.core_calls.Refusals.{Hinders}
+use Rattle.session_state.proofs.core_calls.HinderLemmas.{every_hinder}
+use Rattle.session_state.specs.worker_log.Logs.{Log}
+use Rattle.session_state.specs.row_words.declared.event.Event.{Event}
+use Rattle.session_state.specs.row_words.declared.event.Event.TheVariants.{Lock}
+use Rattle.session_state.specs.row_words.Moments.{event_of, mode_of}
+use Rattle.session_state.specs.row_words.Openings.{opening}
+use Rattle.session_state.specs.rows_trait.Causes.{EveryLow}
+use Rattle.session_state.specs.rows_trait.Views.{AreLow, Shape, after_all, state}
+use Rattle.session_state.specs.rows_trait.declared.view.View.{View}
+use Rattle.session_state.specs.key_locks.declared.mode.Mode.{Mode}
+use Rattle.session_state.specs.key_locks.declared.mode.Mode.TheVariants.{Alone, Shared}
+use Rattle.session_state.specs.key_locks.declared.locking.Stamp.{Stamp}
+use Rattle.session_state.specs.key_locks.Locking as locking
+use Rattle.session_state.specs.key_locks.Rows.{IsRow, core_mode, event_mode}
 use Rattle.session_state.specs.Held.{Held, with_row}
 use Rattle.session_state.specs.Holds.{AreNumbers, AreRows, Holds, IsOf}
 use Rattle.row_changes.specs.Takes.{IsHindered, IsSpent, Takes}

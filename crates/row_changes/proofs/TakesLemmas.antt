@@ -8,13 +8,13 @@ use Rattle.page_model.specs.Nodes.{Node, covers}
 use Rattle.page_model.specs.Pairs.{Pair, Rising, below, onward}
 use Rattle.page_model.specs.Tree.{IsTree}
 use Rattle.page_model.proofs.Tree.{tall}
-use Rattle.disk_image.specs.image_model.Entries.{Contents, Entry, Kind, touches, written}
-use Rattle.btree_descent.specs.core_state.Events.{Event}
-use Rattle.btree_descent.specs.core_state.Openings.{Opening}
-use Rattle.btree_descent.specs.core_state.States.{State, gsns_of, nodes_of}
-use Rattle.btree_descent.specs.core_state.Steps.{at_pages, happens, page_entry}
-use Rattle.core_calls.specs.Room.{EveryRoom, full_from, full_run, is_all_full, is_full_at, room_takes}
-use Rattle.disk_image.proofs.btree_node_lemmas.PlaceLemmas.{drop-onward, take-below}
+use Rattle.session_state.specs.image_model.Entries.{Contents, Entry, Kind, touches, written}
+use Rattle.session_state.specs.core_state.Events.{Event}
+use Rattle.session_state.specs.core_state.Openings.{Opening}
+use Rattle.session_state.specs.core_state.States.{State, gsns_of, nodes_of}
+use Rattle.session_state.specs.core_state.Steps.{at_pages, happens, page_entry}
+use Rattle.session_state.specs.core_calls.Room.{EveryRoom, full_from, full_run, is_all_full, is_full_at, room_takes}
+use Rattle.session_state.proofs.btree_node.PlaceLemmas.{drop-onward, take-below}
 
 below_has : (n : ℕ) (p : ℕ → Bool) → some_below n p ≡ true → (i : ℕ) × (i < n) × (p i ≡ true)
 below_has zero p h = absurd (true≢false (sym h))

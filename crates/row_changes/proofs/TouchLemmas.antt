@@ -1,7 +1,7 @@
 -- What a worker has that has met the stamps of pages.
 use Rattle.std.proofs.Common.{◌≡◌, ◌≤◌, ℕ, List, [], ◌∷◌, refl, arith}
-use Rattle.btree_descent.specs.core_state.States.{State, Worker}
-use Rattle.btree_descent.specs.core_state.Steps.{at_pages}
+use Rattle.session_state.specs.core_state.States.{State, Worker}
+use Rattle.session_state.specs.core_state.Steps.{at_pages}
 
 -- but for its clock, which does not fall, and its debt it is as it was
 pub record Touched (b a : Worker) : Type 0 where

@@ -3,15 +3,15 @@ use Rattle.std.proofs.Common.{◌≡◌, ◌∙◌, ◌&&◌, leb, ltb, ℕ, Boo
 use Rattle.std.proofs.lemmas.Bool.{and_from, le-leb, lt-ltb}
 use Rattle.page_model.specs.Nodes.{Node, covers}
 use Rattle.page_model.proofs.Tree.{Lies, route_lies}
-use Rattle.btree_descent.specs.core_state.States.{nodes_of}
-use Rattle.btree_descent.specs.row_words.declared.given.Given.{Given}
-use Rattle.btree_descent.specs.row_words.Moments.{Moment}
-use Rattle.btree_descent.specs.row_words.Openings.{opening}
-use Rattle.btree_descent.specs.rows_trait.declared.view.View.{View}
-use Rattle.btree_descent.specs.rows_trait.Views.{Shape, after_all, state}
-use Rattle.worker_log.specs.Logs.{Log}
-use Rattle.btree_descent.specs.Descents.{MetCold}
-use Rattle.btree_descent.specs.Known.{IsCold, Sound}
+use Rattle.session_state.specs.core_state.States.{nodes_of}
+use Rattle.session_state.specs.row_words.declared.given.Given.{Given}
+use Rattle.session_state.specs.row_words.Moments.{Moment}
+use Rattle.session_state.specs.row_words.Openings.{opening}
+use Rattle.session_state.specs.rows_trait.declared.view.View.{View}
+use Rattle.session_state.specs.rows_trait.Views.{Shape, after_all, state}
+use Rattle.session_state.specs.worker_log.Logs.{Log}
+use Rattle.session_state.specs.btree_descent.Descents.{MetCold}
+use Rattle.session_state.specs.btree_descent.Known.{IsCold, Sound}
 use Rattle.session_state.specs.Holds.{Holds}
 use Rattle.session_state.specs.declared.session.Session.{Session}
 use Rattle.row_changes.proofs.SeenLemmas.{none_seen}

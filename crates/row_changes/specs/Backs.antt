@@ -1,22 +1,22 @@
 -- What the putting back of a change does, by answer.
 use Rattle.std.specs.Prelude.{◌≡◌, ◌++◌, ℕ, suc, true, [], ◌∷◌, length, Some, None, Result, Ok, Err}
 use Rattle.map_model.specs.declared.call.Refusal.TheVariants as refusal
-use Rattle.btree_descent.specs.core_state.Events as happening
-use Rattle.btree_descent.specs.core_state.Needs.{may}
-use Rattle.btree_descent.specs.core_state.Steps.{happens}
-use Rattle.disk_image.specs.Records.{entry_of}
+use Rattle.session_state.specs.core_state.Events as happening
+use Rattle.session_state.specs.core_state.Needs.{may}
+use Rattle.session_state.specs.core_state.Steps.{happens}
+use Rattle.session_state.specs.disk_image.Records.{entry_of}
 use Rattle.lean_disk.specs.Story.{Story}
-use Rattle.log_calls.specs.Calls.{StagesOn}
-use Rattle.disk_image.specs.log_record.declared.record.Record.{Record}
-use Rattle.btree_descent.specs.row_words.declared.event.Event.TheVariants.{PutBack}
-use Rattle.btree_descent.specs.row_words.Openings.{opening}
-use Rattle.btree_descent.specs.rows_trait.declared.view.View.{View}
-use Rattle.btree_descent.specs.rows_trait.Views.{state}
-use Rattle.btree_descent.specs.Puts.{IsLeafAt}
+use Rattle.session_state.specs.log_calls.Calls.{StagesOn}
+use Rattle.session_state.specs.log_record.declared.record.Record.{Record}
+use Rattle.session_state.specs.row_words.declared.event.Event.TheVariants.{PutBack}
+use Rattle.session_state.specs.row_words.Openings.{opening}
+use Rattle.session_state.specs.rows_trait.declared.view.View.{View}
+use Rattle.session_state.specs.rows_trait.Views.{state}
+use Rattle.session_state.specs.btree_descent.Puts.{IsLeafAt}
 use Rattle.page_model.specs.Pairs.{find}
-use Rattle.worker_log.specs.Calls.{After}
-use Rattle.worker_log.specs.Logs.{Log}
-use Rattle.flush_avoidance.specs.Clocks.{risen}
+use Rattle.session_state.specs.worker_log.Calls.{After}
+use Rattle.session_state.specs.worker_log.Logs.{Log}
+use Rattle.session_state.specs.flush_avoidance.Clocks.{risen}
 use Rattle.session_state.specs.declared.session.Session.{Session}
 use Rattle.session_state.specs.Staging.{KeepsLog}
 use Rattle.row_changes.specs.Takes.{IsSpent}

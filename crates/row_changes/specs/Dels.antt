@@ -2,9 +2,9 @@
 use Rattle.std.specs.Prelude.{◌≡◌, ℕ, Option, Some, None, Result, Ok, Err}
 use Rattle.map_model.specs.declared.call.Refusal.TheVariants as refusal
 use Rattle.lean_disk.specs.Story.{Story}
-use Rattle.btree_descent.specs.rows_trait.declared.view.View.{View}
-use Rattle.btree_descent.specs.declared.descent.TheConstants.{TOMBSTONE}
-use Rattle.worker_log.specs.Logs.{Log}
+use Rattle.session_state.specs.rows_trait.declared.view.View.{View}
+use Rattle.session_state.specs.btree_descent.declared.descent.TheConstants.{TOMBSTONE}
+use Rattle.session_state.specs.worker_log.Logs.{Log}
 use Rattle.row_changes.specs.Puts.{IsChanged}
 use Rattle.row_changes.specs.Reads.{HasRead}
 use Rattle.session_state.specs.Staging.{KeepsLog}

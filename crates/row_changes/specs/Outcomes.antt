@@ -2,8 +2,8 @@
 use Rattle.std.specs.Prelude.{◌≡◌, ℕ, List, Result, Ok, Err}
 use Rattle.map_model.specs.declared.call.Refusal.TheVariants as refusal
 use Rattle.lean_disk.specs.Story.{Story}
-use Rattle.btree_descent.specs.rows_trait.declared.view.View.{View}
-use Rattle.worker_log.specs.Logs.{Log}
+use Rattle.session_state.specs.rows_trait.declared.view.View.{View}
+use Rattle.session_state.specs.worker_log.Logs.{Log}
 use Rattle.row_changes.specs.declared.puts.Tried.{Tried}
 use Rattle.row_changes.specs.declared.puts.Tried.TheVariants as tried
 use Rattle.session_state.specs.declared.session.Session.{Session}

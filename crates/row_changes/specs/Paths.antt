@@ -4,12 +4,12 @@ use Rattle.page_model.specs.Limits.{leaf_room}
 use Rattle.map_model.specs.Lists.{Has}
 use Rattle.page_model.specs.Nodes.{holds}
 use Rattle.page_model.specs.Pairs.{find}
-use Rattle.btree_descent.specs.core_state.States.{Place}
-use Rattle.btree_descent.specs.row_words.Openings.{opening}
-use Rattle.btree_descent.specs.rows_trait.declared.view.View.{View}
-use Rattle.btree_descent.specs.rows_trait.Views.{state}
-use Rattle.btree_descent.specs.lean_proto.Paths.{above}
-use Rattle.btree_descent.specs.Trails.{IsAbove}
+use Rattle.session_state.specs.core_state.States.{Place}
+use Rattle.session_state.specs.row_words.Openings.{opening}
+use Rattle.session_state.specs.rows_trait.declared.view.View.{View}
+use Rattle.session_state.specs.rows_trait.Views.{state}
+use Rattle.session_state.specs.lean_proto.Paths.{above}
+use Rattle.session_state.specs.btree_descent.Trails.{IsAbove}
 
 -- the leaf of the key is full and has no entry of it
 pub record IsUnfit (v : View) (key leaf : ℕ) : Type 0 where

@@ -3,19 +3,19 @@ use Rattle.std.specs.Prelude.{◌≡◌, ◌<◌, ◌%◌, ◌-◌, ◌^◌, ℕ
 use Rattle.page_model.specs.Limits.{transaction_changes}
 use Rattle.map_model.specs.declared.call.Refusal.{Refusal}
 use Rattle.map_model.specs.declared.call.Refusal.TheVariants as refusal
-use Rattle.btree_descent.specs.core_state.Events as happening
-use Rattle.btree_descent.specs.core_state.Needs.{is_held_by, may, value_in}
-use Rattle.core_calls.specs.Room.{room_takes}
+use Rattle.session_state.specs.core_state.Events as happening
+use Rattle.session_state.specs.core_state.Needs.{is_held_by, may, value_in}
+use Rattle.session_state.specs.core_calls.Room.{room_takes}
 use Rattle.lean_disk.specs.Story.{Story}
-use Rattle.disk_image.specs.log_record.declared.record.Record.{Record}
-use Rattle.btree_descent.specs.row_words.declared.event.Event.TheVariants.{Change}
-use Rattle.btree_descent.specs.row_words.Openings.{opening}
-use Rattle.btree_descent.specs.rows_trait.declared.view.View.{View}
-use Rattle.btree_descent.specs.rows_trait.Views.{state}
-use Rattle.btree_descent.specs.Puts.{change_of}
-use Rattle.worker_log.specs.Calls.{After}
-use Rattle.worker_log.specs.Logs.{Log}
-use Rattle.log_calls.specs.Calls.{StagesOn}
+use Rattle.session_state.specs.log_record.declared.record.Record.{Record}
+use Rattle.session_state.specs.row_words.declared.event.Event.TheVariants.{Change}
+use Rattle.session_state.specs.row_words.Openings.{opening}
+use Rattle.session_state.specs.rows_trait.declared.view.View.{View}
+use Rattle.session_state.specs.rows_trait.Views.{state}
+use Rattle.session_state.specs.btree_descent.Puts.{change_of}
+use Rattle.session_state.specs.worker_log.Calls.{After}
+use Rattle.session_state.specs.worker_log.Logs.{Log}
+use Rattle.session_state.specs.log_calls.Calls.{StagesOn}
 use Rattle.session_state.specs.Staging.{KeepsLog}
 use Rattle.session_state.specs.declared.session.Session.{Session}
 use Rattle.session_state.specs.Undo.{HasRoomToStage}

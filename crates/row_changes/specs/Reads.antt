@@ -1,11 +1,11 @@
 -- What a read of a key behind its lock does, by answer.
 use Rattle.std.specs.Prelude.{◌≡◌, ◌++◌, ℕ, true, [], ◌∷◌, Option, Result, Ok, Err}
-use Rattle.btree_descent.specs.core_state.Events as happening
-use Rattle.btree_descent.specs.core_state.Needs.{may, value_in}
-use Rattle.btree_descent.specs.row_words.declared.event.Event.TheVariants.{Read}
-use Rattle.btree_descent.specs.row_words.Openings.{opening}
-use Rattle.btree_descent.specs.rows_trait.declared.view.View.{View}
-use Rattle.btree_descent.specs.rows_trait.Views.{state}
+use Rattle.session_state.specs.core_state.Events as happening
+use Rattle.session_state.specs.core_state.Needs.{may, value_in}
+use Rattle.session_state.specs.row_words.declared.event.Event.TheVariants.{Read}
+use Rattle.session_state.specs.row_words.Openings.{opening}
+use Rattle.session_state.specs.rows_trait.declared.view.View.{View}
+use Rattle.session_state.specs.rows_trait.Views.{state}
 use Rattle.row_changes.specs.declared.ways.Cold.{Cold}
 use Rattle.row_changes.specs.Ways.{HasMetCold}
 

@@ -2,17 +2,17 @@
 use Rattle.std.specs.Prelude.{◌≡◌, ◌≤◌, ◌^◌, ◌++◌, ℕ, true, [], ◌∷◌, length}
 use Rattle.map_model.specs.declared.call.Refusal.{Refusal}
 use Rattle.map_model.specs.declared.call.Refusal.TheVariants as refusal
-use Rattle.btree_descent.specs.core_state.Needs.{holds_row, is_held_by, may}
-use Rattle.core_calls.specs.Refusals.{Hinders}
-use Rattle.btree_descent.specs.row_words.declared.event.Event.TheVariants.{Lock}
-use Rattle.btree_descent.specs.row_words.Moments.{event_of}
-use Rattle.btree_descent.specs.row_words.Openings.{opening}
-use Rattle.btree_descent.specs.rows_trait.declared.view.View.{View}
-use Rattle.btree_descent.specs.rows_trait.Views.{state}
-use Rattle.key_locks.specs.declared.mode.Mode.{Mode}
-use Rattle.key_locks.specs.declared.mode.Mode.TheVariants.{Alone}
-use Rattle.key_locks.specs.Rows.{core_mode, event_mode}
-use Rattle.flush_avoidance.specs.Clocks.{risen}
+use Rattle.session_state.specs.core_state.Needs.{holds_row, is_held_by, may}
+use Rattle.session_state.specs.core_calls.Refusals.{Hinders}
+use Rattle.session_state.specs.row_words.declared.event.Event.TheVariants.{Lock}
+use Rattle.session_state.specs.row_words.Moments.{event_of}
+use Rattle.session_state.specs.row_words.Openings.{opening}
+use Rattle.session_state.specs.rows_trait.declared.view.View.{View}
+use Rattle.session_state.specs.rows_trait.Views.{state}
+use Rattle.session_state.specs.key_locks.declared.mode.Mode.{Mode}
+use Rattle.session_state.specs.key_locks.declared.mode.Mode.TheVariants.{Alone}
+use Rattle.session_state.specs.key_locks.Rows.{core_mode, event_mode}
+use Rattle.session_state.specs.flush_avoidance.Clocks.{risen}
 use Rattle.session_state.specs.Held.{with_row}
 use Rattle.session_state.specs.declared.session.Session.{Session}
 

@@ -1,10 +1,10 @@
 -- Where a page of a key's way is not hot, so that what goes to its leaf stops there.
 use Rattle.std.specs.Prelude.{◌≡◌, ℕ}
-use Rattle.core_calls.specs.Warms.{IsWarmFrom}
-use Rattle.btree_descent.specs.row_words.Openings.{opening}
-use Rattle.btree_descent.specs.rows_trait.declared.view.View.{View}
-use Rattle.btree_descent.specs.rows_trait.Views.{state}
-use Rattle.btree_descent.specs.Known.{IsCold}
+use Rattle.session_state.specs.core_calls.Warms.{IsWarmFrom}
+use Rattle.session_state.specs.row_words.Openings.{opening}
+use Rattle.session_state.specs.rows_trait.declared.view.View.{View}
+use Rattle.session_state.specs.rows_trait.Views.{state}
+use Rattle.session_state.specs.btree_descent.Known.{IsCold}
 use Rattle.row_changes.specs.declared.ways.Unmade.{Unmade}
 use Rattle.row_changes.specs.declared.ways.Unmade.TheVariants as unmade
 

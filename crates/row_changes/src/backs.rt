@@ -10,13 +10,10 @@ ghost use Rattle.row_changes.specs.declared.ways.Unmade.{Unmade};
 ghost use Rattle.session_state.specs.Undo.{newest_of};
 
 use crate::ways::{Cold, Unmade};
-use btree_descent::draw_trait::draw::Unstaged;
-use btree_descent::lean_proto::path::Path;
-use btree_descent::put::{Put, leaf_put_back};
-use btree_descent::rows_trait;
-use btree_descent::rows_trait::rows::Rows;
 use map_model::Refusal;
-use session_state::{Session, Stages, Undone, Work, next_fits};
+use session_state::{
+    Path, Put, Rows, Session, Stages, Undone, Unstaged, Work, leaf_put_back, next_fits,
+};
 
 // The newest change that is left.
 fn newest_left(session: &Session) -> Undone
@@ -52,8 +49,8 @@ pub fn put_back<R: Rows, D: Stages>(
     ensures cause_lost { (R.view seat.old).given.faithful ≡ true → IsErrAnd result IsLost → ⊥ }
     ensures cause_disk_fault { HasCause (D.faults work.old.disk) (D.faults work.new.disk) (result ≡ Err (Unmade.Refused Refusal.DiskFault)) }
 {
-    core_calls::every_room();
-    rows_trait::every_low();
+    session_state::every_room();
+    session_state::every_low();
     next_fits(rows, seat);
     let undone = newest_left(&work.session);
     let frames = work.session.frames;

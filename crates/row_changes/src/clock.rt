@@ -1,6 +1,6 @@
 // Where the clock of a session ends.
 ghost use Rattle.std.specs.Prelude.{None, ◌≡◌};
-ghost use Rattle.engine_trait.specs.Refusals.{clock_refusal};
+ghost use Rattle.session_state.specs.engine_trait.Refusals.{clock_refusal};
 
 use map_model::Refusal;
 use session_state::Session;

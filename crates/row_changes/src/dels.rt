@@ -9,13 +9,8 @@ ghost use Rattle.row_changes.specs.Ways.{IsCut, IsWarm};
 ghost use Rattle.row_changes.specs.declared.ways.Unmade.{Unmade};
 
 use crate::ways::{Cold, Unmade};
-use btree_descent::del::{Del, leaf_del};
-use btree_descent::draw_trait::draw::Unstaged;
-use btree_descent::lean_proto::path::Path;
-use btree_descent::rows_trait;
-use btree_descent::rows_trait::rows::Rows;
 use map_model::Refusal;
-use session_state::{Stages, Work, next_fits};
+use session_state::{Del, Path, Rows, Stages, Unstaged, Work, leaf_del, next_fits};
 
 /// The value of the key, whose row is held, is taken away, if it has one.
 pub fn del_held<R: Rows, D: Stages>(
@@ -37,8 +32,8 @@ pub fn del_held<R: Rows, D: Stages>(
     ensures cause_cold { IsWarm (R.view seat.old) key → IsErrAnd result IsCut → ⊥ }
     ensures cause_disk_fault { HasCause (D.faults work.old.disk) (D.faults work.new.disk) (result ≡ Err (Unmade.Refused Refusal.DiskFault)) }
 {
-    core_calls::every_room();
-    rows_trait::every_low();
+    session_state::every_room();
+    session_state::every_low();
     next_fits(rows, seat);
     let frames = work.session.frames;
     let mut path = Path::new();

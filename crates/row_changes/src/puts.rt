@@ -12,14 +12,8 @@ ghost use Rattle.row_changes.specs.declared.ways.Unmade.{Unmade};
 
 use crate::reads::value_of;
 use crate::ways::{Cold, Unmade};
-use btree_descent::descent::TOMBSTONE;
-use btree_descent::draw_trait::draw::Unstaged;
-use btree_descent::lean_proto::path::Path;
-use btree_descent::put::{Put, leaf_put};
-use btree_descent::rows_trait;
-use btree_descent::rows_trait::rows::Rows;
 use map_model::Refusal;
-use session_state::{Stages, Work, next_fits};
+use session_state::{Path, Put, Rows, Stages, TOMBSTONE, Unstaged, Work, leaf_put, next_fits};
 
 // The word that a key had, which is a tombstone's where it had none.
 fn word_of(before: Option<u64>) -> u64
@@ -61,8 +55,8 @@ pub fn put_in_leaf<R: Rows, D: Stages>(
     ensures cause_cold { IsWarm (R.view seat.old) key → IsErrAnd result IsCut → ⊥ }
     ensures cause_disk_fault { HasCause (D.faults work.old.disk) (D.faults work.new.disk) (result ≡ Err (Unmade.Refused Refusal.DiskFault)) }
 {
-    core_calls::every_room();
-    rows_trait::every_low();
+    session_state::every_room();
+    session_state::every_low();
     next_fits(rows, seat);
     let frames = work.session.frames;
     match leaf_put(rows, seat, work.session.own, frames, key, value, path, work) {

@@ -1,18 +1,15 @@
 // The reading of a key behind its lock.
 ghost use Rattle.std.specs.Prelude.{◌≡◌, ◌<◌, ◌-◌, ◌^◌, ◌%◌, IsErr, true};
-ghost use Rattle.btree_descent.specs.core_state.Needs.{holds_row};
-ghost use Rattle.btree_descent.specs.rows_trait.Views.{state};
-ghost use Rattle.btree_descent.specs.Known.{said};
+ghost use Rattle.session_state.specs.core_state.Needs.{holds_row};
+ghost use Rattle.session_state.specs.rows_trait.Views.{state};
+ghost use Rattle.session_state.specs.btree_descent.Known.{said};
 ghost use Rattle.session_state.specs.Holds.{Holds};
 ghost use Rattle.session_state.specs.Staging.{IsButClock};
 ghost use Rattle.row_changes.specs.Reads.{Reads};
 ghost use Rattle.row_changes.specs.Ways.{IsWarm};
 
 use crate::ways::Cold;
-use btree_descent::descent::{Answer, TOMBSTONE, find};
-use btree_descent::rows_trait::rows::Rows;
-use session_state::Session;
-use worker_log::WorkerLog;
+use session_state::{Answer, Rows, Session, TOMBSTONE, WorkerLog, find};
 
 // What a word tells: a tombstone is no value.
 pub(crate) fn value_of(word: Option<u64>) -> Option<u64>

@@ -1,18 +1,15 @@
 // The taking of a lock row.
 ghost use Rattle.std.specs.Prelude.{◌≡◌, ◌<◌, ◌%◌, true, IfErr, OnOk};
-ghost use Rattle.btree_descent.specs.core_state.Needs.{is_reader};
-ghost use Rattle.key_locks.specs.declared.mode.Mode.TheVariants as mode;
+ghost use Rattle.session_state.specs.core_state.Needs.{is_reader};
+ghost use Rattle.session_state.specs.key_locks.declared.mode.Mode.TheVariants as mode;
 ghost use Rattle.map_model.specs.declared.call.Refusal.{Refusal};
 ghost use Rattle.session_state.specs.Holds.{Holds};
 ghost use Rattle.row_changes.specs.Takes.{IsSpent, NotTaken, Takes};
 
-use btree_descent::rows_trait;
-use btree_descent::rows_trait::rows::Rows;
-use key_locks::locking::{Refusal as Unlocked, RowSpent, lock_again, lock_row, row_of};
-use key_locks::mode::Mode;
 use map_model::Refusal;
-use session_state::Session;
-use worker_log::WorkerLog;
+use session_state::{
+    Mode, Refusal as Unlocked, RowSpent, Rows, Session, WorkerLog, lock_again, lock_row, row_of,
+};
 
 // Takes a lock row, whether the session has it already or not, and meets what the row tells.
 fn take_first<R: Rows>(
@@ -32,7 +29,7 @@ fn take_first<R: Rows>(
     ensures taken { OnOk result (Takes (R.view seat.old) (R.view seat.new) session.old session.new row mode) }
     ensures not_taken { IfErr result (λ why. NotTaken why (R.view seat.old) (R.view seat.new) session.old.own row mode × (session.new ≡ session.old)) }
 {
-    rows_trait::every_low();
+    session_state::every_low();
     let count = session.held.count();
     match lock_row(rows, seat, session.own, session.frames, count, row, mode) {
         Ok(stamp) => {
@@ -73,7 +70,7 @@ fn take_again<R: Rows>(
     ensures taken { OnOk result (Takes (R.view seat.old) (R.view seat.new) session.now session.now row mode.Shared) }
     ensures spent { IfErr result (λ why. (why ≡ Refusal.RowSpent) × IsSpent (R.view seat.old) (R.view seat.new)) }
 {
-    rows_trait::every_low();
+    session_state::every_low();
     let count = session.held.count();
     match lock_again(
         rows,

@@ -6,8 +6,7 @@ ghost use Rattle.row_crashes.specs.Left.{AnyMomentLeft, ripe_events};
 ghost use Rattle.row_crashes.specs.Row.{AnyMoment, AnyMomentLives, Carries};
 
 use crate::records::{ABORT, CHANGE_5, CHANGE_6, CHANGE_6_AGAIN, COMMIT, PUT_BACK_6};
-use disk_runs::core_disk;
-use disk_runs::worker_log::{DiskFault, Staging, WorkerLog};
+use disk_runs::{DiskFault, Staging, WorkerLog};
 use lean_disk::Disk;
 use log_calls::{flush, stage, stage_end};
 
@@ -36,8 +35,8 @@ pub fn flush_first<D: Disk>(disk: &mut D, first: &mut WorkerLog) -> Result<u64, 
     ensures stands { OnOk result ((second : Log) → Carries events ripe_events first.old second first.new second (D.story disk.old) (D.story disk.new)) }
     ensures any_moment { (second : Log) → AnyMomentLeft first.old second (D.story disk.old) (D.story disk.new) }
 {
-    core_disk::every_version();
-    core_disk::every_held();
+    disk_runs::every_version();
+    disk_runs::every_held();
     flush(disk, first, 1)
 }
 
@@ -48,7 +47,7 @@ fn change_first<D: Disk>(disk: &mut D, first: &mut WorkerLog) -> Result<(), Stag
     ensures stands { OnOk result ((second : Log) → Carries [] (take 3 events) first.old second first.new second (D.story disk.old) (D.story disk.new)) }
     ensures any_moment { (second : Log) → AnyMoment [] first.old second (D.story disk.old) (D.story disk.new) }
 {
-    core_disk::every_version();
+    disk_runs::every_version();
     stage(disk, first, 1, &CHANGE_5)
 }
 
@@ -59,7 +58,7 @@ fn abort_second<D: Disk>(disk: &mut D, second: &mut WorkerLog) -> Result<(), Sta
     ensures stands { OnOk result ((first : Log) → Carries (take 3 events) (take 9 events) first second.old first second.new (D.story disk.old) (D.story disk.new)) }
     ensures any_moment { (first : Log) → AnyMoment (take 3 events) first second.old (D.story disk.old) (D.story disk.new) }
 {
-    core_disk::every_version();
+    disk_runs::every_version();
     stage(disk, second, 2, &CHANGE_6)?;
     stage(disk, second, 2, &PUT_BACK_6)?;
     match stage_end(disk, second, 2, &ABORT) {
@@ -74,7 +73,7 @@ fn commit_second<D: Disk>(disk: &mut D, second: &mut WorkerLog) -> Result<(), St
     ensures stands { OnOk result ((first : Log) → Carries (take 9 events) events first second.old first second.new (D.story disk.old) (D.story disk.new)) }
     ensures any_moment { (first : Log) → AnyMoment (take 9 events) first second.old (D.story disk.old) (D.story disk.new) }
 {
-    core_disk::every_version();
+    disk_runs::every_version();
     stage(disk, second, 2, &CHANGE_6_AGAIN)?;
     match stage_end(disk, second, 2, &COMMIT) {
         Ok(()) => flush_second(disk, second),
@@ -87,7 +86,7 @@ fn flush_second<D: Disk>(disk: &mut D, second: &mut WorkerLog) -> Result<(), Sta
     ensures stands { OnOk result ((first : Log) → Carries (take 14 events) events first second.old first second.new (D.story disk.old) (D.story disk.new)) }
     ensures any_moment { (first : Log) → AnyMoment (take 14 events) first second.old (D.story disk.old) (D.story disk.new) }
 {
-    core_disk::every_version();
+    disk_runs::every_version();
     match flush(disk, second, 2) {
         Ok(_) => Ok(()),
         Err(_) => Err(Staging::DiskFault),

@@ -3,11 +3,7 @@ ghost use Rattle.std.specs.Prelude.{◌≡◌, ◌<◌, ◌≤◌, ◌^◌, leng
 ghost use Rattle.recovery_scan.specs.Scans.{AreOfLogs};
 ghost use Rattle.disk_runs.specs.master_store.Masters.{IsOfSlot};
 
-use disk_runs::btree_node::Node;
-use disk_runs::disk_slots::{Heads, Master};
-use disk_runs::master_store::{choose, write_next};
-use disk_runs::page_store;
-use disk_runs::page_store::{fetch, save};
+use disk_runs::{Heads, Master, Node, choose, fetch, save, write_next};
 use lean_disk::{AreaOf, Did, Disk, MemDisk};
 use log_index::LogIndex;
 use recovery_redo::{Failed, Outcome, recover_pages};
@@ -128,8 +124,8 @@ fn page_of<D: Disk>(disk: &mut D, master: &Master, page: u32) -> Result<Node, St
 {
     match fetch(&mut AreaOf::new(disk, 1), master, page) {
         Ok(base) => Ok(base.node),
-        Err(page_store::Unread::Damaged) => Err(Stop::Damaged),
-        Err(page_store::Unread::DiskFault) => Err(Stop::DiskFault),
+        Err(disk_runs::Unread::Damaged) => Err(Stop::Damaged),
+        Err(disk_runs::Unread::DiskFault) => Err(Stop::DiskFault),
     }
 }
 

@@ -2,7 +2,6 @@
 ghost use Rattle.row_crashes.specs.Left.{EveryLeft};
 ghost use Rattle.row_crashes.specs.Row.{EveryBegun, RowOpens};
 
-use disk_runs::core_disk;
 use lean_disk::Disk;
 
 /// An opening from which the row begins, of as many pages as a fresh disk may have.
@@ -21,5 +20,5 @@ pub fn every_begun<D: Disk>(now: &D)
 pub fn every_left()
     ensures { EveryLeft }
 {
-    core_disk::every_held();
+    disk_runs::every_held();
 }

@@ -1,6 +1,6 @@
 // The records of the row, by hand from its events. A leaf has the number of the change before; the ends of worker 2 need log 1's
 // number, which its leaf had.
-use disk_runs::log_record::{Body, PageRef, Record};
+use disk_runs::{Body, PageRef, Record};
 
 /// The word of an absent key.
 pub(crate) const TOMBSTONE: u64 = 9223372036854775808;

@@ -4,8 +4,7 @@ ghost use Rattle.disk_runs.specs.log_record.Spelling.{BodyFits, Fits};
 
 use crate::carry;
 use crate::disks::{fresh_disk, read_back};
-use disk_runs::log_record::{Body, PageRef, Record};
-use disk_runs::worker_log::WorkerLog;
+use disk_runs::{Body, PageRef, Record, WorkerLog};
 use lean_disk::{AreaOf, Choice, MemDisk, Part};
 use std::alloc::{AllocError, Global};
 use std::process::Abort;

@@ -8,25 +8,25 @@ use Rattle.map_model.specs.Lists.{Has, upd}
 use Rattle.rfa_model.specs.Reaches.{least}
 use Rattle.rfa_model.specs.Stamps.{debt_at_begin}
 use Rattle.rfa_model.proofs.ReachLemmas.{least_low}
-use Rattle.lean_proto.specs.core_state.Openings.{Opening}
-use Rattle.lean_proto.specs.core_state.States.{State, flushed_by_all}
-use Rattle.lean_proto.specs.core_state.Events as happening
-use Rattle.lean_proto.specs.core_state.Needs.{may, holds_row}
-use Rattle.lean_proto.specs.core_state.Steps.{begun, happens}
-use Rattle.disk_runs.specs.worker_log.Logs.{Log, used, limit}
-use Rattle.core_calls.specs.LogEvents.{behind as waits}
-use Rattle.lean_proto.specs.row_words.declared.event.Event as event
-use Rattle.lean_proto.specs.row_words.declared.event.Event.TheVariants.{Begin}
-use Rattle.lean_proto.specs.row_words.declared.given.Given.{Given}
-use Rattle.lean_proto.specs.row_words.Moments.{Moment}
-use Rattle.lean_proto.specs.row_words.Openings.{opening}
-use Rattle.lean_proto.specs.row_words.Sealed.{heard, stepped}
-use Rattle.lean_proto.specs.rows_trait.Views.{Shape, after_all, state}
-use Rattle.lean_proto.specs.rows_trait.Turns.{Heard}
-use Rattle.lean_proto.specs.rows_trait.declared.view.View.{View}
-use Rattle.lean_proto.specs.Controls as controls
-use Rattle.engine_trait.specs.Calls.{IsTold}
-use Rattle.engine_trait.specs.Refusals.{log_refusal, refusal_in}
+use Rattle.session_state.specs.core_state.Openings.{Opening}
+use Rattle.session_state.specs.core_state.States.{State, flushed_by_all}
+use Rattle.session_state.specs.core_state.Events as happening
+use Rattle.session_state.specs.core_state.Needs.{may, holds_row}
+use Rattle.session_state.specs.core_state.Steps.{begun, happens}
+use Rattle.session_state.specs.worker_log.Logs.{Log, used, limit}
+use Rattle.session_state.specs.core_calls.LogEvents.{behind as waits}
+use Rattle.session_state.specs.row_words.declared.event.Event as event
+use Rattle.session_state.specs.row_words.declared.event.Event.TheVariants.{Begin}
+use Rattle.session_state.specs.row_words.declared.given.Given.{Given}
+use Rattle.session_state.specs.row_words.Moments.{Moment}
+use Rattle.session_state.specs.row_words.Openings.{opening}
+use Rattle.session_state.specs.row_words.Sealed.{heard, stepped}
+use Rattle.session_state.specs.rows_trait.Views.{Shape, after_all, state}
+use Rattle.session_state.specs.rows_trait.Turns.{Heard}
+use Rattle.session_state.specs.rows_trait.declared.view.View.{View}
+use Rattle.session_state.specs.lean_proto.Controls as controls
+use Rattle.session_state.specs.engine_trait.Calls.{IsTold}
+use Rattle.session_state.specs.engine_trait.Refusals.{log_refusal, refusal_in}
 use Rattle.row_ends.specs.Begins.{Begins, MayBegin}
 use Rattle.row_ends.specs.Flushed.{Looked, flushed_to}
 use Rattle.session_state.specs.Holds.{Holds, IsOf}

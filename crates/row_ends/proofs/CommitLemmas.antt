@@ -3,28 +3,28 @@ use Rattle.std.proofs.Common.{◌≡◌, ◌≤◌, ◌<◌, ◌+◌, ◌^◌, �
 use Rattle.std.proofs.lemmas.Bool.{eq-eqb, le-leb}
 use Rattle.map_model.specs.Lists.{Has, any}
 use Rattle.map_model.proofs.ListLemmas.{upd_same}
-use Rattle.lean_proto.specs.image_model.Entries.{Entry, Kind, is_commit, is_record}
+use Rattle.session_state.specs.image_model.Entries.{Entry, Kind, is_commit, is_record}
 use Rattle.rfa_model.proofs.ReachLemmas.{least_low}
 use Rattle.rfa_model.specs.Reaches.{least}
-use Rattle.lean_proto.specs.core_state.Openings.{Opening}
-use Rattle.lean_proto.specs.core_state.Events as happening
-use Rattle.lean_proto.specs.core_state.States.{Row, State, Worker, flushed_by_all}
-use Rattle.lean_proto.specs.core_state.Needs.{holds_row, may}
-use Rattle.lean_proto.specs.core_state.Steps.{AllMet, end_entry, ends, finished, happens, run, step}
-use Rattle.core_calls.specs.LogEvents as log_events
-use Rattle.engine_calls.specs.Commits.{unlocks}
-use Rattle.engine_calls.proofs.UnlockLemmas.{entries_same, flushed_same, if_met}
-use Rattle.disk_runs.specs.log_record.Spelling.{BodyFits, Fits}
-use Rattle.disk_runs.specs.log_record.declared.record.Body.{Body}
-use Rattle.disk_runs.specs.worker_log.Logs.{Log}
-use Rattle.lean_proto.specs.row_words.declared.event.Event.{Event}
-use Rattle.lean_proto.specs.row_words.declared.event.Event.TheVariants.{End, Flush}
-use Rattle.lean_proto.specs.row_words.declared.given.Given.{Given}
-use Rattle.lean_proto.specs.row_words.Openings.{opening}
-use Rattle.lean_proto.specs.rows_trait.declared.view.View.{View}
-use Rattle.lean_proto.specs.rows_trait.Views.{Shape, after_all, state}
-use Rattle.key_locks.specs.Latching.{is_marked}
-use Rattle.lean_proto.specs.Controls.{CanEnd}
+use Rattle.session_state.specs.core_state.Openings.{Opening}
+use Rattle.session_state.specs.core_state.Events as happening
+use Rattle.session_state.specs.core_state.States.{Row, State, Worker, flushed_by_all}
+use Rattle.session_state.specs.core_state.Needs.{holds_row, may}
+use Rattle.session_state.specs.core_state.Steps.{AllMet, end_entry, ends, finished, happens, run, step}
+use Rattle.session_state.specs.core_calls.LogEvents as log_events
+use Rattle.session_state.specs.engine_calls.Commits.{unlocks}
+use Rattle.session_state.proofs.engine_calls.UnlockLemmas.{entries_same, flushed_same, if_met}
+use Rattle.session_state.specs.log_record.Spelling.{BodyFits, Fits}
+use Rattle.session_state.specs.log_record.declared.record.Body.{Body}
+use Rattle.session_state.specs.worker_log.Logs.{Log}
+use Rattle.session_state.specs.row_words.declared.event.Event.{Event}
+use Rattle.session_state.specs.row_words.declared.event.Event.TheVariants.{End, Flush}
+use Rattle.session_state.specs.row_words.declared.given.Given.{Given}
+use Rattle.session_state.specs.row_words.Openings.{opening}
+use Rattle.session_state.specs.rows_trait.declared.view.View.{View}
+use Rattle.session_state.specs.rows_trait.Views.{Shape, after_all, state}
+use Rattle.session_state.specs.key_locks.Latching.{is_marked}
+use Rattle.session_state.specs.lean_proto.Controls.{CanEnd}
 use Rattle.row_ends.specs.Ends.{AreMine, Ended, Latched, Latching, MayEnd, MayFlush, end_of, gives, waiting_session}
 use Rattle.row_ends.specs.Flushed.{Looked, flushed_to}
 use Rattle.session_state.specs.Holds.{Holds, IsOf}

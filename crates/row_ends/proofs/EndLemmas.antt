@@ -1,23 +1,23 @@
 -- The end of a transaction, at the session's control word, and its rows behind it.
 use Rattle.std.proofs.Common.{◌≡◌, ◌+◌, ℕ, Bool, true, false, List, [], ◌∷◌, ◌++◌, sym, ap, ◌∙◌, subst, arith}
 use Rattle.std.proofs.lemmas.List.{append_assoc}
-use Rattle.lean_proto.specs.core_state.Events as happening
-use Rattle.lean_proto.specs.core_state.States.{State}
-use Rattle.lean_proto.specs.core_state.Needs.{holds_row, may}
-use Rattle.lean_proto.specs.core_state.Steps as core
-use Rattle.lean_proto.specs.core_state.Steps.{AllMet, finished, happens}
-use Rattle.engine_calls.specs.Commits.{unlocks}
-use Rattle.engine_calls.proofs.UnlockLemmas.{if_met}
-use Rattle.lean_proto.specs.row_words.declared.event.Event.TheVariants.{End, Flush}
-use Rattle.lean_proto.specs.row_words.Openings.{opening}
+use Rattle.session_state.specs.core_state.Events as happening
+use Rattle.session_state.specs.core_state.States.{State}
+use Rattle.session_state.specs.core_state.Needs.{holds_row, may}
+use Rattle.session_state.specs.core_state.Steps as core
+use Rattle.session_state.specs.core_state.Steps.{AllMet, finished, happens}
+use Rattle.session_state.specs.engine_calls.Commits.{unlocks}
+use Rattle.session_state.proofs.engine_calls.UnlockLemmas.{if_met}
+use Rattle.session_state.specs.row_words.declared.event.Event.TheVariants.{End, Flush}
+use Rattle.session_state.specs.row_words.Openings.{opening}
 use Rattle.lean_disk.specs.Story.{Story}
-use Rattle.log_calls.specs.Calls.{FlushesOn}
-use Rattle.disk_runs.specs.worker_log.Calls.{flushed_log}
-use Rattle.disk_runs.specs.worker_log.Logs.{Log}
-use Rattle.lean_proto.specs.rows_trait.declared.view.View.{View}
-use Rattle.lean_proto.specs.rows_trait.Views.{Shape, state}
-use Rattle.lean_proto.specs.rows_trait.Turns.{MayTurn, Turned}
-use Rattle.lean_proto.specs.Controls as controls
+use Rattle.session_state.specs.log_calls.Calls.{FlushesOn}
+use Rattle.session_state.specs.worker_log.Calls.{flushed_log}
+use Rattle.session_state.specs.worker_log.Logs.{Log}
+use Rattle.session_state.specs.rows_trait.declared.view.View.{View}
+use Rattle.session_state.specs.rows_trait.Views.{Shape, state}
+use Rattle.session_state.specs.rows_trait.Turns.{MayTurn, Turned}
+use Rattle.session_state.specs.lean_proto.Controls as controls
 use Rattle.row_ends.specs.Ends.{AreHeld, AreMine, Ended, Gave, HasFlushed, MayEnd, MayFlush, gives}
 use Rattle.session_state.specs.declared.session.Session.{Session}
 use Rattle.session_state.proofs.Moments.{acts, goes_seen, goes_state, met_core}

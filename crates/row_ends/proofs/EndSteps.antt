@@ -2,15 +2,15 @@
 use Rattle.std.proofs.Common.{◌≡◌, ◌++◌, ◌==◌, ℕ, Bool, true, List, [], ◌∷◌, refl, sym, subst}
 use Rattle.std.proofs.lemmas.Bool.{and_from}
 use Rattle.map_model.specs.Lists.{all}
-use Rattle.lean_proto.specs.core_state.Steps.{AllMet, step}
+use Rattle.session_state.specs.core_state.Steps.{AllMet, step}
 use Rattle.lean_disk.specs.Story.{Story}
-use Rattle.disk_runs.specs.worker_log.Logs.{Log}
-use Rattle.lean_proto.specs.row_words.declared.event.Event.{Event}
-use Rattle.lean_proto.specs.row_words.declared.event.Event.TheVariants as event
-use Rattle.lean_proto.specs.row_words.Moments.{event_of}
-use Rattle.lean_proto.specs.row_words.Openings.{opening}
-use Rattle.lean_proto.specs.rows_trait.declared.view.View.{View}
-use Rattle.lean_proto.specs.rows_trait.Views.{state}
+use Rattle.session_state.specs.worker_log.Logs.{Log}
+use Rattle.session_state.specs.row_words.declared.event.Event.{Event}
+use Rattle.session_state.specs.row_words.declared.event.Event.TheVariants as event
+use Rattle.session_state.specs.row_words.Moments.{event_of}
+use Rattle.session_state.specs.row_words.Openings.{opening}
+use Rattle.session_state.specs.rows_trait.declared.view.View.{View}
+use Rattle.session_state.specs.rows_trait.Views.{state}
 use Rattle.held_rows.specs.Steps.{AreMisses}
 use Rattle.session_state.specs.declared.session.Session.{Session}
 use Rattle.row_ends.specs.Ends.{Ended, HasFlushed, Missed, gives}

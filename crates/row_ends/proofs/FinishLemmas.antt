@@ -1,11 +1,11 @@
 -- The end of a session whose lock rows are latched, by what was loaded of all logs.
 use Rattle.std.proofs.Common.{◌≡◌, ◌<◌, ◌+◌, ℕ, suc, Bool, true, false, cond, List, length, [], sym, ap, ◌∙◌, subst}
-use Rattle.lean_proto.specs.core_state.States.{flushed_by_all}
+use Rattle.session_state.specs.core_state.States.{flushed_by_all}
 use Rattle.lean_disk.specs.Story.{Story}
-use Rattle.disk_runs.specs.worker_log.Logs.{Log}
-use Rattle.lean_proto.specs.row_words.Openings.{opening}
-use Rattle.lean_proto.specs.rows_trait.declared.view.View.{View}
-use Rattle.lean_proto.specs.rows_trait.Views.{Shape, state}
+use Rattle.session_state.specs.worker_log.Logs.{Log}
+use Rattle.session_state.specs.row_words.Openings.{opening}
+use Rattle.session_state.specs.rows_trait.declared.view.View.{View}
+use Rattle.session_state.specs.rows_trait.Views.{Shape, state}
 use Rattle.row_ends.specs.Ends.{Ended, HasFlushed, Latched, MayEnd, MayFlush, waiting_session}
 use Rattle.row_ends.specs.Flushed.{Looked, flushed_to}
 use Rattle.session_state.specs.Holds.{Holds}

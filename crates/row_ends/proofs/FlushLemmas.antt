@@ -4,12 +4,12 @@ use Rattle.std.proofs.lemmas.Bool.{and_from, cases_eq, cases_lt, cond-true, eq-e
 use Rattle.map_model.specs.Lists.{keep}
 use Rattle.rfa_model.specs.Reaches.{least}
 use Rattle.rfa_model.proofs.ReachLemmas.{least_from, least_low}
-use Rattle.lean_proto.specs.image_model.Entries.{Entry, Kind, is_commit}
-use Rattle.lean_proto.specs.core_state.Events.{Event}
-use Rattle.lean_proto.specs.core_state.Openings.{Opening}
-use Rattle.lean_proto.specs.core_state.States.{State, flushed_by_all}
-use Rattle.lean_proto.specs.core_state.Steps.{end_entry, happens}
-use Rattle.core_calls.specs.LogEvents.{behind}
+use Rattle.session_state.specs.image_model.Entries.{Entry, Kind, is_commit}
+use Rattle.session_state.specs.core_state.Events.{Event}
+use Rattle.session_state.specs.core_state.Openings.{Opening}
+use Rattle.session_state.specs.core_state.States.{State, flushed_by_all}
+use Rattle.session_state.specs.core_state.Steps.{end_entry, happens}
+use Rattle.session_state.specs.core_calls.LogEvents.{behind}
 use Rattle.row_ends.specs.Flushed.{flushed_to}
 
 -- ## The least number

@@ -2,8 +2,8 @@
 use Rattle.std.proofs.Common.{◌≡◌, ◌⊎◌, inl, inr, Bool, true, false, cond, Option, None, Some, refl, ◌∙◌, true≢false}
 use Rattle.map_model.specs.declared.call.Refusal.{Refusal}
 use Rattle.map_model.specs.declared.call.Refusal.TheVariants as refusal
-use Rattle.lean_proto.specs.core_state.States.{State}
-use Rattle.engine_trait.specs.Refusals.{in_transaction}
+use Rattle.session_state.specs.core_state.States.{State}
+use Rattle.session_state.specs.engine_trait.Refusals.{in_transaction}
 use Rattle.row_ends.specs.Tests.{call_test, is_going}
 use Rattle.session_state.specs.declared.session.Session.{Session}
 

@@ -6,31 +6,31 @@ use Rattle.std.proofs.Math.Nat.{mod-eq_of_lt}
 use Rattle.std.proofs.Math.Seq.{drop-length}
 use Rattle.map_model.specs.Lists.{Has, keep}
 use Rattle.map_model.proofs.ListLemmas.{upd_same, upd_other}
-use Rattle.lean_proto.specs.core_state.Events as happening
-use Rattle.lean_proto.specs.core_state.States.{Row, State}
-use Rattle.lean_proto.specs.core_state.Openings.{Opening}
-use Rattle.lean_proto.specs.core_state.Needs.{holds_row, is_held_by, is_reader, may}
-use Rattle.lean_proto.specs.core_state.Steps as core
-use Rattle.lean_proto.specs.core_state.Steps.{AllMet, happens, unlocked}
-use Rattle.lean_proto.proofs.core_state_lemmas.Runs.{run_more}
-use Rattle.engine_calls.specs.Commits.{unlocks}
-use Rattle.engine_calls.proofs.MarkLemmas.{met_join}
-use Rattle.engine_calls.proofs.UnlockLemmas.{if_met}
-use Rattle.lean_proto.specs.row_words.declared.event.Event.{Event}
-use Rattle.lean_proto.specs.row_words.declared.event.Event.TheVariants.{Miss, Unlock}
-use Rattle.lean_proto.specs.row_words.Moments.{events_of}
-use Rattle.lean_proto.specs.row_words.Openings.{opening}
-use Rattle.lean_proto.specs.rows_trait.declared.view.Hold.{Hold}
-use Rattle.lean_proto.specs.rows_trait.declared.view.View.{View}
-use Rattle.lean_proto.specs.rows_trait.Causes.{EveryLow}
-use Rattle.lean_proto.specs.rows_trait.Views.{Shape, AreLow, holds, state, without}
-use Rattle.lean_proto.specs.rows_trait.Turns.{Ran}
-use Rattle.lean_proto.proofs.rows_trait_lemmas.Holds.{holds_without}
-use Rattle.key_locks.specs.declared.latches.Unlatched.{Unlatched}
-use Rattle.key_locks.specs.declared.latches.Unlatched.TheVariants.{Moved, Latched, RowSpent}
-use Rattle.key_locks.specs.Latching.{AreLatched, IsAlone, IsGivenUp, NotLatched, is_marked}
-use Rattle.key_locks.specs.Rows.{IsWorker, Sized, Spans}
-use Rattle.key_locks.proofs.Masks.{others_not}
+use Rattle.session_state.specs.core_state.Events as happening
+use Rattle.session_state.specs.core_state.States.{Row, State}
+use Rattle.session_state.specs.core_state.Openings.{Opening}
+use Rattle.session_state.specs.core_state.Needs.{holds_row, is_held_by, is_reader, may}
+use Rattle.session_state.specs.core_state.Steps as core
+use Rattle.session_state.specs.core_state.Steps.{AllMet, happens, unlocked}
+use Rattle.session_state.proofs.core_state.Runs.{run_more}
+use Rattle.session_state.specs.engine_calls.Commits.{unlocks}
+use Rattle.session_state.proofs.engine_calls.MarkLemmas.{met_join}
+use Rattle.session_state.proofs.engine_calls.UnlockLemmas.{if_met}
+use Rattle.session_state.specs.row_words.declared.event.Event.{Event}
+use Rattle.session_state.specs.row_words.declared.event.Event.TheVariants.{Miss, Unlock}
+use Rattle.session_state.specs.row_words.Moments.{events_of}
+use Rattle.session_state.specs.row_words.Openings.{opening}
+use Rattle.session_state.specs.rows_trait.declared.view.Hold.{Hold}
+use Rattle.session_state.specs.rows_trait.declared.view.View.{View}
+use Rattle.session_state.specs.rows_trait.Causes.{EveryLow}
+use Rattle.session_state.specs.rows_trait.Views.{Shape, AreLow, holds, state, without}
+use Rattle.session_state.specs.rows_trait.Turns.{Ran}
+use Rattle.session_state.proofs.rows_trait.Holds.{holds_without}
+use Rattle.session_state.specs.key_locks.declared.latches.Unlatched.{Unlatched}
+use Rattle.session_state.specs.key_locks.declared.latches.Unlatched.TheVariants.{Moved, Latched, RowSpent}
+use Rattle.session_state.specs.key_locks.Latching.{AreLatched, IsAlone, IsGivenUp, NotLatched, is_marked}
+use Rattle.session_state.specs.key_locks.Rows.{IsWorker, Sized, Spans}
+use Rattle.session_state.proofs.key_locks.Masks.{others_not}
 use Rattle.held_rows.specs.Steps.{AreMisses}
 use Rattle.row_ends.specs.Ends.{AreAmong, AreHeld, AreMarkedTo, AreMine, Gave, Gives, Giving, Latching, Missed, Missing, gives}
 use Rattle.session_state.specs.Held.{Held}

@@ -2,15 +2,15 @@
 use Rattle.std.proofs.Common.{◌≡◌, ◌↔◌, ◌≤◌, ◌^◌, ℕ, Bool, true, false, List, [], ◌++◌, length, replicate, refl, sym, ap, ◌∙◌, subst, arith, length-append, true≢false}
 use Rattle.std.proofs.lemmas.List.{length-replicate}
 use Rattle.map_model.specs.Lists.{Has}
-use Rattle.lean_proto.specs.core_state.States.{State, flushed_by_all}
-use Rattle.lean_proto.specs.core_state.Needs.{holds_row}
-use Rattle.disk_runs.specs.worker_log.Logs.{Log}
-use Rattle.core_calls.specs.LogEvents as log_events
-use Rattle.lean_proto.specs.row_words.Openings.{opening}
-use Rattle.lean_proto.specs.rows_trait.declared.view.Hold.{Hold}
-use Rattle.lean_proto.specs.rows_trait.declared.view.View.{View}
-use Rattle.lean_proto.specs.rows_trait.Views.{Shape, state}
-use Rattle.key_locks.specs.Latching.{is_marked}
+use Rattle.session_state.specs.core_state.States.{State, flushed_by_all}
+use Rattle.session_state.specs.core_state.Needs.{holds_row}
+use Rattle.session_state.specs.worker_log.Logs.{Log}
+use Rattle.session_state.specs.core_calls.LogEvents as log_events
+use Rattle.session_state.specs.row_words.Openings.{opening}
+use Rattle.session_state.specs.rows_trait.declared.view.Hold.{Hold}
+use Rattle.session_state.specs.rows_trait.declared.view.View.{View}
+use Rattle.session_state.specs.rows_trait.Views.{Shape, state}
+use Rattle.session_state.specs.key_locks.Latching.{is_marked}
 use Rattle.row_ends.specs.Ends.{AreAmong, AreMine, Missed}
 use Rattle.session_state.specs.Holds.{Holds, IsOf}
 use Rattle.session_state.specs.declared.session.Session.{Session}

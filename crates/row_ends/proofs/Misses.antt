@@ -1,17 +1,17 @@
 -- Misses change nothing.
 use Rattle.std.proofs.Common.{◌≡◌, ◌∙◌, true, false, List, [], ◌∷◌, refl}
 use Rattle.map_model.specs.Lists.{all, any}
-use Rattle.lean_proto.specs.core_state.Openings.{Opening}
-use Rattle.lean_proto.specs.core_state.States.{State}
-use Rattle.lean_proto.specs.core_state.Steps.{AllMet}
-use Rattle.core_calls.specs.LogEvents.{is_log}
-use Rattle.core_calls.specs.Steps.{is_step, is_structure}
-use Rattle.disk_runs.specs.Quiet.{is_quiet}
-use Rattle.lean_proto.specs.row_words.declared.event.Event.{Event}
-use Rattle.lean_proto.specs.row_words.declared.event.Event.TheVariants.{Miss}
-use Rattle.lean_proto.specs.row_words.declared.given.Given.{Given}
-use Rattle.lean_proto.specs.row_words.Moments.{Moment, events_of}
-use Rattle.lean_proto.specs.row_words.Sealed as sealed
+use Rattle.session_state.specs.core_state.Openings.{Opening}
+use Rattle.session_state.specs.core_state.States.{State}
+use Rattle.session_state.specs.core_state.Steps.{AllMet}
+use Rattle.session_state.specs.core_calls.LogEvents.{is_log}
+use Rattle.session_state.specs.core_calls.Steps.{is_step, is_structure}
+use Rattle.session_state.specs.disk_runs.Quiet.{is_quiet}
+use Rattle.session_state.specs.row_words.declared.event.Event.{Event}
+use Rattle.session_state.specs.row_words.declared.event.Event.TheVariants.{Miss}
+use Rattle.session_state.specs.row_words.declared.given.Given.{Given}
+use Rattle.session_state.specs.row_words.Moments.{Moment, events_of}
+use Rattle.session_state.specs.row_words.Sealed as sealed
 use Rattle.session_state.proofs.Moments.{met_core}
 use Rattle.held_rows.specs.Steps.{AreMisses}
 

@@ -3,18 +3,18 @@ use Rattle.std.proofs.Common.{◌≡◌, ◌∙◌, ◌≤◌, ◌<◌, ◌+◌,
 use Rattle.map_model.specs.declared.call.Refusal.{Refusal}
 use Rattle.map_model.specs.declared.call.Refusal.TheVariants as refusal
 use Rattle.rfa_model.specs.Stamps.{need_of}
-use Rattle.lean_proto.specs.core_state.States.{flushed_by_all}
+use Rattle.session_state.specs.core_state.States.{flushed_by_all}
 use Rattle.lean_disk.specs.Faults.{HasCause}
 use Rattle.lean_disk.specs.Story.{Story}
-use Rattle.log_calls.specs.Calls.{StagesOn}
-use Rattle.disk_runs.specs.log_record.declared.record.Body.{Body}
-use Rattle.disk_runs.specs.log_record.declared.record.Body.TheVariants as body
-use Rattle.disk_runs.specs.log_record.declared.record.Record.{Record}
-use Rattle.lean_proto.specs.row_words.Openings.{opening}
-use Rattle.lean_proto.specs.rows_trait.declared.view.View.{View}
-use Rattle.lean_proto.specs.rows_trait.Views.{state}
-use Rattle.disk_runs.specs.worker_log.Calls.{After}
-use Rattle.disk_runs.specs.worker_log.Logs.{Log}
+use Rattle.session_state.specs.log_calls.Calls.{StagesOn}
+use Rattle.session_state.specs.log_record.declared.record.Body.{Body}
+use Rattle.session_state.specs.log_record.declared.record.Body.TheVariants as body
+use Rattle.session_state.specs.log_record.declared.record.Record.{Record}
+use Rattle.session_state.specs.row_words.Openings.{opening}
+use Rattle.session_state.specs.rows_trait.declared.view.View.{View}
+use Rattle.session_state.specs.rows_trait.Views.{state}
+use Rattle.session_state.specs.worker_log.Calls.{After}
+use Rattle.session_state.specs.worker_log.Logs.{Log}
 use Rattle.session_state.proofs.OtherLemmas.{every_steps, no_steps}
 use Rattle.session_state.specs.Others.{Steps}
 use Rattle.session_state.specs.Staging.{KeepsLog}

@@ -1,9 +1,9 @@
 -- What an end tells.
 use Rattle.std.proofs.Common.{◌≡◌, ◌+◌, ℕ, Bool, true, List, sym, ◌∙◌}
 use Rattle.rfa_model.specs.Stamps.{need_of}
-use Rattle.lean_proto.specs.rows_trait.Views.{Shape, state}
-use Rattle.lean_proto.specs.rows_trait.declared.view.View.{View}
-use Rattle.disk_runs.specs.worker_log.Logs.{Log}
+use Rattle.session_state.specs.rows_trait.Views.{Shape, state}
+use Rattle.session_state.specs.rows_trait.declared.view.View.{View}
+use Rattle.session_state.specs.worker_log.Logs.{Log}
 use Rattle.row_ends.specs.Ends.{Latched}
 use Rattle.row_ends.specs.Flushed.{flushed_to}
 use Rattle.row_ends.specs.Receipts.{IsEnded}

@@ -1,14 +1,14 @@
 -- A begin: where it may come, and what it did.
 use Rattle.std.specs.Prelude.{◌≡◌, ◌+◌, ◌<◌, ◌^◌, ℕ, suc, true, false, ◌++◌, [], ◌∷◌}
-use Rattle.lean_proto.specs.core_state.Events as happening
-use Rattle.lean_proto.specs.core_state.Needs.{may}
-use Rattle.lean_proto.specs.core_state.States.{flushed_by_all}
-use Rattle.flush_avoidance.specs.Clocks.{after_begin}
-use Rattle.lean_proto.specs.row_words.declared.event.Event.TheVariants.{Begin}
-use Rattle.lean_proto.specs.row_words.Openings.{opening}
-use Rattle.lean_proto.specs.rows_trait.declared.view.View.{View}
-use Rattle.lean_proto.specs.rows_trait.Views.{state}
-use Rattle.disk_runs.specs.worker_log.Logs.{Log, limit, used}
+use Rattle.session_state.specs.core_state.Events as happening
+use Rattle.session_state.specs.core_state.Needs.{may}
+use Rattle.session_state.specs.core_state.States.{flushed_by_all}
+use Rattle.session_state.specs.flush_avoidance.Clocks.{after_begin}
+use Rattle.session_state.specs.row_words.declared.event.Event.TheVariants.{Begin}
+use Rattle.session_state.specs.row_words.Openings.{opening}
+use Rattle.session_state.specs.rows_trait.declared.view.View.{View}
+use Rattle.session_state.specs.rows_trait.Views.{state}
+use Rattle.session_state.specs.worker_log.Logs.{Log, limit, used}
 use Rattle.session_state.specs.declared.session.Session.{Session}
 
 -- ## The session

@@ -1,23 +1,23 @@
 -- The end of a transaction: its lock rows are latched, its end is stored, the rows are given back, and its log is flushed.
 use Rattle.std.specs.Prelude.{◌≡◌, ◌⊎◌, ◌+◌, ◌≤◌, ◌<◌, ◌^◌, ℕ, Bool, true, false, List, [], ◌∷◌, ◌++◌, length, drop}
 use Rattle.map_model.specs.Lists.{Has}
-use Rattle.lean_proto.specs.core_state.Needs.{holds_row, may}
-use Rattle.lean_proto.specs.core_state.Steps.{AllMet, run}
-use Rattle.lean_proto.specs.core_state.Events as happening
-use Rattle.engine_calls.specs.Commits.{unlocks}
-use Rattle.lean_proto.specs.row_words.declared.event.Event.{Event}
-use Rattle.lean_proto.specs.row_words.declared.event.Event.TheVariants.{End, Flush, Unlock}
-use Rattle.lean_proto.specs.row_words.Openings.{opening}
-use Rattle.lean_proto.specs.rows_trait.declared.view.Hold.{Hold}
-use Rattle.lean_proto.specs.rows_trait.declared.view.View.{View}
-use Rattle.lean_proto.specs.rows_trait.Views.{Shape, holds, state}
-use Rattle.key_locks.specs.Latching.{AreLatched, is_marked}
-use Rattle.key_locks.specs.Rows.{Sized}
-use Rattle.lean_proto.specs.Controls.{CanEnd}
+use Rattle.session_state.specs.core_state.Needs.{holds_row, may}
+use Rattle.session_state.specs.core_state.Steps.{AllMet, run}
+use Rattle.session_state.specs.core_state.Events as happening
+use Rattle.session_state.specs.engine_calls.Commits.{unlocks}
+use Rattle.session_state.specs.row_words.declared.event.Event.{Event}
+use Rattle.session_state.specs.row_words.declared.event.Event.TheVariants.{End, Flush, Unlock}
+use Rattle.session_state.specs.row_words.Openings.{opening}
+use Rattle.session_state.specs.rows_trait.declared.view.Hold.{Hold}
+use Rattle.session_state.specs.rows_trait.declared.view.View.{View}
+use Rattle.session_state.specs.rows_trait.Views.{Shape, holds, state}
+use Rattle.session_state.specs.key_locks.Latching.{AreLatched, is_marked}
+use Rattle.session_state.specs.key_locks.Rows.{Sized}
+use Rattle.session_state.specs.lean_proto.Controls.{CanEnd}
 use Rattle.lean_disk.specs.Story.{Story}
-use Rattle.log_calls.specs.Calls.{FlushesOn}
-use Rattle.disk_runs.specs.worker_log.Calls.{flushed_log}
-use Rattle.disk_runs.specs.worker_log.Logs.{Log}
+use Rattle.session_state.specs.log_calls.Calls.{FlushesOn}
+use Rattle.session_state.specs.worker_log.Calls.{flushed_log}
+use Rattle.session_state.specs.worker_log.Logs.{Log}
 use Rattle.held_rows.specs.Steps.{AreMisses}
 use Rattle.session_state.specs.Held.{Held}
 use Rattle.session_state.specs.Holds.{Holds}

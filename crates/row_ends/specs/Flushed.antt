@@ -1,7 +1,7 @@
 -- How far logs are flushed, as a seat loads it.
 use Rattle.std.specs.Prelude.{◌≡◌, ◌-◌, ◌^◌, ℕ, zero, suc, min}
-use Rattle.lean_proto.specs.core_state.States.{State}
-use Rattle.lean_proto.specs.rows_trait.declared.view.View.{View}
+use Rattle.session_state.specs.core_state.States.{State}
+use Rattle.session_state.specs.rows_trait.declared.view.View.{View}
 
 -- the least number up to which logs 1 to n are flushed, or the greatest number of 64 bits
 abbrev pub flushed_to : State → ℕ → ℕ

@@ -1,10 +1,10 @@
 -- What an end of a transaction tells.
 use Rattle.std.specs.Prelude.{◌≡◌}
 use Rattle.rfa_model.specs.Stamps.{need_of}
-use Rattle.lean_proto.specs.core_state.States.{flushed_by_all}
-use Rattle.lean_proto.specs.row_words.Openings.{opening}
-use Rattle.lean_proto.specs.rows_trait.declared.view.View.{View}
-use Rattle.lean_proto.specs.rows_trait.Views.{state}
+use Rattle.session_state.specs.core_state.States.{flushed_by_all}
+use Rattle.session_state.specs.row_words.Openings.{opening}
+use Rattle.session_state.specs.rows_trait.declared.view.View.{View}
+use Rattle.session_state.specs.rows_trait.Views.{state}
 use Rattle.row_ends.specs.declared.ending.Ended.{Ended}
 use Rattle.session_state.specs.declared.session.Session.{Session}
 

@@ -2,8 +2,8 @@
 use Rattle.std.specs.Prelude.{Bool, false, Option, Some, None, if◌then◌else◌}
 use Rattle.map_model.specs.declared.call.Refusal.{Refusal}
 use Rattle.map_model.specs.declared.call.Refusal.TheVariants.{Broken, InTransaction, NoTransaction}
-use Rattle.disk_runs.specs.worker_log.Logs.{Log}
-use Rattle.engine_trait.specs.Refusals.{log_refusal}
+use Rattle.session_state.specs.worker_log.Logs.{Log}
+use Rattle.session_state.specs.engine_trait.Refusals.{log_refusal}
 use Rattle.session_state.specs.declared.session.Session.{Session}
 
 -- why a begin is refused

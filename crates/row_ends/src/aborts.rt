@@ -11,13 +11,9 @@ ghost use Rattle.session_state.specs.Others.{Steps};
 use crate::begins::least_flushed;
 use crate::ending::{Ended, close, end_rows};
 use crate::latching::latch_held;
-use disk_runs::log_record::{Body, Record};
-use disk_runs::worker_log::DiskFault;
-use key_locks::latches::Latches;
 use lean_disk::Disk;
-use lean_proto::rows_trait::rows::Rows;
 use map_model::Refusal;
-use session_state::Work;
+use session_state::{Body, DiskFault, Latches, Record, Rows, Work};
 
 // The end of a session whose changes are put back and whose rows are latched.
 fn finish<R: Rows, D: Disk>(
@@ -41,7 +37,7 @@ fn finish<R: Rows, D: Disk>(
 
     ensures cause_disk_fault { HasCause (D.faults work.old.disk) (D.faults work.new.disk) (IsErr result) }
 {
-    lean_proto::every_turn();
+    session_state::every_turn();
     let own = work.session.own;
     let txn = work.session.txn;
     let number = work.session.clock.clock + 1;
@@ -52,7 +48,7 @@ fn finish<R: Rows, D: Disk>(
         gsn: number,
         body: Body::Abort { need },
     };
-    if let Err(fault) = log_calls::stage_end(&mut work.disk, &mut work.log, own, &entry) {
+    if let Err(fault) = session_state::stage_end(&mut work.disk, &mut work.log, own, &entry) {
         work.session.works = false;
         return Err(fault);
     }

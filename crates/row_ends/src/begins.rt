@@ -3,14 +3,11 @@ ghost use Rattle.std.specs.Prelude.{◌≡◌, ◌≤◌, ◌<◌, ◌^◌, true
 ghost use Rattle.page_model.specs.Limits.{most_sessions};
 ghost use Rattle.row_ends.specs.Begins.{Begins, MayBegin, begun_session};
 ghost use Rattle.row_ends.specs.Flushed.{Looked, flushed_to};
-ghost use Rattle.lean_proto.specs.rows_trait.Views.{state};
+ghost use Rattle.session_state.specs.rows_trait.Views.{state};
 ghost use Rattle.session_state.specs.Holds.{Holds, IsSameSession};
 ghost use Rattle.session_state.specs.Others.{Steps};
 
-use disk_runs::worker_log::WorkerLog;
-use lean_proto::rows_trait::names::{Names, Nothing};
-use lean_proto::rows_trait::rows::Rows;
-use session_state::Session;
+use session_state::{Names, Nothing, Rows, Session, WorkerLog};
 
 // The event of a begin by the session, where other logs are flushed up to `least` and the last one up to the number that is loaded.
 #[derive(Drop)]
@@ -21,7 +18,7 @@ struct Beginning {
 
 impl Names for Beginning {
     ghost use Rattle.std.specs.Prelude.{[], ◌∷◌, min};
-    ghost use Rattle.lean_proto.specs.row_words.declared.event.Event.TheVariants.{Begin};
+    ghost use Rattle.session_state.specs.row_words.declared.event.Event.TheVariants.{Begin};
 
     ghost names = { λ s n. Begin s.own (min s.least n) ∷ [] };
 }
@@ -78,7 +75,7 @@ pub fn begin_tested<R: Rows>(
     ensures steps { Steps session.old.own (R.view seat.old) (R.view seat.new) }
     ensures begins { Begins (R.view seat.old) (R.view seat.new) session.old session.new result }
 {
-    lean_proto::every_begin();
+    session_state::every_begin();
     let own = session.own;
     let workers = session.workers;
     let least = least_flushed(rows, seat, workers - 1);

@@ -12,13 +12,11 @@ ghost use Rattle.session_state.specs.Staging.{KeepsLog};
 use crate::begins::least_flushed;
 use crate::ending::{Ended, close, end_rows};
 use crate::latching::latch_held;
-use disk_runs::log_record::{Body, Record};
-use disk_runs::worker_log::DiskFault;
-use key_locks::latches::Latches;
 use lean_disk::Disk;
-use lean_proto::rows_trait::rows::Rows;
 use map_model::Refusal;
-use session_state::{Flushes, Session, Work, settle, wait_for_flush};
+use session_state::{
+    Body, DiskFault, Flushes, Latches, Record, Rows, Session, Work, settle, wait_for_flush,
+};
 
 // It has ended by a commit, which waits for a flush.
 fn close_by_commit(session: &mut Session, number: u64)
@@ -46,10 +44,10 @@ fn flush_log<R: Rows, D: Disk>(
 
     ensures cause_disk_fault { HasCause (D.faults work.old.disk) (D.faults work.new.disk) (IsErr result) }
 {
-    lean_proto::every_turn();
+    session_state::every_turn();
     let own = work.session.own;
     let number = work.session.clock.clock;
-    if let Err(fault) = log_calls::flush(&mut work.disk, &mut work.log, own) {
+    if let Err(fault) = session_state::flush(&mut work.disk, &mut work.log, own) {
         work.session.works = false;
         return Err(fault);
     }
@@ -79,7 +77,7 @@ fn finish<R: Rows, D: Disk>(
 
     ensures cause_disk_fault { HasCause (D.faults work.old.disk) (D.faults work.new.disk) (IsErr result) }
 {
-    lean_proto::every_turn();
+    session_state::every_turn();
     let own = work.session.own;
     let txn = work.session.txn;
     let number = work.session.clock.clock + 1;
@@ -90,7 +88,7 @@ fn finish<R: Rows, D: Disk>(
         gsn: number,
         body: Body::Commit { need },
     };
-    if let Err(fault) = log_calls::stage_end(&mut work.disk, &mut work.log, own, &entry) {
+    if let Err(fault) = session_state::stage_end(&mut work.disk, &mut work.log, own, &entry) {
         work.session.works = false;
         return Err(fault);
     }

@@ -3,10 +3,7 @@ ghost use Rattle.std.specs.Prelude.{◌≡◌, ◌+◌, length, replicate, false
 ghost use Rattle.row_ends.specs.Ends.{Ended as HasEnded, MayEnd, ended_session};
 
 use crate::latching::unlock_rows;
-use key_locks::latches::Latches;
-use lean_proto::rows_trait::names::Names;
-use lean_proto::rows_trait::rows::Rows;
-use session_state::Session;
+use session_state::{Latches, Names, Rows, Session};
 
 /// The number of the transaction, that of its end, and up to which number all logs are to be flushed for it, 0 where it owes the others nothing.
 #[derive(Clone, Copy, Debug, PartialEq, Eq)]
@@ -26,7 +23,7 @@ struct Ends {
 
 impl Names for Ends {
     ghost use Rattle.std.specs.Prelude.{[], ◌∷◌};
-    ghost use Rattle.lean_proto.specs.row_words.declared.event.Event.TheVariants.{End};
+    ghost use Rattle.session_state.specs.row_words.declared.event.Event.TheVariants.{End};
 
     ghost names = { λ s _. End s.own s.commit s.floor ∷ [] };
 }
@@ -48,7 +45,7 @@ pub(crate) fn end_rows<R: Rows>(
     ensures unmarked { latches.new ≡ replicate session.now.held.count false }
     ensures ended { HasEnded session.now.own (length session.now.held.rows) (R.view seat.old) commit floor (R.view seat.new) }
 {
-    lean_proto::every_turn();
+    session_state::every_turn();
     let own = session.own;
     rows.store_control(seat, own, 1, number, &Ends { own, commit, floor });
     unlock_rows(rows, seat, session, latches, number);

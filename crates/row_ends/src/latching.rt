@@ -1,18 +1,14 @@
 // The latches of the lock rows that a session holds, around its end.
 ghost use Rattle.std.specs.Prelude.{◌≡◌, ◌≤◌, ◌^◌, ℕ, true, false, length, replicate};
 ghost use Rattle.map_model.specs.Lists.{Has};
-ghost use Rattle.lean_proto.specs.rows_trait.Views.{state};
-ghost use Rattle.key_locks.specs.Latching.{is_marked};
-ghost use Rattle.key_locks.specs.Rows.{Sized, Spans};
+ghost use Rattle.session_state.specs.rows_trait.Views.{state};
+ghost use Rattle.session_state.specs.key_locks.Latching.{is_marked};
+ghost use Rattle.session_state.specs.key_locks.Rows.{Sized, Spans};
 ghost use Rattle.row_ends.specs.Ends.{AreAmong, AreHeld, AreMine, Gave, Latched, Latching, Missed};
 ghost use Rattle.row_ends.specs.Outcomes.{IsLatched};
 ghost use Rattle.session_state.specs.Holds.{Holds};
 
-use disk_runs::worker_log::WorkerLog;
-use key_locks::latches::Latches;
-use lean_proto::rows_trait;
-use lean_proto::rows_trait::rows::Rows;
-use session_state::{HeldRows, Session, next_fits};
+use session_state::{HeldRows, Latches, Rows, Session, WorkerLog, next_fits};
 
 // Latches the lock rows that the session holds, as they stand, until one is found whose latch has come to its end. Whether all are latched.
 fn latch_rows<R: Rows>(
@@ -31,7 +27,7 @@ fn latch_rows<R: Rows>(
     ensures all { result ≡ true → (i : ℕ) → Has i session.now.held.rows → is_marked latches.new i ≡ true }
     ensures spent { result ≡ false → 2 ^ 61 ≤ length (R.view seat.new).seen }
 {
-    rows_trait::every_low();
+    session_state::every_low();
     let held = &session.held;
     for at in 0..held.len() {
         let row = held.row(at);

@@ -1,11 +1,10 @@
 // What a session asks of itself before a begin, an end, or any call within a transaction.
 ghost use Rattle.std.specs.Prelude.{None, ◌≡◌};
-ghost use Rattle.engine_trait.specs.Refusals.{log_refusal};
+ghost use Rattle.session_state.specs.engine_trait.Refusals.{log_refusal};
 ghost use Rattle.row_ends.specs.Tests.{abort_test, begin_test, call_test, is_going};
 
-use disk_runs::worker_log::WorkerLog;
 use map_model::Refusal;
-use session_state::Session;
+use session_state::{Session, WorkerLog};
 
 // Where the clock of a session ends: no number is drawn from there on.
 const CLOCK_END: u64 = 1 << 62;

@@ -4,17 +4,17 @@ use Rattle.map_model.specs.Lists.{Has}
 use Rattle.map_model.specs.declared.call.Refusal.{Refusal}
 use Rattle.map_model.specs.declared.call.Refusal.TheVariants as refusal
 use Rattle.page_model.specs.Nodes.{Node}
-use Rattle.btree_descent.specs.core_state.States.{nodes_of}
-use Rattle.core_calls.specs.Room.{EveryRoom}
-use Rattle.btree_descent.specs.draw_trait.declared.draw.Unstaged.{Unstaged}
-use Rattle.btree_descent.specs.draw_trait.declared.draw.Unstaged.TheVariants.{DiskFault, LogFull}
+use Rattle.session_state.specs.core_state.States.{nodes_of}
+use Rattle.session_state.specs.core_calls.Room.{EveryRoom}
+use Rattle.session_state.specs.draw_trait.declared.draw.Unstaged.{Unstaged}
+use Rattle.session_state.specs.draw_trait.declared.draw.Unstaged.TheVariants.{DiskFault, LogFull}
 use Rattle.lean_disk.specs.Faults.{HasCause}
 use Rattle.lean_disk.specs.Story.{Story}
-use Rattle.disk_image.specs.log_record.declared.record.Record.{Record}
-use Rattle.worker_log.specs.Logs.{Log}
-use Rattle.btree_descent.specs.row_words.Openings.{opening}
-use Rattle.btree_descent.specs.rows_trait.Views.{Shape, state}
-use Rattle.btree_descent.specs.rows_trait.declared.view.View.{View}
+use Rattle.session_state.specs.log_record.declared.record.Record.{Record}
+use Rattle.session_state.specs.worker_log.Logs.{Log}
+use Rattle.session_state.specs.row_words.Openings.{opening}
+use Rattle.session_state.specs.rows_trait.Views.{Shape, state}
+use Rattle.session_state.specs.rows_trait.declared.view.View.{View}
 use Rattle.btree_smo.specs.Outcomes.{Drew, IsSpentIn}
 use Rattle.btree_smo.specs.declared.outcome.Outcome.{Outcome}
 use Rattle.btree_smo.specs.declared.outcome.Outcome.TheVariants as outcome

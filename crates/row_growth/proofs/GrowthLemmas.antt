@@ -4,35 +4,35 @@ use Rattle.map_model.specs.Lists.{Has, keep}
 use Rattle.map_model.proofs.ListLemmas.{upd_same}
 use Rattle.page_model.specs.Records as records
 use Rattle.page_model.specs.Tree.{IsTree}
-use Rattle.disk_image.specs.image_model.Entries.{Entry, Kind, is_commit}
-use Rattle.btree_descent.specs.core_state.Needs.{holds_row, may}
-use Rattle.btree_descent.specs.core_state.Openings.{Opening}
-use Rattle.btree_descent.specs.core_state.States.{Place, State, Worker, in_frame, nodes_of}
-use Rattle.btree_descent.specs.core_state.Steps.{at_pages, happens, moves, page_entry, records_in}
-use Rattle.core_calls.specs.LogEvents.{behind}
-use Rattle.core_calls.specs.Warms.{IsWarmFrom}
-use Rattle.core_calls.specs.Room.{free_list, room_takes}
+use Rattle.session_state.specs.image_model.Entries.{Entry, Kind, is_commit}
+use Rattle.session_state.specs.core_state.Needs.{holds_row, may}
+use Rattle.session_state.specs.core_state.Openings.{Opening}
+use Rattle.session_state.specs.core_state.States.{Place, State, Worker, in_frame, nodes_of}
+use Rattle.session_state.specs.core_state.Steps.{at_pages, happens, moves, page_entry, records_in}
+use Rattle.session_state.specs.core_calls.LogEvents.{behind}
+use Rattle.session_state.specs.core_calls.Warms.{IsWarmFrom}
+use Rattle.session_state.specs.core_calls.Room.{free_list, room_takes}
 use Rattle.lean_disk.specs.Story.{Story}
-use Rattle.disk_image.specs.log_record.declared.record.Record.{Record}
-use Rattle.disk_image.specs.Records.{entry_of}
-use Rattle.worker_log.specs.Logs.{Log}
-use Rattle.btree_descent.specs.row_words.declared.event.Event.{Event}
-use Rattle.btree_descent.specs.row_words.declared.event.Event.TheVariants as event
-use Rattle.btree_descent.specs.row_words.declared.given.Given.{Given}
-use Rattle.btree_descent.specs.row_words.Moments.{Moment, event_of}
-use Rattle.btree_descent.specs.row_words.Openings.{opening}
-use Rattle.btree_descent.specs.row_words.Sealed.{begun}
-use Rattle.btree_descent.proofs.row_words_lemmas.SealedLemmas.{run_append}
-use Rattle.btree_descent.specs.rows_trait.Causes.{EveryLow}
-use Rattle.btree_descent.specs.rows_trait.Views.{AreLow, Shape, after_all, state}
-use Rattle.btree_descent.specs.rows_trait.declared.view.View.{View}
-use Rattle.btree_descent.specs.Known.{Sound}
-use Rattle.btree_descent.specs.Puts.{Onward, clock_in}
+use Rattle.session_state.specs.log_record.declared.record.Record.{Record}
+use Rattle.session_state.specs.disk_image.Records.{entry_of}
+use Rattle.session_state.specs.worker_log.Logs.{Log}
+use Rattle.session_state.specs.row_words.declared.event.Event.{Event}
+use Rattle.session_state.specs.row_words.declared.event.Event.TheVariants as event
+use Rattle.session_state.specs.row_words.declared.given.Given.{Given}
+use Rattle.session_state.specs.row_words.Moments.{Moment, event_of}
+use Rattle.session_state.specs.row_words.Openings.{opening}
+use Rattle.session_state.specs.row_words.Sealed.{begun}
+use Rattle.session_state.proofs.row_words.SealedLemmas.{run_append}
+use Rattle.session_state.specs.rows_trait.Causes.{EveryLow}
+use Rattle.session_state.specs.rows_trait.Views.{AreLow, Shape, after_all, state}
+use Rattle.session_state.specs.rows_trait.declared.view.View.{View}
+use Rattle.session_state.specs.btree_descent.Known.{Sound}
+use Rattle.session_state.specs.btree_descent.Puts.{Onward, clock_in}
 use Rattle.btree_smo.specs.Outcomes.{Caused, Changed, IsHotIn, Missed, WasSo}
 use Rattle.btree_smo.specs.declared.outcome.Outcome.TheVariants.{RowSpent}
-use Rattle.engine_trait.specs.Refusals.{room_refusal}
-use Rattle.engine_trait.specs.Rooms.{IsNextRoom}
-use Rattle.flush_avoidance.specs.Clocks.{risen}
+use Rattle.session_state.specs.engine_trait.Refusals.{room_refusal}
+use Rattle.session_state.specs.engine_trait.Rooms.{IsNextRoom}
+use Rattle.session_state.specs.flush_avoidance.Clocks.{risen}
 use Rattle.session_state.specs.Free.{without_first}
 use Rattle.session_state.specs.Holds.{AreNumbers, Holds, IsOf}
 use Rattle.row_changes.specs.Puts.{MayChange}

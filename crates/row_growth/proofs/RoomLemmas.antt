@@ -10,26 +10,26 @@ use Rattle.page_model.specs.Nodes.{Node, covers, holds, is_leaf}
 use Rattle.page_model.specs.Pairs.{Span, find, spans}
 use Rattle.page_model.specs.Redo.{has_key, is_some}
 use Rattle.page_model.specs.Tree.{Names}
-use Rattle.btree_descent.specs.core_state.Needs.{is_held_by, may}
-use Rattle.btree_descent.specs.core_state.Openings.{Opening}
-use Rattle.btree_descent.specs.core_state.States.{Place, State, in_frame, nodes_of}
-use Rattle.btree_descent.specs.core_state.Steps.{happens}
-use Rattle.core_calls.specs.Warms.{IsWarmFrom}
-use Rattle.core_calls.specs.Room.{EveryRoom, IsWay, full_run, is_all_full, room_takes}
+use Rattle.session_state.specs.core_state.Needs.{is_held_by, may}
+use Rattle.session_state.specs.core_state.Openings.{Opening}
+use Rattle.session_state.specs.core_state.States.{Place, State, in_frame, nodes_of}
+use Rattle.session_state.specs.core_state.Steps.{happens}
+use Rattle.session_state.specs.core_calls.Warms.{IsWarmFrom}
+use Rattle.session_state.specs.core_calls.Room.{EveryRoom, IsWay, full_run, is_all_full, room_takes}
 use Rattle.lean_disk.specs.Story.{Story}
-use Rattle.disk_image.specs.Records.{entry_of}
-use Rattle.worker_log.specs.Logs.{Log}
-use Rattle.btree_descent.specs.row_words.Moments.{Moment, event_of}
-use Rattle.btree_descent.specs.row_words.Openings.{opening}
-use Rattle.btree_descent.proofs.row_words_lemmas.Stays.{and_true}
-use Rattle.btree_descent.specs.rows_trait.Views.{Shape, after_all, state}
-use Rattle.btree_descent.specs.rows_trait.declared.view.View.{View}
-use Rattle.btree_descent.specs.lean_proto.Paths.{above}
-use Rattle.btree_descent.specs.Trails.{IsAbove}
+use Rattle.session_state.specs.disk_image.Records.{entry_of}
+use Rattle.session_state.specs.worker_log.Logs.{Log}
+use Rattle.session_state.specs.row_words.Moments.{Moment, event_of}
+use Rattle.session_state.specs.row_words.Openings.{opening}
+use Rattle.session_state.proofs.row_words.Stays.{and_true}
+use Rattle.session_state.specs.rows_trait.Views.{Shape, after_all, state}
+use Rattle.session_state.specs.rows_trait.declared.view.View.{View}
+use Rattle.session_state.specs.lean_proto.Paths.{above}
+use Rattle.session_state.specs.btree_descent.Trails.{IsAbove}
 use Rattle.btree_smo.specs.Outcomes.{WasSo}
 use Rattle.btree_smo.specs.Room.{IsFullIn, IsRoomIn, IsRun}
-use Rattle.engine_trait.specs.Refusals.{is_full_for, room_refusal}
-use Rattle.engine_trait.specs.Rooms.{IsNextRoom}
+use Rattle.session_state.specs.engine_trait.Refusals.{is_full_for, room_refusal}
+use Rattle.session_state.specs.engine_trait.Rooms.{IsNextRoom}
 use Rattle.session_state.specs.Free.{first_of}
 use Rattle.session_state.specs.Holds.{Holds}
 use Rattle.row_changes.specs.Puts.{MayChange}

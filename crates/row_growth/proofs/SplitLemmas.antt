@@ -5,31 +5,31 @@ use Rattle.page_model.specs.Check.{names_page}
 use Rattle.page_model.specs.Needs.{split_record}
 use Rattle.page_model.specs.Pairs.{Span}
 use Rattle.page_model.specs.Tree.{Names}
-use Rattle.disk_image.specs.image_model.Entries.{Kind}
-use Rattle.btree_descent.proofs.core_commit_lemmas.Events.{names_to}
-use Rattle.btree_descent.specs.core_state.Events as happening
-use Rattle.btree_descent.specs.core_state.Needs.{may}
-use Rattle.btree_descent.specs.core_state.Openings.{Opening}
-use Rattle.btree_descent.specs.core_state.States.{Place, State, gsns_of, nodes_of}
-use Rattle.btree_descent.specs.core_state.Steps.{happens}
-use Rattle.core_calls.specs.Room.{EveryRoom, free_list}
-use Rattle.btree_descent.specs.draw_trait.declared.draw.Unstaged.{Unstaged}
-use Rattle.btree_descent.specs.draw_trait.declared.draw.Unstaged.TheVariants.{DiskFault, LogFull}
+use Rattle.session_state.specs.image_model.Entries.{Kind}
+use Rattle.session_state.proofs.core_commit.Events.{names_to}
+use Rattle.session_state.specs.core_state.Events as happening
+use Rattle.session_state.specs.core_state.Needs.{may}
+use Rattle.session_state.specs.core_state.Openings.{Opening}
+use Rattle.session_state.specs.core_state.States.{Place, State, gsns_of, nodes_of}
+use Rattle.session_state.specs.core_state.Steps.{happens}
+use Rattle.session_state.specs.core_calls.Room.{EveryRoom, free_list}
+use Rattle.session_state.specs.draw_trait.declared.draw.Unstaged.{Unstaged}
+use Rattle.session_state.specs.draw_trait.declared.draw.Unstaged.TheVariants.{DiskFault, LogFull}
 use Rattle.lean_disk.specs.Story.{Story}
-use Rattle.disk_image.specs.log_record.declared.record.Record.{Record}
-use Rattle.worker_log.specs.Logs.{Log}
-use Rattle.btree_descent.specs.row_words.declared.event.Event.TheVariants.{Split}
-use Rattle.btree_descent.specs.row_words.Moments.{Moment}
-use Rattle.btree_descent.specs.row_words.Openings.{opening}
-use Rattle.btree_descent.specs.rows_trait.Causes.{EveryLow}
-use Rattle.btree_descent.specs.rows_trait.Views.{AreLow, Shape, after_all, state}
-use Rattle.btree_descent.specs.rows_trait.declared.view.View.{View}
+use Rattle.session_state.specs.log_record.declared.record.Record.{Record}
+use Rattle.session_state.specs.worker_log.Logs.{Log}
+use Rattle.session_state.specs.row_words.declared.event.Event.TheVariants.{Split}
+use Rattle.session_state.specs.row_words.Moments.{Moment}
+use Rattle.session_state.specs.row_words.Openings.{opening}
+use Rattle.session_state.specs.rows_trait.Causes.{EveryLow}
+use Rattle.session_state.specs.rows_trait.Views.{AreLow, Shape, after_all, state}
+use Rattle.session_state.specs.rows_trait.declared.view.View.{View}
 use Rattle.btree_smo.specs.Outcomes.{Caused, Drew, IsHotIn, IsUndisturbed, Missed, WasSo, last_after}
 use Rattle.btree_smo.specs.Splits as splits
 use Rattle.btree_smo.specs.Splits.{Divided, Parted, split_entry}
 use Rattle.btree_smo.specs.declared.outcome.Outcome.{Outcome}
 use Rattle.btree_smo.specs.declared.outcome.Outcome.TheVariants as outcome
-use Rattle.engine_trait.specs.Rooms.{IsNextRoom}
+use Rattle.session_state.specs.engine_trait.Rooms.{IsNextRoom}
 use Rattle.session_state.specs.Free.{without_first}
 use Rattle.session_state.specs.Holds.{Holds}
 use Rattle.session_state.specs.Numbers.{HaveRoom}

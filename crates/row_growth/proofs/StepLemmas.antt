@@ -2,21 +2,21 @@
 use Rattle.std.proofs.Common.{◌≡◌, ◌<◌, ◌%◌, ◌++◌, ℕ, true, List, [], ◌∷◌, length, Option, Some, None, Result, Ok, Err, refl, sym, ap, ◌∙◌, subst, arith, append-nil}
 use Rattle.map_model.specs.declared.call.Refusal.{Refusal}
 use Rattle.map_model.specs.declared.call.Refusal.TheVariants as refusal
-use Rattle.core_calls.specs.Room.{room_takes}
-use Rattle.btree_descent.specs.core_state.Needs.{is_held_by, may}
-use Rattle.btree_descent.specs.row_words.Moments.{event_of}
-use Rattle.btree_descent.specs.core_state.States.{State}
-use Rattle.btree_descent.specs.core_state.Steps.{happens}
-use Rattle.disk_image.specs.Records.{entry_of}
+use Rattle.session_state.specs.core_calls.Room.{room_takes}
+use Rattle.session_state.specs.core_state.Needs.{is_held_by, may}
+use Rattle.session_state.specs.row_words.Moments.{event_of}
+use Rattle.session_state.specs.core_state.States.{State}
+use Rattle.session_state.specs.core_state.Steps.{happens}
+use Rattle.session_state.specs.disk_image.Records.{entry_of}
 use Rattle.lean_disk.specs.Story.{Story}
-use Rattle.btree_descent.specs.row_words.declared.event.Event.{Event}
-use Rattle.btree_descent.specs.row_words.declared.given.Given.{Given}
-use Rattle.btree_descent.specs.row_words.Openings.{opening}
-use Rattle.btree_descent.specs.rows_trait.Views.{after_all, state}
-use Rattle.btree_descent.specs.rows_trait.declared.view.View.{View}
-use Rattle.worker_log.specs.Logs.{Log}
-use Rattle.engine_trait.specs.Refusals.{clock_refusal, room_refusal}
-use Rattle.engine_trait.specs.Rooms.{IsNextRoom}
+use Rattle.session_state.specs.row_words.declared.event.Event.{Event}
+use Rattle.session_state.specs.row_words.declared.given.Given.{Given}
+use Rattle.session_state.specs.row_words.Openings.{opening}
+use Rattle.session_state.specs.rows_trait.Views.{after_all, state}
+use Rattle.session_state.specs.rows_trait.declared.view.View.{View}
+use Rattle.session_state.specs.worker_log.Logs.{Log}
+use Rattle.session_state.specs.engine_trait.Refusals.{clock_refusal, room_refusal}
+use Rattle.session_state.specs.engine_trait.Rooms.{IsNextRoom}
 use Rattle.row_changes.specs.Outcomes.{HasNoRoom, Tries}
 use Rattle.row_growth.specs.Outcomes.{Crowded, Steps, Wants}
 use Rattle.row_changes.specs.Puts.{MayChange, works_behind}
@@ -38,7 +38,7 @@ use Rattle.row_growth.proofs.GrowthLemmas.{growth_leaves}
 use Rattle.row_changes.proofs.StepLemmas.{cause_from, clock_at_end, clock_below}
 use Rattle.row_changes.proofs.SeenLemmas.{seen_core, still}
 use Rattle.session_state.proofs.UndoLemmas.{room_after}
-use Rattle.core_calls.specs.Warms.{IsWarmFrom}
+use Rattle.session_state.specs.core_calls.Warms.{IsWarmFrom}
 use Rattle.session_state.specs.Undo.{HasHand}
 use Rattle.row_growth.proofs.RoomLemmas.{unfit_on}
 

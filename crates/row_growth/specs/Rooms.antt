@@ -3,31 +3,31 @@ use Rattle.std.specs.Prelude.{◌≡◌, ◌≢◌, ◌≤◌, ◌<◌, ◌-◌,
 use Rattle.page_model.specs.Limits.{leaf_room}
 use Rattle.map_model.specs.declared.call.Refusal.{Refusal}
 use Rattle.map_model.specs.declared.call.Refusal.TheVariants as refusal
-use Rattle.btree_descent.specs.core_state.Needs.{may}
-use Rattle.btree_descent.specs.core_state.Steps.{happens}
-use Rattle.btree_descent.specs.core_state.Events as happening
+use Rattle.session_state.specs.core_state.Needs.{may}
+use Rattle.session_state.specs.core_state.Steps.{happens}
+use Rattle.session_state.specs.core_state.Events as happening
 use Rattle.page_model.specs.Check.{names_page}
-use Rattle.core_calls.specs.Room.{room_takes}
+use Rattle.session_state.specs.core_calls.Room.{room_takes}
 use Rattle.lean_disk.specs.Story.{Story}
-use Rattle.disk_image.specs.log_record.declared.record.Record.{Record}
-use Rattle.disk_image.specs.log_block.Block.{records_text}
-use Rattle.btree_descent.specs.row_words.declared.event.Event.{Event}
-use Rattle.btree_descent.specs.row_words.declared.event.Event.TheVariants.{Lift, Split}
-use Rattle.btree_descent.specs.row_words.Moments.{event_of}
-use Rattle.btree_descent.specs.row_words.Openings.{opening}
-use Rattle.btree_descent.specs.rows_trait.declared.view.View.{View}
-use Rattle.btree_descent.specs.rows_trait.Views.{state}
-use Rattle.disk_image.specs.Records.{entry_of}
-use Rattle.btree_descent.specs.draw_trait.declared.draw.Unstaged.TheVariants.{DiskFault}
+use Rattle.session_state.specs.log_record.declared.record.Record.{Record}
+use Rattle.session_state.specs.log_block.Block.{records_text}
+use Rattle.session_state.specs.row_words.declared.event.Event.{Event}
+use Rattle.session_state.specs.row_words.declared.event.Event.TheVariants.{Lift, Split}
+use Rattle.session_state.specs.row_words.Moments.{event_of}
+use Rattle.session_state.specs.row_words.Openings.{opening}
+use Rattle.session_state.specs.rows_trait.declared.view.View.{View}
+use Rattle.session_state.specs.rows_trait.Views.{state}
+use Rattle.session_state.specs.disk_image.Records.{entry_of}
+use Rattle.session_state.specs.draw_trait.declared.draw.Unstaged.TheVariants.{DiskFault}
 use Rattle.btree_smo.specs.Outcomes.{AreMisses}
 use Rattle.btree_smo.specs.declared.outcome.Outcome.{Outcome}
 use Rattle.btree_smo.specs.declared.outcome.Outcome.TheVariants as outcome
-use Rattle.worker_log.specs.Calls.{After}
-use Rattle.worker_log.specs.Logs.{Log}
-use Rattle.log_calls.specs.Calls.{StagesOn}
-use Rattle.engine_trait.specs.Refusals.{room_refusal}
-use Rattle.engine_trait.specs.Rooms.{IsNextRoom}
-use Rattle.flush_avoidance.specs.Clocks.{risen}
+use Rattle.session_state.specs.worker_log.Calls.{After}
+use Rattle.session_state.specs.worker_log.Logs.{Log}
+use Rattle.session_state.specs.log_calls.Calls.{StagesOn}
+use Rattle.session_state.specs.engine_trait.Refusals.{room_refusal}
+use Rattle.session_state.specs.engine_trait.Rooms.{IsNextRoom}
+use Rattle.session_state.specs.flush_avoidance.Clocks.{risen}
 use Rattle.session_state.specs.declared.session.Session.{Session}
 use Rattle.session_state.specs.Free.{first_of, without_first}
 use Rattle.row_growth.specs.declared.room.Next.{Next}
@@ -36,7 +36,7 @@ use Rattle.row_growth.specs.declared.room.Growth.{Growth}
 use Rattle.row_growth.specs.declared.room.Growth.TheVariants as growth
 use Rattle.row_growth.specs.declared.room.Placed.{Placed}
 use Rattle.row_changes.specs.Ways.{IsWarm}
-use Rattle.btree_descent.specs.core_state.States.{Place}
+use Rattle.session_state.specs.core_state.States.{Place}
 use Rattle.session_state.specs.Staging.{KeepsLog}
 
 -- ## Where a free page stands

@@ -7,17 +7,13 @@ ghost use Rattle.row_changes.specs.Paths.{LeadsToFull};
 ghost use Rattle.row_changes.specs.Puts.{MayChange, works_after};
 ghost use Rattle.row_growth.specs.Rooms.{CanGrow, CanLift, CanSplit, Grew, IsExpected, IsPlaced, Made, Takes, answer_of, frame_among, next_of, page_of, session_after};
 
-use btree_descent::draw_trait::draw::Unstaged;
-use btree_descent::lean_proto::path::{DEEPEST, Path};
-use btree_descent::rows_trait;
-use btree_descent::rows_trait::rows::Rows;
 use btree_smo::lift::lift;
 use btree_smo::outcome::Outcome;
 use btree_smo::room::full_run;
 use btree_smo::split::split;
 use lean_disk::Disk;
 use map_model::Refusal;
-use session_state::{FreePages, Session, Stages, Work, next_fits};
+use session_state::{DEEPEST, FreePages, Path, Rows, Session, Stages, Unstaged, Work, next_fits};
 
 /// A free page that was brought into a frame: it stands hot there.
 #[derive(Clone, Copy)]
@@ -145,8 +141,8 @@ fn lift_root<R: Rows, D: Stages>(
     ensures works { work.new.session.works ≡ works_after result }
     ensures cause_disk_fault { HasCause (D.faults work.old.disk) (D.faults work.new.disk) (result ≡ Err Refusal.DiskFault) }
 {
-    rows_trait::every_low();
-    core_calls::every_room();
+    session_state::every_low();
+    session_state::every_room();
     next_fits(rows, seat);
     let frames = work.session.frames;
     let outcome = lift(rows, seat, work.session.own, frames, frame, work);
@@ -175,8 +171,8 @@ fn split_page<R: Rows, D: Stages>(
     ensures works { work.new.session.works ≡ works_after result }
     ensures cause_disk_fault { HasCause (D.faults work.old.disk) (D.faults work.new.disk) (result ≡ Err Refusal.DiskFault) }
 {
-    rows_trait::every_low();
-    core_calls::every_room();
+    session_state::every_low();
+    session_state::every_room();
     next_fits(rows, seat);
     let frames = work.session.frames;
     let outcome = split(
@@ -274,7 +270,7 @@ pub fn make_room<R: Rows, D: Stages>(
     ensures works { work.new.session.works ≡ works_after result }
     ensures cause_disk_fault { HasCause (D.faults work.old.disk) (D.faults work.new.disk) (result ≡ Err Refusal.DiskFault) }
 {
-    core_calls::every_room();
+    session_state::every_room();
     let frames = work.session.frames;
     let run = match full_run(rows, seat, work.session.own, frames, path) {
         Ok(run) => run,

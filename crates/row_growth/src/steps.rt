@@ -11,10 +11,8 @@ ghost use Rattle.row_growth.specs.Outcomes.{Steps};
 ghost use Rattle.row_growth.specs.Rooms.{IsPlaced};
 
 use crate::room::{Growth, Placed, make_room};
-use btree_descent::lean_proto::path::Path;
-use btree_descent::rows_trait::rows::Rows;
 use row_changes::{Tried, Unmade, clock_refusal, put_in_leaf};
-use session_state::{Stages, Work};
+use session_state::{Path, Rows, Stages, Work};
 
 /// What one step of a put did.
 #[derive(Clone, Copy)]

@@ -14,8 +14,8 @@ use Rattle.btree_descent.specs.row_words.declared.given.Given.{Given}
 use Rattle.btree_descent.specs.row_words.Moments.{Moment}
 use Rattle.btree_descent.specs.row_words.Openings.{opening}
 use Rattle.btree_descent.specs.row_words.Words.{swip, swips, is_inner}
-use Rattle.btree_descent.proofs.row_words_lemmas.Frames.{hot_place, framed_live, framed_level, framed_inner, swips_length, hot_swip, cold_swip}
-use Rattle.btree_descent.proofs.row_words_lemmas.Stays.{cases, and_true, some_below}
+use Rattle.btree_descent.proofs.row_words.Frames.{hot_place, framed_live, framed_level, framed_inner, swips_length, hot_swip, cold_swip}
+use Rattle.btree_descent.proofs.row_words.Stays.{cases, and_true, some_below}
 use Rattle.btree_descent.specs.Known.{Sound}
 use Rattle.row_image.specs.Hot.{StandsIn}
 use Rattle.row_image.specs.Sights.{HasHotChild, NamesAt, PairLaws, EveryPair}

@@ -9,8 +9,8 @@ use Rattle.page_model.specs.Page as stored
 use Rattle.page_model.specs.Check.{names_page}
 use Rattle.map_model.specs.Lists.{any}
 use Rattle.btree_descent.specs.btree_node.Words.{flat, words_of, Fits}
-use Rattle.btree_descent.proofs.btree_node_lemmas.FlatLemmas.{two_suc, length-flat}
-use Rattle.btree_descent.proofs.btree_node_lemmas.PlaceLemmas.{rising-ordered}
+use Rattle.btree_descent.proofs.btree_node.FlatLemmas.{two_suc, length-flat}
+use Rattle.btree_descent.proofs.btree_node.PlaceLemmas.{rising-ordered}
 use Rattle.btree_descent.specs.core_state.States.{Place}
 use Rattle.btree_descent.specs.row_words.declared.given.Given.{Given}
 use Rattle.btree_descent.specs.row_words.Moments.{Moment}

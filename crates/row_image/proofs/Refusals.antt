@@ -5,13 +5,13 @@ use Rattle.btree_descent.specs.rows_trait.declared.view.View.{View}
 use Rattle.btree_descent.specs.rows_trait.Views.{Shape, latest, may}
 use Rattle.btree_descent.specs.rows_trait.Causes.{HasFound, IsLatched, HasMoved}
 use Rattle.btree_descent.specs.rows_trait.Turns.{Looked}
-use Rattle.btree_descent.proofs.rows_trait_lemmas.Runs.{ran_append}
-use Rattle.btree_descent.proofs.rows_trait_lemmas.Causes.{found_before, latched_before}
+use Rattle.btree_descent.proofs.rows_trait.Runs.{ran_append}
+use Rattle.btree_descent.proofs.rows_trait.Causes.{found_before, latched_before}
 use Rattle.btree_descent.specs.version_latch.declared.glimpse.Latched.{Latched}
 use Rattle.btree_descent.specs.version_latch.declared.glimpse.Moved.{Moved}
 use Rattle.btree_descent.specs.version_latch.Named.{missed, checked}
-use Rattle.btree_descent.proofs.version_latch_lemmas.Naming.{missed_odd, checked_other}
-use Rattle.btree_descent.proofs.version_latch_lemmas.Keeping.{looked_ran, may_ran}
+use Rattle.btree_descent.proofs.version_latch.Naming.{missed_odd, checked_other}
+use Rattle.btree_descent.proofs.version_latch.Keeping.{looked_ran, may_ran}
 use Rattle.row_image.specs.declared.refusal.Unseen.TheVariants as unseen
 use Rattle.row_image.specs.Inside.{Watched, Refused}
 

@@ -13,15 +13,15 @@ use Rattle.btree_descent.specs.rows_trait.Views.{Shape, Knows, hold, holds, held
 use Rattle.btree_descent.specs.rows_trait.Views as rows
 use Rattle.btree_descent.specs.rows_trait.Causes.{HasFound}
 use Rattle.btree_descent.specs.rows_trait.Turns.{Goes, Taken}
-use Rattle.btree_descent.proofs.rows_trait_lemmas.Causes.{found_after, looked_found}
-use Rattle.btree_descent.proofs.rows_trait_lemmas.Runs.{ran_goes}
+use Rattle.btree_descent.proofs.rows_trait.Causes.{found_after, looked_found}
+use Rattle.btree_descent.proofs.rows_trait.Runs.{ran_goes}
 use Rattle.btree_descent.specs.version_latch.Named.{checked}
 use Rattle.btree_descent.specs.version_latch.Unheld.{NotHeld}
 use Rattle.btree_descent.specs.version_latch.declared.glimpse.Glimpse.{Glimpse}
 use Rattle.btree_descent.specs.version_latch.declared.glimpse.Unheld.{Unheld}
 use Rattle.btree_descent.specs.version_latch.declared.glimpse.Unheld.TheVariants.{Moved, RowSpent}
-use Rattle.btree_descent.proofs.version_latch_lemmas.Naming.{checked_same, checked_other}
-use Rattle.btree_descent.proofs.version_latch_lemmas.Keeping.{looked_ran}
+use Rattle.btree_descent.proofs.version_latch.Naming.{checked_same, checked_other}
+use Rattle.btree_descent.proofs.version_latch.Keeping.{looked_ran}
 use Rattle.btree_descent.specs.swips.declared.hint.TheConstants.{MARK}
 use Rattle.btree_descent.specs.Known.{Sound, IsSound}
 use Rattle.btree_descent.proofs.Calls.{sound_after}

@@ -5,14 +5,14 @@ use Rattle.std.proofs.lemmas.Bool.Decides.{nat_tests}
 use Rattle.std.proofs.lemmas.List.{ext_get_or}
 use Rattle.page_model.specs.Page as stored
 use Rattle.btree_descent.specs.btree_node.Words.{words_of, Fits, Spells}
-use Rattle.btree_descent.proofs.btree_node_lemmas.SpellingLemmas.{one-page}
+use Rattle.btree_descent.proofs.btree_node.SpellingLemmas.{one-page}
 use Rattle.btree_descent.specs.core_state.States.{Place, in_frame, is_cooling, is_hot}
 use Rattle.btree_descent.specs.row_words.declared.given.Given.{Given}
 use Rattle.btree_descent.specs.row_words.Moments.{Moment}
 use Rattle.btree_descent.specs.row_words.Openings.{opening}
 use Rattle.btree_descent.specs.row_words.Sealed.{Shown}
 use Rattle.btree_descent.specs.row_words.Words.{framed_page}
-use Rattle.btree_descent.proofs.row_words_lemmas.Frames.{hot_place, one_word}
+use Rattle.btree_descent.proofs.row_words.Frames.{hot_place, one_word}
 use Rattle.btree_descent.specs.rows_trait.declared.view.Act.{Act}
 use Rattle.btree_descent.specs.rows_trait.declared.view.Act.TheVariants.{Look, Load, Store, Set, Hear, Turn}
 use Rattle.btree_descent.specs.rows_trait.Views.{Knows}

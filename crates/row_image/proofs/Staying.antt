@@ -4,9 +4,9 @@ use Rattle.btree_descent.specs.core_state.States.{in_frame}
 use Rattle.btree_descent.specs.row_words.declared.event.Event.{Event}
 use Rattle.btree_descent.specs.row_words.Moments.{Moment}
 use Rattle.btree_descent.specs.row_words.Sealed.{begun}
-use Rattle.btree_descent.proofs.row_words_lemmas.SealedLemmas.{run_append}
+use Rattle.btree_descent.proofs.row_words.SealedLemmas.{run_append}
 use Rattle.btree_descent.specs.rows_trait.Views.{after_all, state}
-use Rattle.btree_descent.proofs.lean_proto_lemmas.Loads.{places_on}
+use Rattle.btree_descent.proofs.lean_proto.Loads.{places_on}
 use Rattle.row_image.specs.Images.{EveryStay}
 
 pub every_stay : EveryStay

@@ -16,14 +16,14 @@ use Rattle.btree_descent.specs.row_words.Moments.{Moment}
 use Rattle.btree_descent.specs.row_words.Openings.{opening}
 use Rattle.btree_descent.specs.row_words.Sealed.{begun, stepped, run, Shown}
 use Rattle.btree_descent.specs.row_words.Words.{swip, swips, framed, framed_page, ShowsPage}
-use Rattle.btree_descent.proofs.row_words_lemmas.SealedLemmas.{run_append, hot_kept, shown_stays}
+use Rattle.btree_descent.proofs.row_words.SealedLemmas.{run_append, hot_kept, shown_stays}
 use Rattle.btree_descent.specs.rows_trait.declared.view.View.{View}
 use Rattle.btree_descent.specs.rows_trait.Views.{AreStill, IsStill, after_all, state}
-use Rattle.btree_descent.proofs.rows_trait_lemmas.EventLemmas.{still_rest}
+use Rattle.btree_descent.proofs.rows_trait.EventLemmas.{still_rest}
 use Rattle.btree_descent.specs.Known.{Sound, IsSound}
 use Rattle.btree_descent.specs.swips.Hints.{mark}
-use Rattle.btree_descent.proofs.row_words_lemmas.Stays.{cases}
-use Rattle.btree_descent.proofs.row_words_lemmas.Frames.{hot_place, hot_swip, framed_inner, swips_length}
+use Rattle.btree_descent.proofs.row_words.Stays.{cases}
+use Rattle.btree_descent.proofs.row_words.Frames.{hot_place, hot_swip, framed_inner, swips_length}
 use Rattle.btree_descent.proofs.Nodes.{shown_frame}
 use Rattle.row_image.specs.Images.{StaysIn}
 use Rattle.row_image.specs.Inside.{Stood}

@@ -9,20 +9,20 @@ use Rattle.btree_descent.specs.row_words.declared.event.Event.TheVariants.{Miss}
 use Rattle.btree_descent.specs.row_words.declared.given.Given.{Given}
 use Rattle.btree_descent.specs.row_words.Moments.{Moment}
 use Rattle.btree_descent.specs.row_words.Sealed.{begun, run}
-use Rattle.btree_descent.proofs.row_words_lemmas.SealedLemmas.{run_append}
+use Rattle.btree_descent.proofs.row_words.SealedLemmas.{run_append}
 use Rattle.btree_descent.specs.rows_trait.declared.view.Act.{Act}
 use Rattle.btree_descent.specs.rows_trait.declared.view.View.{View}
 use Rattle.btree_descent.specs.rows_trait.Views.{Shape, Has, Knows, latest, AreApart, after_all, state, holds, IsEven, AreSilent, may}
 use Rattle.btree_descent.specs.rows_trait.Turns.{Goes, Looked, Loaded}
-use Rattle.btree_descent.proofs.rows_trait_lemmas.Runs.{ran_goes, ran_none, ran_append}
-use Rattle.btree_descent.proofs.rows_trait_lemmas.EventLemmas.{apart_append}
-use Rattle.btree_descent.proofs.rows_trait_lemmas.Causes.{loads_none, loads_then, loaded_loads, looked_loads}
+use Rattle.btree_descent.proofs.rows_trait.Runs.{ran_goes, ran_none, ran_append}
+use Rattle.btree_descent.proofs.rows_trait.EventLemmas.{apart_append}
+use Rattle.btree_descent.proofs.rows_trait.Causes.{loads_none, loads_then, loaded_loads, looked_loads}
 use Rattle.btree_descent.specs.version_latch.Named.{missed, checked}
-use Rattle.btree_descent.proofs.version_latch_lemmas.Naming.{checked_silent, missed_even, checked_same}
-use Rattle.btree_descent.proofs.version_latch_lemmas.Keeping.{may_ran, may_shape, latest_look}
+use Rattle.btree_descent.proofs.version_latch.Naming.{checked_silent, missed_even, checked_same}
+use Rattle.btree_descent.proofs.version_latch.Keeping.{may_ran, may_shape, latest_look}
 use Rattle.row_image.specs.declared.refusal.Unseen.{Unseen}
 use Rattle.row_image.specs.Images.{StaysIn, IsMissed}
-use Rattle.btree_descent.proofs.lean_proto_lemmas.Meanwhile.{apart_as}
+use Rattle.btree_descent.proofs.lean_proto.Meanwhile.{apart_as}
 use Rattle.row_image.specs.Inside.{Watched, AreKnown, Stood, IsNamed, AreNamed, HasChildren, Refused}
 
 -- what is apart from a view is apart from one of the same actor that holds the same rows

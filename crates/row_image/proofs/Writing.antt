@@ -7,7 +7,7 @@ use Rattle.page_model.specs.Pairs.{Pair}
 use Rattle.page_model.specs.Nodes.{Node, WellFormed}
 use Rattle.page_model.specs.Page as stored
 use Rattle.btree_descent.specs.btree_node.Words.{words_of, packed, kind_of, Spells}
-use Rattle.btree_descent.proofs.btree_node_lemmas.SpellingLemmas.{page_of-words_of}
+use Rattle.btree_descent.proofs.btree_node.SpellingLemmas.{page_of-words_of}
 use Rattle.btree_descent.specs.core_state.States.{State, in_frame}
 use Rattle.btree_descent.specs.row_words.declared.event.Event.{Event}
 use Rattle.btree_descent.specs.row_words.declared.given.Given.{Given}
@@ -16,16 +16,16 @@ use Rattle.btree_descent.specs.row_words.Sealed.{Shown}
 use Rattle.btree_descent.specs.row_words.Words.{swip, swips, framed_page}
 use Rattle.btree_descent.specs.rows_trait.declared.view.View.{View}
 use Rattle.btree_descent.specs.rows_trait.Views.{Since, IsStill, Knows, state}
-use Rattle.btree_descent.proofs.rows_trait_lemmas.Causes.{since_after}
+use Rattle.btree_descent.proofs.rows_trait.Causes.{since_after}
 use Rattle.btree_descent.specs.Known.{IsSound}
-use Rattle.btree_descent.proofs.row_words_lemmas.Stays.{cases}
+use Rattle.btree_descent.proofs.row_words.Stays.{cases}
 use Rattle.btree_descent.proofs.Nodes.{shown_frame, fits}
 use Rattle.btree_descent.proofs.Calls.{sound_given}
 use Rattle.row_image.specs.Images.{written, StaysIn}
 use Rattle.row_image.specs.Inside.{Watched, AreKnown, Stood, AreNamed, HasChildren, IsSpelled}
 use Rattle.row_image.proofs.Watching.{watched_then, stays_now, stays_on, children_within}
 use Rattle.row_image.proofs.Pages.{word_in, key_in, swips_key, IsPair, IsBehind, pair_or_behind, length_words, key_at_words, word_at_words, each_word, fits_written}
-use Rattle.btree_descent.proofs.row_words_lemmas.Frames.{swips_length, hot_swip, hot_place, cold_swip, one_word, framed_level, framed_leaf, framed_inner}
+use Rattle.btree_descent.proofs.row_words.Frames.{swips_length, hot_swip, hot_place, cold_swip, one_word, framed_level, framed_leaf, framed_inner}
 use Rattle.row_image.proofs.Stillness.{framed_word, child_small, child_stood}
 
 -- the page with these pairs

@@ -9,8 +9,7 @@ ghost use Rattle.row_image.specs.Inside.{IsNamed, AreNamed, HasChildren, Refused
 
 use crate::look::{again, begin};
 use crate::refusal::Unseen;
-use btree_descent::rows_trait::rows::Rows;
-use btree_descent::swips::row_of;
+use btree_descent::{Rows, row_of};
 use page_model::limits::FRAME_BIT;
 
 // The number of the page that stands in a row.

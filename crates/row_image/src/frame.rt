@@ -12,11 +12,7 @@ use crate::look::{again, begin};
 use crate::page::load;
 use crate::refusal::Unseen;
 use crate::sight::Sight;
-use btree_descent::btree_node::Node;
-use btree_descent::rows_trait::rows::Rows;
-use btree_descent::swips::MARK;
-use btree_descent::version_latch::events::Checks;
-use btree_descent::version_latch::{Hold, Unheld};
+use btree_descent::{BtreeNodeNode as Node, Checks, Hold, MARK, Rows, Unheld};
 
 /// The page that stands hot in frame row `row`. The first `frames` rows are frames; `actor` is whose miss a refusal is. No row is latched.
 ///

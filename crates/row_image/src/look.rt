@@ -5,9 +5,7 @@ ghost use Rattle.btree_descent.specs.rows_trait.Views.{IsEven, may};
 ghost use Rattle.row_image.specs.Inside.{Begun, Again, IsMovedSince, Refused};
 
 use crate::refusal::Unseen;
-use btree_descent::rows_trait::rows::Rows;
-use btree_descent::version_latch::Glimpse;
-use btree_descent::version_latch::events::{Checks, Misses};
+use btree_descent::{Checks, Glimpse, Misses, Rows};
 
 // Begins to look at a row.
 pub(crate) fn begin<R: Rows>(

@@ -11,9 +11,7 @@ ghost use Rattle.row_image.specs.Inside.{IsLoaded};
 use crate::children::name_children;
 use crate::look::{again, begin};
 use crate::refusal::Unseen;
-use btree_descent::btree_node::Node;
-use btree_descent::rows_trait::rows::Rows;
-use btree_descent::version_latch::Glimpse;
+use btree_descent::{BtreeNodeNode as Node, Glimpse, Rows};
 
 // Loads the words of the page.
 pub(crate) fn load<R: Rows>(

@@ -1,5 +1,5 @@
 //! Why a page was not taken from its row.
-use btree_descent::version_latch::{Latched, Moved};
+use btree_descent::{Latched, Moved};
 
 /// A row was not as it has to be. A miss was appended: try again.
 #[derive(Clone, Copy)]

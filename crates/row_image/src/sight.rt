@@ -11,9 +11,7 @@ ghost use Rattle.btree_descent.specs.Known.{Sound};
 ghost use Rattle.row_image.specs.Hot.{StandsIn};
 ghost use Rattle.row_image.specs.Sights.{HasHotChild, IsFirst, HasNone};
 
-use btree_descent::btree_node::Node;
-use btree_descent::swips::Swip;
-use btree_descent::version_latch::Glimpse;
+use btree_descent::{BtreeNodeNode as Node, Glimpse, Swip};
 
 /// A page that stands hot in a frame row, as it stands there (it names its children by swips), and the version of the row from which it
 /// was taken. `hint` is the word of the row that may name the frame of the node above.

@@ -6,7 +6,7 @@ use borrow.Rule.Slice.PartMut.{put_mid}
 use Rattle.page_model.specs.Pairs.{Pair, Has}
 use Rattle.page_model.specs.Page.{Page, with_pairs}
 use Rattle.rows_trait.specs.btree_node.Words.{flat, packed, kind_of, pair_words, words_of}
-use Rattle.rows_trait.proofs.btree_node_lemmas.FlatLemmas.{length-flat}
+use Rattle.rows_trait.proofs.btree_node.FlatLemmas.{length-flat}
 use Rattle.row_opening.specs.Inside.{linked, linked_page, turned, ArePlain, page_row}
 
 -- ## Pairs in words

@@ -15,7 +15,7 @@ use Rattle.core_paging.specs.core_state.Events as happening
 use Rattle.core_paging.specs.core_state.Needs.{may, has_hot_parent, is_empty_frame}
 use Rattle.core_paging.specs.core_state.Steps as steps
 use Rattle.core_paging.specs.core_state.Steps.{AllMet}
-use Rattle.core_paging.proofs.core_commit_lemmas.Events.{names_to}
+use Rattle.core_paging.proofs.core_commit.Events.{names_to}
 use Rattle.rows_trait.specs.row_words.declared.event.Event.{Event}
 use Rattle.rows_trait.specs.row_words.declared.event.Event.TheVariants as told
 use Rattle.rows_trait.specs.row_words.declared.given.Given.{Given}

@@ -11,10 +11,10 @@ use Rattle.core_paging.specs.core_state.Events as happening
 use Rattle.core_paging.specs.core_state.Needs.{is_held_by, is_worker, may, may_put_back}
 use Rattle.core_paging.specs.core_state.Steps.{happens, follows, put_back}
 use Rattle.core_paging.specs.core_state.Steps as steps
-use Rattle.core_paging.proofs.core_state_lemmas.Runs.{run_more}
+use Rattle.core_paging.proofs.core_state.Runs.{run_more}
 use Rattle.core_paging.specs.Paging.{Residence, Waiting}
 use Rattle.core_paging.specs.core_commit.Holders.{HeldByWorkers}
-use Rattle.core_paging.proofs.core_commit_lemmas.HolderLemmas as commit
+use Rattle.core_paging.proofs.core_commit.HolderLemmas as commit
 use Rattle.core_paging.proofs.Laws as paging
 use Rattle.core_paging.proofs.LogLemmas as logs
 use Rattle.core_paging.specs.Logs.{LogsWithin}

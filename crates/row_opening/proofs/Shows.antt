@@ -13,7 +13,7 @@ use Rattle.rows_trait.specs.row_words.Moments.{Moment, page_in}
 use Rattle.rows_trait.specs.row_words.Openings.{opening}
 use Rattle.rows_trait.specs.row_words.Words.{swip, swips, is_inner, framed, framed_page, ShowsPage, ShowsFrame, mask, Shows, control_words}
 use Rattle.rows_trait.specs.row_words.Sealed.{begun, Shown, heard}
-use Rattle.rows_trait.proofs.row_words_lemmas.Stays.{below_false}
+use Rattle.rows_trait.proofs.row_words.Stays.{below_false}
 use Rattle.rows_trait.specs.Layout.{Sizes, width, base, row_at, count_of, control_at, size_of, cell}
 use Rattle.rows_trait.specs.Plain.{sizes, IsOpening}
 use Rattle.row_opening.specs.Opened.{page_at, ArePages, pages_of, given_of, contents_of}

@@ -5,7 +5,7 @@ ghost use Rattle.row_opening.specs.Opened.{page_at};
 ghost use Rattle.row_opening.specs.Inside.{linked_page, turned, ArePlain, HasPlain, page_row, empty_row, frame_row, root_row, AreTiled};
 
 use page_model::limits::FRAME_BIT;
-use rows_trait::btree_node::Node;
+use rows_trait::Node;
 use swips::{MARK, NO_HINT};
 
 /// Sets the words of each frame row: each page stands in the frame of its own number, and the frames behind the last one are empty. The

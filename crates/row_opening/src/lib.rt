@@ -17,7 +17,7 @@ ghost use Rattle.row_opening.specs.Openings.{EveryNeed, EveryOpened, EveryReache
 
 pub use faith::Faith;
 use frame::{set_frames, set_root};
-use rows_trait::btree_node::Node;
+use rows_trait::Node;
 use rows_trait::plain::PlainRows;
 use rows_trait::trace::{Trace, Which};
 use std::alloc::{AllocError, Global};

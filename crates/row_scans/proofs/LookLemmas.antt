@@ -8,29 +8,29 @@ use Rattle.map_model.specs.Maps.{MapAnswer}
 use Rattle.page_model.specs.Laws.{EveryTree}
 use Rattle.page_model.specs.Nodes.{Node, NodeOk, covers, holds, is_leaf}
 use Rattle.rfa_model.specs.Stamps.{owed}
-use Rattle.core_calls.specs.LogEvents.{behind as waits}
-use Rattle.core_calls.specs.Warms.{EveryWarm, IsWarmFrom}
-use Rattle.btree_descent.proofs.core_commit_lemmas.Nexts.{following_at, following_is}
-use Rattle.btree_descent.specs.core_index.Walks.{met_keys}
-use Rattle.btree_descent.specs.core_state.Needs.{following, holds_answer, holds_row, is_following, is_leaf_of, may}
-use Rattle.btree_descent.specs.core_state.Openings.{Opening}
-use Rattle.btree_descent.specs.core_state.States.{State, flushed_by_all, is_hot}
-use Rattle.btree_descent.specs.core_state.Steps.{at_pages, happens}
-use Rattle.worker_log.specs.Logs.{Log}
-use Rattle.flush_avoidance.specs.Clocks.{after_touch}
-use Rattle.btree_descent.specs.row_words.declared.event.Event.{Event}
-use Rattle.btree_descent.specs.row_words.declared.event.Event.TheVariants.{Next}
-use Rattle.btree_descent.specs.row_words.declared.event.Met as told
-use Rattle.btree_descent.specs.row_words.declared.event.Met.TheVariants as event
-use Rattle.btree_descent.specs.row_words.declared.given.Given.{Given}
-use Rattle.btree_descent.specs.row_words.Moments.{Moment, event_of, met_of}
-use Rattle.btree_descent.specs.row_words.Openings.{opening}
-use Rattle.btree_descent.specs.rows_trait.declared.view.View.{View}
-use Rattle.btree_descent.specs.rows_trait.Views.{Shape, after_all, state}
-use Rattle.btree_descent.specs.declared.next.Stamp.{Stamp}
-use Rattle.btree_descent.specs.Descents.{MetCold}
-use Rattle.btree_descent.specs.Known.{Sound}
-use Rattle.btree_descent.specs.Nexts.{AreLocked, IsFirstUnlocked, MayWalk, MetUnlocked, Walked}
+use Rattle.session_state.specs.core_calls.LogEvents.{behind as waits}
+use Rattle.session_state.specs.core_calls.Warms.{EveryWarm, IsWarmFrom}
+use Rattle.session_state.proofs.core_commit.Nexts.{following_at, following_is}
+use Rattle.session_state.specs.core_index.Walks.{met_keys}
+use Rattle.session_state.specs.core_state.Needs.{following, holds_answer, holds_row, is_following, is_leaf_of, may}
+use Rattle.session_state.specs.core_state.Openings.{Opening}
+use Rattle.session_state.specs.core_state.States.{State, flushed_by_all, is_hot}
+use Rattle.session_state.specs.core_state.Steps.{at_pages, happens}
+use Rattle.session_state.specs.worker_log.Logs.{Log}
+use Rattle.session_state.specs.flush_avoidance.Clocks.{after_touch}
+use Rattle.session_state.specs.row_words.declared.event.Event.{Event}
+use Rattle.session_state.specs.row_words.declared.event.Event.TheVariants.{Next}
+use Rattle.session_state.specs.row_words.declared.event.Met as told
+use Rattle.session_state.specs.row_words.declared.event.Met.TheVariants as event
+use Rattle.session_state.specs.row_words.declared.given.Given.{Given}
+use Rattle.session_state.specs.row_words.Moments.{Moment, event_of, met_of}
+use Rattle.session_state.specs.row_words.Openings.{opening}
+use Rattle.session_state.specs.rows_trait.declared.view.View.{View}
+use Rattle.session_state.specs.rows_trait.Views.{Shape, after_all, state}
+use Rattle.session_state.specs.btree_descent.declared.next.Stamp.{Stamp}
+use Rattle.session_state.specs.btree_descent.Descents.{MetCold}
+use Rattle.session_state.specs.btree_descent.Known.{Sound}
+use Rattle.session_state.specs.btree_descent.Nexts.{AreLocked, IsFirstUnlocked, MayWalk, MetUnlocked, Walked}
 use Rattle.session_state.specs.Holds.{Holds, IsOf}
 use Rattle.session_state.specs.declared.session.Session.{Session}
 use Rattle.session_state.proofs.HoldLemmas.{rows_on}

@@ -7,28 +7,28 @@ use Rattle.map_model.proofs.ListLemmas.{has_cases, has_left, has_right}
 use Rattle.map_model.specs.declared.call.Refusal.{Refusal}
 use Rattle.map_model.specs.declared.call.Refusal.TheVariants as refusal
 use Rattle.page_model.specs.Nodes.{holds}
-use Rattle.core_calls.specs.Refusals.{Hinders}
-use Rattle.core_calls.specs.Scans.{IsHinderedNext, IsOnWay, rows_met}
-use Rattle.btree_descent.specs.core_index.Walks.{met_keys}
-use Rattle.btree_descent.specs.core_state.Events as happening
-use Rattle.btree_descent.specs.core_state.Needs.{is_leaf_of, is_reader, may, value_in}
-use Rattle.btree_descent.specs.core_state.Openings.{Opening}
-use Rattle.btree_descent.specs.core_state.States.{State, is_hot}
-use Rattle.btree_descent.specs.core_state.Steps as core
-use Rattle.btree_descent.specs.core_state.Steps.{AllMet, happens}
-use Rattle.flush_avoidance.specs.Clocks.{risen}
-use Rattle.key_locks.specs.Rows.{event_mode}
-use Rattle.key_locks.specs.declared.mode.Mode.TheVariants.{Shared}
-use Rattle.btree_descent.specs.row_words.declared.event.Event.{Event}
-use Rattle.btree_descent.specs.row_words.declared.event.Event.TheVariants.{Lock, Next}
-use Rattle.btree_descent.specs.row_words.declared.given.Given.{Given}
-use Rattle.btree_descent.specs.row_words.Moments.{Moment, event_of, events_of}
-use Rattle.btree_descent.specs.row_words.Openings.{opening}
-use Rattle.btree_descent.specs.row_words.Sealed.{run, stepped}
-use Rattle.btree_descent.specs.rows_trait.declared.view.View.{View}
-use Rattle.btree_descent.specs.rows_trait.Views.{Shape, state}
-use Rattle.btree_descent.specs.Known.{Sound}
-use Rattle.worker_log.specs.Logs.{Log}
+use Rattle.session_state.specs.core_calls.Refusals.{Hinders}
+use Rattle.session_state.specs.core_calls.Scans.{IsHinderedNext, IsOnWay, rows_met}
+use Rattle.session_state.specs.core_index.Walks.{met_keys}
+use Rattle.session_state.specs.core_state.Events as happening
+use Rattle.session_state.specs.core_state.Needs.{is_leaf_of, is_reader, may, value_in}
+use Rattle.session_state.specs.core_state.Openings.{Opening}
+use Rattle.session_state.specs.core_state.States.{State, is_hot}
+use Rattle.session_state.specs.core_state.Steps as core
+use Rattle.session_state.specs.core_state.Steps.{AllMet, happens}
+use Rattle.session_state.specs.flush_avoidance.Clocks.{risen}
+use Rattle.session_state.specs.key_locks.Rows.{event_mode}
+use Rattle.session_state.specs.key_locks.declared.mode.Mode.TheVariants.{Shared}
+use Rattle.session_state.specs.row_words.declared.event.Event.{Event}
+use Rattle.session_state.specs.row_words.declared.event.Event.TheVariants.{Lock, Next}
+use Rattle.session_state.specs.row_words.declared.given.Given.{Given}
+use Rattle.session_state.specs.row_words.Moments.{Moment, event_of, events_of}
+use Rattle.session_state.specs.row_words.Openings.{opening}
+use Rattle.session_state.specs.row_words.Sealed.{run, stepped}
+use Rattle.session_state.specs.rows_trait.declared.view.View.{View}
+use Rattle.session_state.specs.rows_trait.Views.{Shape, state}
+use Rattle.session_state.specs.btree_descent.Known.{Sound}
+use Rattle.session_state.specs.worker_log.Logs.{Log}
 use Rattle.session_state.specs.Held.{Held, with_row}
 use Rattle.session_state.specs.Holds.{Holds}
 use Rattle.session_state.specs.Staging.{IsButClock}

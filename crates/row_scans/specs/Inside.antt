@@ -2,14 +2,14 @@
 use Rattle.std.specs.Prelude.{◌≡◌, ◌⊎◌, ◌<◌, ◌%◌, ◌++◌, ℕ, true, List, [], ◌∷◌}
 use Rattle.map_model.specs.Lists.{Has}
 use Rattle.page_model.specs.Nodes.{holds}
-use Rattle.btree_descent.specs.core_index.Walks.{met_keys}
-use Rattle.btree_descent.specs.core_state.Needs.{may}
-use Rattle.btree_descent.specs.core_state.States.{is_hot}
-use Rattle.btree_descent.specs.row_words.declared.event.Event.TheVariants.{Next}
-use Rattle.btree_descent.specs.row_words.Moments.{event_of}
-use Rattle.btree_descent.specs.row_words.Openings.{opening}
-use Rattle.btree_descent.specs.rows_trait.declared.view.View.{View}
-use Rattle.btree_descent.specs.rows_trait.Views.{state}
+use Rattle.session_state.specs.core_index.Walks.{met_keys}
+use Rattle.session_state.specs.core_state.Needs.{may}
+use Rattle.session_state.specs.core_state.States.{is_hot}
+use Rattle.session_state.specs.row_words.declared.event.Event.TheVariants.{Next}
+use Rattle.session_state.specs.row_words.Moments.{event_of}
+use Rattle.session_state.specs.row_words.Openings.{opening}
+use Rattle.session_state.specs.rows_trait.declared.view.View.{View}
+use Rattle.session_state.specs.rows_trait.Views.{state}
 use Rattle.row_changes.specs.Ways.{HasMetCold}
 use Rattle.session_state.specs.declared.session.Session.{Session}
 use Rattle.row_scans.specs.Meets.{IsInLeaf, told_of}

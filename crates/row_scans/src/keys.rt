@@ -1,7 +1,7 @@
 // The keys whose rows a walk has taken.
 ghost use Rattle.std.specs.Prelude.{◌≡◌, ◌<◌, ◌≤◌, ◌∷◌, ◌++◌, [], length};
 
-use btree_descent::next::Locked;
+use session_state::Locked;
 use std::marker::Model;
 
 // How many entries a leaf has at most.

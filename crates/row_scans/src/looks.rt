@@ -6,10 +6,7 @@ ghost use Rattle.row_scans.specs.Inside.{AreFirst, AreHeld, Looks};
 
 use crate::keys::TakenKeys;
 use crate::meets::Met;
-use btree_descent::next::{Following, next};
-use btree_descent::rows_trait::rows::Rows;
-use session_state::Session;
-use worker_log::WorkerLog;
+use session_state::{Following, Rows, Session, WorkerLog, next};
 
 // What a look finds.
 #[derive(Clone, Copy)]
@@ -41,7 +38,7 @@ pub(crate) fn look<R: Rows>(
     ensures session { IsButClock session.old session.new }
     ensures looks { Looks result session.old.own (R.view seat.old) (R.view seat.new) key taken.now (session.new ≡ session.old) }
 {
-    core_calls::every_warm();
+    session_state::every_warm();
     page_model::every_tree();
     match next(rows, seat, session.own, session.frames, key, taken) {
         Following::Pair {

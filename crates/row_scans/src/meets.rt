@@ -6,12 +6,9 @@ ghost use Rattle.row_scans.specs.Meets.{IsButRows, IsCut, IsNoConflict, Meets};
 
 use crate::keys::{MOST, TakenKeys};
 use crate::looks::{Looked, look};
-use btree_descent::rows_trait::rows::Rows;
-use key_locks::mode::Mode;
 use map_model::Refusal;
 use row_changes::{Cold, take_row};
-use session_state::Session;
-use worker_log::WorkerLog;
+use session_state::{Mode, Rows, Session, WorkerLog};
 
 /// What a walk met in its leaf.
 #[derive(Clone, Copy, Debug, PartialEq, Eq)]

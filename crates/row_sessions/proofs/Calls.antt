@@ -5,13 +5,13 @@ use Rattle.std.specs.Prelude.{slice_set}
 use Rattle.btree_descent.specs.core_state.Steps as core
 use Rattle.btree_descent.specs.row_words.declared.event.Event.TheVariants as told
 use Rattle.btree_descent.specs.row_words.Openings.{opening}
-use Rattle.btree_descent.proofs.row_words_lemmas.SealedLemmas.{silent_sets}
+use Rattle.btree_descent.proofs.row_words.SealedLemmas.{silent_sets}
 use Rattle.btree_descent.specs.rows_trait.declared.view.View.{View}
 use Rattle.btree_descent.specs.rows_trait.Views.{Shape, state}
 use Rattle.btree_descent.specs.rows_trait.Views as views
 use Rattle.btree_descent.specs.rows_trait.Turns.{Heard, MayTurn, Turned}
 use Rattle.btree_descent.specs.lean_proto.Controls.{IsBegin, IsEnd}
-use Rattle.btree_descent.proofs.lean_proto_lemmas.Turning.{every_begin, every_turn, end_sets}
+use Rattle.btree_descent.proofs.lean_proto.Turning.{every_begin, every_turn, end_sets}
 use Rattle.btree_descent.specs.declared.descent.Answer.{Answer}
 use Rattle.btree_descent.specs.declared.descent.Answer.TheVariants as answer
 use Rattle.btree_descent.specs.Known.{said}

@@ -3,7 +3,7 @@ use Rattle.std.proofs.Common.{◌≡◌, ◌<◌, ◌≤◌, inl, inr, ℕ, suc,
 use Rattle.std.specs.Prelude.{slice_set, slice_index}
 use Rattle.map_model.specs.Lists.{Has}
 use Rattle.btree_descent.specs.image_model.Entries.{Entry}
-use Rattle.btree_descent.proofs.core_commit_lemmas.Lists.{least_le, le_least}
+use Rattle.btree_descent.proofs.core_commit.Lists.{least_le, le_least}
 use Rattle.btree_descent.specs.core_state.States.{State, Worker, flushed_by_all}
 use Rattle.btree_descent.specs.core_state.Needs.{may}
 use Rattle.btree_descent.specs.core_state.Steps.{happens}
@@ -13,7 +13,7 @@ use Rattle.btree_descent.specs.row_words.declared.given.Given.{Given}
 use Rattle.btree_descent.specs.row_words.Moments.{Moment, event_of, actor_of, is_sync}
 use Rattle.btree_descent.specs.row_words.Openings.{opening}
 use Rattle.btree_descent.specs.row_words.Sealed.{begun, stepped, run, sets}
-use Rattle.btree_descent.proofs.row_words_lemmas.SealedLemmas.{run_append}
+use Rattle.btree_descent.proofs.row_words.SealedLemmas.{run_append}
 use Rattle.btree_descent.specs.rows_trait.declared.view.View.{View}
 use Rattle.btree_descent.specs.rows_trait.Views.{Shape, after_all, state}
 use Rattle.btree_descent.specs.rows_trait.Turns.{Ran}

@@ -11,8 +11,8 @@ use Rattle.btree_descent.specs.row_words.declared.given.Given.{Given}
 use Rattle.btree_descent.specs.row_words.Moments.{Moment, event_of, actor_of, is_sync}
 use Rattle.btree_descent.specs.row_words.Openings.{opening}
 use Rattle.btree_descent.specs.row_words.Sealed.{begun, stepped, run, heard, sets}
-use Rattle.btree_descent.proofs.row_words_lemmas.SealedLemmas.{run_append, heard_stays}
-use Rattle.btree_descent.proofs.row_words_lemmas.Controls.{every_own}
+use Rattle.btree_descent.proofs.row_words.SealedLemmas.{run_append, heard_stays}
+use Rattle.btree_descent.proofs.row_words.Controls.{every_own}
 use Rattle.btree_descent.specs.rows_trait.Plain.{sizes}
 use Rattle.btree_descent.specs.rows_trait.Rule.{IsPicture, plan}
 use Rattle.btree_descent.specs.rows_trait.declared.view.View.{View}

@@ -3,9 +3,7 @@ ghost use Rattle.std.specs.Prelude.{◌≡◌};
 ghost use Rattle.row_sessions.specs.Drawn.{clock_of};
 
 use crate::session::Session;
-use btree_descent::draw_trait::draw::{Draw, Unstaged};
-use btree_descent::draw_trait::staged::{Staged, one_more};
-use btree_descent::log_record::{LARGEST, Record, record_bytes};
+use btree_descent::{Draw, LARGEST, Record, Staged, Unstaged, one_more, record_bytes};
 use std::marker::Brand;
 
 /// A worker's session as its change goes on, and the bytes of the last record. The log takes no record where it is full.

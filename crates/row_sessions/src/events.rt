@@ -1,5 +1,5 @@
 //! What a session's begin and end append.
-use btree_descent::rows_trait::names::Names;
+use btree_descent::Names;
 
 /// The worker begins a transaction, where all logs are flushed up to `floor`.
 #[derive(Drop)]

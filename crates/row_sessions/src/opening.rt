@@ -5,7 +5,7 @@ ghost use Rattle.btree_descent.specs.row_words.Moments.{format_of};
 ghost use Rattle.page_model.specs.Tree.{IsTree};
 ghost use Rattle.row_sessions.specs.Standing.{IsTreeOf, AreNumbered};
 
-use btree_descent::btree_node::Node;
+use btree_descent::BtreeNodeNode as Node;
 use node_tree::first_break;
 use page_model::every_check;
 use std::alloc::{AllocError, Global};

@@ -1,7 +1,7 @@
 //! Pages of small trees, for tests and measurements.
 ghost use Rattle.std.specs.Prelude.{◌≤◌, ◌<◌, ◌^◌};
 
-use btree_descent::btree_node::Node;
+use btree_descent::BtreeNodeNode as Node;
 use std::alloc::{AllocError, Global};
 
 /// A tree of two levels: a root, page 0, over so many leaves. Leaf `i`, page `i + 1`, has the keys from `span * i` on, and that many

@@ -5,7 +5,7 @@ ghost use Rattle.row_sessions.specs.Standing.{Stands, HoldsAlone, IsPutter};
 use crate::locking::Unlocked;
 use crate::session::{CLOCK_END, Session, session_of, set_session};
 use crate::sessions::Sessions;
-use btree_descent::lean_proto::path::Path;
+use btree_descent::Path;
 use btree_descent::put::{Put, leaf_put};
 use key_locks::mode::Mode;
 

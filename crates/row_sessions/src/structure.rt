@@ -4,7 +4,7 @@ ghost use Rattle.row_sessions.specs.Standing.{Stands, IsDrawer};
 
 use crate::session::{CLOCK_END, Session, session_of, set_session};
 use crate::sessions::Sessions;
-use btree_descent::lean_proto::path::Path;
+use btree_descent::Path;
 use btree_smo::drop_root::drop_root;
 use btree_smo::join::join;
 use btree_smo::lift::lift;

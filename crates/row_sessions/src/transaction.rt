@@ -5,8 +5,8 @@ ghost use Rattle.row_sessions.specs.Standing.{Stands};
 use crate::events::{Begins, Ends};
 use crate::session::{CLOCK_END, session_of, set_session};
 use crate::sessions::Sessions;
+use btree_descent::Rows;
 use btree_descent::descent::{Answer, find};
-use btree_descent::rows_trait::rows::Rows;
 
 impl Sessions {
     /// Begins a transaction of a worker. False where it has one open, where its clock has come to `CLOCK_END`, or where its

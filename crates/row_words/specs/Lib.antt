@@ -8,4 +8,3 @@ pub mod Sealed
 -- Passed on to the crates above.
 pub use Rattle.btree_node.specs as btree_node
 pub use Rattle.core_state.specs as core_state
-pub use Rattle.core_state.specs.image_model as image_model

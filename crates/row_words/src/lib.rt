@@ -11,7 +11,7 @@ pub mod given;
 ghost use Rattle.row_words.specs.Laws.{EveryStays, EveryControl, EveryOwn};
 
 // Passed on to the crates above.
-pub use btree_node;
+pub use btree_node::Node;
 
 /// An event changes the words of the rows alone that it publishes: what a word of another row might read before it, it may
 /// read after it.

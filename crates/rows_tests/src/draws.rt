@@ -3,8 +3,7 @@ ghost use Rattle.std.specs.Prelude.{◌≡◌, ◌≤◌, ◌<◌, suc, ℕ, Lis
 ghost use Rattle.btree_descent.specs.log_record.declared.record.Record.{Record};
 ghost use Rattle.btree_descent.specs.draw_trait.Clocks.{Clock};
 
-use btree_descent::draw_trait::draw::{Draw, Unstaged};
-use btree_descent::log_record::{Body, Record};
+use btree_descent::{Body, Draw, Record, Unstaged};
 
 // The last number of a log, and its one record.
 #[derive(Drop)]

@@ -1,6 +1,6 @@
 // The words of three openings, written down by hand.
 use crate::expect::expect;
-use btree_descent::btree_node::Node;
+use btree_descent::BtreeNodeNode as Node;
 use row_opening::open_root;
 use row_sessions::opening::are_pages;
 use row_sessions::sessions::Sessions;

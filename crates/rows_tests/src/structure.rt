@@ -5,8 +5,7 @@ ghost use Rattle.row_sessions.specs.Standing.{Stands, workers_of};
 
 use crate::answers::{Call, TOMBSTONE, Told, answer};
 use crate::expect::expect;
-use btree_descent::btree_node::Node;
-use btree_descent::lean_proto::path::{DEEPEST, Path};
+use btree_descent::{BtreeNodeNode as Node, DEEPEST, Path};
 use btree_smo::outcome::Outcome;
 use row_sessions::pages::{eight_levels, one_leaf, two_levels};
 use row_sessions::sessions::{Sessions, Unopened};

@@ -12,6 +12,5 @@ pub mod First
 pub mod Causes
 pub mod Syncs
 -- Passed on to the crates above.
-pub use Rattle.row_words.proofs as row_words_lemmas
-pub use Rattle.row_words.proofs.btree_node_lemmas as btree_node_lemmas
-pub use Rattle.row_words.proofs.core_state_lemmas as core_state_lemmas
+pub use Rattle.row_words.proofs as row_words
+pub use Rattle.row_words.proofs.btree_node as btree_node

@@ -11,4 +11,3 @@ pub mod Inside
 pub use Rattle.row_words.specs as row_words
 pub use Rattle.row_words.specs.btree_node as btree_node
 pub use Rattle.row_words.specs.core_state as core_state
-pub use Rattle.row_words.specs.image_model as image_model

@@ -14,7 +14,7 @@ pub mod trace;
 pub mod view;
 
 // Passed on to the crates above.
-pub use row_words::btree_node;
+pub use row_words::Node;
 
 /// A number that was found in a latch is at most one above twice the number of events that were seen.
 pub fn every_low()

@@ -12,16 +12,16 @@ use Rattle.disk_runs.specs.core_state.Openings.{Opening, first_map}
 use Rattle.disk_runs.specs.core_state.Events.{Event}
 use Rattle.disk_runs.specs.core_state.Steps.{state_after}
 use Rattle.disk_runs.specs.core_crash.Crashes.{image_of}
-use Rattle.disk_runs.proofs.core_crash_lemmas.Cuts.{keep_same}
-use Rattle.disk_runs.proofs.core_crash_lemmas.Images.{gathered_has}
+use Rattle.disk_runs.proofs.core_crash.Cuts.{keep_same}
+use Rattle.disk_runs.proofs.core_crash.Images.{gathered_has}
 use Rattle.disk_runs.specs.disk_slots.declared.master.Master.{Master}
 use Rattle.disk_runs.specs.disk_image.Laws.{Agreement, EveryAgreement}
 use Rattle.disk_runs.specs.disk_image.Shown.{Areas, image_by}
 use Rattle.disk_runs.specs.core_disk.FloorLaws.{at_floor}
 use Rattle.disk_runs.specs.core_disk.Held.{HoldsRun}
 use Rattle.disk_runs.specs.core_disk.Shows.{EveryShown, Shows}
-use Rattle.disk_runs.proofs.core_disk_lemmas.FloorLemmas.{agreement_at, sound_at}
-use Rattle.disk_runs.proofs.core_disk_lemmas.HeldLemmas.{gathered_same}
+use Rattle.disk_runs.proofs.core_disk.FloorLemmas.{agreement_at, sound_at}
+use Rattle.disk_runs.proofs.core_disk.HeldLemmas.{gathered_same}
 use Rattle.core_calls.specs.Crashes.{EveryRunCrash, RunSurvives, WithOneInHand}
 use Rattle.core_calls.specs.Deeds.{Outcome}
 use Rattle.core_calls.specs.Fronts.{Done, front, outcomes}

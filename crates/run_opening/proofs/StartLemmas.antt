@@ -15,17 +15,17 @@ use Rattle.lean_disk.specs.Story.{Crash, Story, areas_of}
 use Rattle.disk_runs.specs.disk_slots.Masters.{IsMasterSlot, master_slot}
 use Rattle.disk_runs.specs.disk_slots.Pages.{page_slot}
 use Rattle.disk_runs.specs.disk_slots.declared.master.Master.{Master}
-use Rattle.disk_runs.proofs.disk_slots_lemmas.LawLemmas.{every_master}
+use Rattle.disk_runs.proofs.disk_slots.LawLemmas.{every_master}
 use Rattle.disk_runs.specs.disk_image.Formats.{format_of}
 use Rattle.disk_runs.specs.disk_image.PageSlots.{page_in}
 use Rattle.disk_runs.specs.disk_image.Runs.{HasNone, sealed_in}
 use Rattle.disk_runs.specs.disk_image.Shown.{head_of, image_by, page_slot_in, slot_of}
-use Rattle.disk_runs.proofs.disk_image_lemmas.MasterSlotLemmas.{every_master_in}
-use Rattle.disk_runs.proofs.disk_image_lemmas.PageSlotLemmas.{every_page_in}
+use Rattle.disk_runs.proofs.disk_image.MasterSlotLemmas.{every_master_in}
+use Rattle.disk_runs.proofs.disk_image.PageSlotLemmas.{every_page_in}
 use Rattle.disk_runs.specs.page_store.Bases.{image_page}
 use Rattle.disk_runs.specs.page_store.Saved.{Save, place_of, write_of}
-use Rattle.disk_runs.proofs.page_store_lemmas.PieceLemmas.{same_page}
-use Rattle.disk_runs.proofs.master_store_lemmas.SlotLemmas as slots
+use Rattle.disk_runs.proofs.page_store.PieceLemmas.{same_page}
+use Rattle.disk_runs.proofs.master_store.SlotLemmas as slots
 use Rattle.disk_runs.specs.worker_log.Logs.{Log}
 use Rattle.disk_runs.specs.worker_log.Kept.{IsFresh}
 use Rattle.recovery.specs.Opened.{IsGreatest}

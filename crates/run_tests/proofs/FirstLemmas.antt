@@ -7,20 +7,20 @@ use Rattle.map_model.specs.declared.call.Refusal.{Refusal}
 use Rattle.map_model.specs.declared.call.Refusal.TheVariants as refusal
 use Rattle.map_model.specs.Histories.{Step}
 use Rattle.map_model.specs.Lists.{any, keep, upd}
-use Rattle.core_crash.specs.core_state.Events.{Event}
-use Rattle.core_crash.specs.core_state.Local.{is_of}
-use Rattle.core_crash.specs.core_state.Needs.{may}
-use Rattle.core_crash.specs.core_state.Openings.{Opening}
-use Rattle.core_crash.specs.core_state.States.{State, Worker}
-use Rattle.core_crash.specs.core_state.Steps.{AllMet, begun, happens, run, state_after, step}
-use Rattle.core_calls.specs.Deeds.{Refused, Unsaid}
-use Rattle.core_calls.specs.Fronts.{Done, front, outcomes}
-use Rattle.core_calls.specs.LogEvents.{IsPressedYet, RefusedLogs, SyncsWhere, is_log}
-use Rattle.core_calls.specs.Marks.{Mark, Began, Ended, mark, marks, onto}
-use Rattle.core_calls.specs.Runs.{Tells}
-use Rattle.core_calls.specs.Steps.{Tries, Unlocks, call_behind, is_behind_row, is_change_call, is_step, is_structure}
-use Rattle.core_calls.proofs.WhereLemmas.{commit_never, syncs_nowhere}
-use Rattle.engine_trait.specs.Limits.{limits}
+use Rattle.lean_shell.specs.core_state.Events.{Event}
+use Rattle.lean_shell.specs.core_state.Local.{is_of}
+use Rattle.lean_shell.specs.core_state.Needs.{may}
+use Rattle.lean_shell.specs.core_state.Openings.{Opening}
+use Rattle.lean_shell.specs.core_state.States.{State, Worker}
+use Rattle.lean_shell.specs.core_state.Steps.{AllMet, begun, happens, run, state_after, step}
+use Rattle.lean_shell.specs.core_calls.Deeds.{Refused, Unsaid}
+use Rattle.lean_shell.specs.core_calls.Fronts.{Done, front, outcomes}
+use Rattle.lean_shell.specs.core_calls.LogEvents.{IsPressedYet, RefusedLogs, SyncsWhere, is_log}
+use Rattle.lean_shell.specs.core_calls.Marks.{Mark, Began, Ended, mark, marks, onto}
+use Rattle.lean_shell.specs.core_calls.Runs.{Tells}
+use Rattle.lean_shell.specs.core_calls.Steps.{Tries, Unlocks, call_behind, is_behind_row, is_change_call, is_step, is_structure}
+use Rattle.lean_shell.proofs.core_calls.WhereLemmas.{commit_never, syncs_nowhere}
+use Rattle.lean_shell.specs.engine_trait.Limits.{limits}
 
 abbrev is_sync : Event → Bool
 is_sync (Event.Sync n) = true

@@ -11,12 +11,12 @@ use Rattle.map_model.specs.Histories.{Step}
 use Rattle.map_model.specs.Journals.{Txn, Wrote, is_earlier}
 use Rattle.map_model.specs.Transcripts.{Line, Told, is_bound, journal, lines_in, lines_of, lines_onto, map_answer, map_call, pair_call, step_onto, steps_of, told, told_onto, txn_of}
 use Rattle.map_model.proofs.ListLemmas.{order_has}
-use Rattle.script_lang.specs.Lines.{line_of}
-use Rattle.script_lang.specs.Text.{script_lines, whole_lines}
-use Rattle.script_lang.specs.declared.line.Line as script
+use Rattle.lean_shell.specs.script_lang.Lines.{line_of}
+use Rattle.lean_shell.specs.script_lang.Text.{script_lines, whole_lines}
+use Rattle.lean_shell.specs.script_lang.declared.line.Line as script
 use Rattle.map_model.specs.declared.call.Answered.{Answered}
 use Rattle.map_model.specs.Pairings.{counted, ends_for, first_call, grouped, is_last, pair_onto, paired, rest_of}
-use Rattle.transcripts.specs.Transcripts.{answers, asked, asked_onto, transcript}
+use Rattle.lean_shell.specs.transcripts.Transcripts.{answers, asked, asked_onto, transcript}
 use Rattle.run_tests.specs.RuledOut.{AsksToWrite, Writes}
 
 -- ## Lines of a script

@@ -8,10 +8,10 @@ use Rattle.lean_disk.specs.MemDisk.{disk_story}
 use Rattle.lean_disk.specs.Story.{Crash, Story, areas_of}
 use Rattle.lean_disk.specs.Told.{Begins}
 use Rattle.lean_disk.specs.declared.mem_disk.MemDisk.{MemDisk}
-use Rattle.disk_image.specs.disk_slots.declared.master.Master.{Master}
-use Rattle.disk_image.specs.Fair.{IsFairCrash}
-use Rattle.disk_image.specs.MasterSlots.{master_on}
-use Rattle.disk_image.specs.Shown.{Areas, IsCleanDisk}
+use Rattle.lean_shell.specs.disk_slots.declared.master.Master.{Master}
+use Rattle.lean_shell.specs.disk_image.Fair.{IsFairCrash}
+use Rattle.lean_shell.specs.disk_image.MasterSlots.{master_on}
+use Rattle.lean_shell.specs.disk_image.Shown.{Areas, IsCleanDisk}
 use Rattle.lean_shell.specs.Crashes.{HasMasterOf, IsUnwritten, IsYoung, MasterLeaves, TellsCrashes}
 use Rattle.lean_shell.specs.Headline.{RunLeaves, Survives}
 use Rattle.lean_shell.specs.Runs.{AreOf}

@@ -2,8 +2,8 @@
 use Rattle.std.proofs.Common.{◌≡◌, ◌⊎◌, inl, inr, ◌≤◌, ◌+◌, ◌-◌, ◌*◌, ℕ, List, [], ◌∷◌, length, take, drop, refl, sym, ◌∙◌, ap, arith}
 use Rattle.std.proofs.lemmas.Bool.{cases_lt}
 use Rattle.map_model.specs.Lists.{Has}
-use Rattle.core_crash.specs.image_model.Fair.{Touches, after_writes, piece}
-use Rattle.core_crash.proofs.image_model_lemmas.FairLemmas.{ahead, behind, long_after}
+use Rattle.lean_shell.specs.image_model.Fair.{Touches, after_writes, piece}
+use Rattle.lean_shell.proofs.image_model.FairLemmas.{ahead, behind, long_after}
 use Rattle.lean_disk.specs.Area.{Write, put_over}
 use Rattle.run_tests.specs.RuledOut.{EveryReadIsFair}
 

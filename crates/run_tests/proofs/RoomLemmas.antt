@@ -8,17 +8,17 @@ use Rattle.map_model.specs.declared.call.Refusal.TheVariants as refusal
 use Rattle.map_model.specs.Lists.{Has, all, any}
 use Rattle.map_model.specs.Maps.{MapAnswer}
 use Rattle.map_model.specs.Pairings.{is_last, is_last_refusal, script_of}
-use Rattle.core_crash.specs.core_state.Events.{Event, Mode}
-use Rattle.core_crash.specs.core_state.Openings.{Opening}
-use Rattle.core_calls.specs.Deeds.{Deed, Met, Refused, answered, asked}
-use Rattle.core_calls.specs.Fronts.{Done, outcomes}
-use Rattle.core_calls.specs.Steps.{call_behind, due_call, hindered_in, is_conflict, is_structure}
-use Rattle.engine_trait.specs.Rooms.{needs_sync}
-use Rattle.call_parts.specs.Rooms.{AreReady, HasDoneFor, IsRoomFor, gives_room, is_paging, makes_sync, puts_back, takes_row, walks}
-use Rattle.engine_front.specs.Turns.{IsHindered, IsScanning}
-use Rattle.script_run.specs.Runs.{calls_of}
-use Rattle.transcripts.specs.Laws.{ComesNext}
-use Rattle.transcripts.specs.Told.{ask, asked_lines, LineFits}
+use Rattle.lean_shell.specs.core_state.Events.{Event, Mode}
+use Rattle.lean_shell.specs.core_state.Openings.{Opening}
+use Rattle.lean_shell.specs.core_calls.Deeds.{Deed, Met, Refused, answered, asked}
+use Rattle.lean_shell.specs.core_calls.Fronts.{Done, outcomes}
+use Rattle.lean_shell.specs.core_calls.Steps.{call_behind, due_call, hindered_in, is_conflict, is_structure}
+use Rattle.lean_shell.specs.engine_trait.Rooms.{needs_sync}
+use Rattle.lean_shell.specs.call_parts.Rooms.{AreReady, HasDoneFor, IsRoomFor, gives_room, is_paging, makes_sync, puts_back, takes_row, walks}
+use Rattle.lean_shell.specs.engine_front.Turns.{IsHindered, IsScanning}
+use Rattle.lean_shell.specs.script_run.Runs.{calls_of}
+use Rattle.lean_shell.specs.transcripts.Laws.{ComesNext}
+use Rattle.lean_shell.specs.transcripts.Told.{ask, asked_lines, LineFits}
 use Rattle.lean_shell.specs.Starts.{IsAskedNext}
 use Rattle.lean_shell.specs.Starts.IsAskedNext.{OfAbort, OfLine, OfScan}
 use Rattle.run_tests.specs.RuledOut.{Asks, EveryStoppedCall, IsAbort, IsDel, IsGet, IsPut, IsScan, StoppedLaws, is_back, is_look, is_walk, passes_gap}

@@ -12,37 +12,37 @@ use Rattle.map_model.specs.Maps.{Map, MapCall, write_of, writes_key}
 use Rattle.map_model.specs.Histories.{Step, first_of, last_write, write_or}
 use Rattle.map_model.specs.Journals.{Journal, Txn, after}
 use Rattle.map_model.proofs.ListLemmas.{any_has, keep_has}
-use Rattle.core_crash.specs.image_model.Ends.{is_kept, reach, wins}
-use Rattle.core_crash.specs.image_model.Entries.{Entry, is_commit}
-use Rattle.core_crash.specs.image_model.Fair.{piece}
-use Rattle.core_crash.specs.image_model.Images.{Image, found, map_of}
+use Rattle.lean_shell.specs.image_model.Ends.{is_kept, reach, wins}
+use Rattle.lean_shell.specs.image_model.Entries.{Entry, is_commit}
+use Rattle.lean_shell.specs.image_model.Fair.{piece}
+use Rattle.lean_shell.specs.image_model.Images.{Image, found, map_of}
 use Rattle.lean_disk.specs.Story.{Crash, Story, areas_of}
-use Rattle.disk_image.specs.disk_slots.declared.master.Master.{Master}
-use Rattle.disk_image.specs.Laws.{EveryMasterIn}
-use Rattle.disk_image.specs.MasterSlots.{master_in, master_on, newer}
-use Rattle.disk_image.specs.Shown.{image_by}
-use Rattle.recovery.specs.Opened.{IsGreatest}
-use Rattle.core_crash.specs.core_state.Openings.{Opening}
-use Rattle.core_crash.specs.core_state.Events.{Event}
-use Rattle.core_crash.specs.core_state.States.{State, Worker, start}
-use Rattle.core_crash.specs.core_state.Steps.{begun, run, state_after}
-use Rattle.core_crash.proofs.core_state_lemmas.Runs.{run_more}
-use Rattle.core_calls.specs.Deeds.{Deed, Begun, Committed, Aborted, Refused, Unsaid, answered, asked, marks_for, marks_of, reads_of}
-use Rattle.core_calls.specs.Fronts.{Done, front, outcomes}
-use Rattle.core_calls.specs.LogEvents.{behind}
-use Rattle.core_calls.specs.Marks.{Mark, Began, Ended, is_half}
-use Rattle.core_calls.specs.Runs.{IsRefused, Tells}
-use Rattle.core_calls.specs.Steps.{IsBehind, call_behind, due_call, hindered_in, is_structure}
-use Rattle.call_parts.specs.Deeds.{Answers}
-use Rattle.call_parts.specs.Memory.{Memory}
-use Rattle.call_parts.specs.Rooms.{most_of}
-use Rattle.engine_trait.specs.Calls.{is_half_done}
-use Rattle.engine_trait.specs.Limits.{limits}
-use Rattle.engine_trait.specs.Refusals.{IsMetOnWay, in_transaction, log_refusal, refusal_in}
-use Rattle.worker_log.specs.Logs.{Log}
-use Rattle.transcripts.specs.Transcripts.{first_lines}
-use Rattle.script_run.specs.Runs.{Executes}
-use Rattle.paged_engine.specs.declared.opening.Size.{Size}
+use Rattle.lean_shell.specs.disk_slots.declared.master.Master.{Master}
+use Rattle.lean_shell.specs.disk_image.Laws.{EveryMasterIn}
+use Rattle.lean_shell.specs.disk_image.MasterSlots.{master_in, master_on, newer}
+use Rattle.lean_shell.specs.disk_image.Shown.{image_by}
+use Rattle.lean_shell.specs.recovery.Opened.{IsGreatest}
+use Rattle.lean_shell.specs.core_state.Openings.{Opening}
+use Rattle.lean_shell.specs.core_state.Events.{Event}
+use Rattle.lean_shell.specs.core_state.States.{State, Worker, start}
+use Rattle.lean_shell.specs.core_state.Steps.{begun, run, state_after}
+use Rattle.lean_shell.proofs.core_state.Runs.{run_more}
+use Rattle.lean_shell.specs.core_calls.Deeds.{Deed, Begun, Committed, Aborted, Refused, Unsaid, answered, asked, marks_for, marks_of, reads_of}
+use Rattle.lean_shell.specs.core_calls.Fronts.{Done, front, outcomes}
+use Rattle.lean_shell.specs.core_calls.LogEvents.{behind}
+use Rattle.lean_shell.specs.core_calls.Marks.{Mark, Began, Ended, is_half}
+use Rattle.lean_shell.specs.core_calls.Runs.{IsRefused, Tells}
+use Rattle.lean_shell.specs.core_calls.Steps.{IsBehind, call_behind, due_call, hindered_in, is_structure}
+use Rattle.lean_shell.specs.call_parts.Deeds.{Answers}
+use Rattle.lean_shell.specs.call_parts.Memory.{Memory}
+use Rattle.lean_shell.specs.call_parts.Rooms.{most_of}
+use Rattle.lean_shell.specs.engine_trait.Calls.{is_half_done}
+use Rattle.lean_shell.specs.engine_trait.Limits.{limits}
+use Rattle.lean_shell.specs.engine_trait.Refusals.{IsMetOnWay, in_transaction, log_refusal, refusal_in}
+use Rattle.lean_shell.specs.worker_log.Logs.{Log}
+use Rattle.lean_shell.specs.transcripts.Transcripts.{first_lines}
+use Rattle.lean_shell.specs.script_run.Runs.{Executes}
+use Rattle.lean_shell.specs.paged_engine.declared.opening.Size.{Size}
 use Rattle.lean_shell.specs.Headline.{Survives}
 use Rattle.lean_shell.specs.Runs.{Counts, Executed, IsFrom, first_log}
 use Rattle.run_tests.specs.RuledOut.{BeginsAt, EveryDurableIsFound, EveryFirstBegin, EveryFirstCommit, EveryKeyStands, EveryOtherKeyStands, HasItsCommit, IsOneOf, NoneWrites}

@@ -10,18 +10,18 @@ use Rattle.map_model.specs.declared.call.Call.TheVariants.{Commit}
 use Rattle.map_model.specs.declared.call.Refusal.{Refusal}
 use Rattle.map_model.specs.declared.call.Refusal.TheVariants.{Conflict}
 use Rattle.map_model.specs.Pairings.{in_turn, is_last, is_last_refusal, is_open_line, script_of}
-use Rattle.core_crash.specs.image_model.Entries.{Entry}
-use Rattle.core_crash.specs.core_state.Events.{Event}
-use Rattle.core_crash.specs.core_state.Needs.{are_hot, following, holds_answer, is_following, is_leaf_of, needs}
-use Rattle.core_crash.specs.core_state.Openings.{Opening}
-use Rattle.core_crash.specs.core_state.States.{State}
-use Rattle.core_crash.specs.core_state.Steps.{run, state_after}
-use Rattle.core_calls.specs.Deeds.{Deed, Met, Refused, answered}
-use Rattle.core_calls.specs.Scans.{is_scan}
-use Rattle.core_calls.specs.Steps.{hindered_in, is_conflict}
+use Rattle.lean_shell.specs.image_model.Entries.{Entry}
+use Rattle.lean_shell.specs.core_state.Events.{Event}
+use Rattle.lean_shell.specs.core_state.Needs.{are_hot, following, holds_answer, is_following, is_leaf_of, needs}
+use Rattle.lean_shell.specs.core_state.Openings.{Opening}
+use Rattle.lean_shell.specs.core_state.States.{State}
+use Rattle.lean_shell.specs.core_state.Steps.{run, state_after}
+use Rattle.lean_shell.specs.core_calls.Deeds.{Deed, Met, Refused, answered}
+use Rattle.lean_shell.specs.core_calls.Scans.{is_scan}
+use Rattle.lean_shell.specs.core_calls.Steps.{hindered_in, is_conflict}
 use Rattle.lean_disk.specs.Story.{Story}
-use Rattle.core_calls.specs.Fronts.{Done, front}
-use Rattle.script_run.specs.Runs.{calls_of}
+use Rattle.lean_shell.specs.core_calls.Fronts.{Done, front}
+use Rattle.lean_shell.specs.script_run.Runs.{calls_of}
 use Rattle.run_tests.specs.Ties.{EveryConflictIsAborted, EveryFlushedIsLeft, EveryHandIsNext, EveryPairIsHeld, EveryUsedIsWritten}
 
 hindered_open : (d : Deed) (c : Call) → hindered_in d ≡ Some c → is_last (answered d) ≡ false

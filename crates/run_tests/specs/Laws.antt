@@ -4,11 +4,11 @@ use Rattle.lean_disk.specs.MemDisk.{disk_story}
 use Rattle.lean_disk.specs.Story.{Crash, Story, areas_of}
 use Rattle.lean_disk.specs.Told.{Begins, BeginsAfter}
 use Rattle.lean_disk.specs.declared.mem_disk.MemDisk.{MemDisk}
-use Rattle.lean_edge.specs.Outside.{Feed, Held}
-use Rattle.disk_image.specs.disk_slots.declared.master.Master.{Master}
-use Rattle.disk_image.specs.Fair.{IsFairCrash}
-use Rattle.disk_image.specs.Shown.{Areas, IsCleanDisk}
-use Rattle.paged_engine.specs.declared.opening.Size.{Size}
+use Rattle.lean_shell.specs.lean_edge.Outside.{Feed, Held}
+use Rattle.lean_shell.specs.disk_slots.declared.master.Master.{Master}
+use Rattle.lean_shell.specs.disk_image.Fair.{IsFairCrash}
+use Rattle.lean_shell.specs.disk_image.Shown.{Areas, IsCleanDisk}
+use Rattle.lean_shell.specs.paged_engine.declared.opening.Size.{Size}
 use Rattle.lean_shell.specs.Crashes.{IsYoung, TellsCrashes}
 use Rattle.lean_shell.specs.Ends.{RunEnds}
 use Rattle.lean_shell.specs.Headline.{Headline, Survives}

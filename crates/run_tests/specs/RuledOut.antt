@@ -6,28 +6,28 @@ use Rattle.map_model.specs.declared.call.Answer.TheVariants as answer
 use Rattle.map_model.specs.Lists.{Has, all, any}
 use Rattle.map_model.specs.Maps.{MapAnswer}
 use Rattle.map_model.specs.Journals.{Journal, Name, Txn, Wrote}
-use Rattle.core_calls.specs.Deeds.{answered, asked}
-use Rattle.core_calls.specs.Fronts.{Done}
-use Rattle.core_calls.specs.Steps.{is_structure}
-use Rattle.core_crash.specs.image_model.Entries.{Entry, is_commit}
-use Rattle.core_crash.specs.image_model.Fair.{IsFair, after_writes}
-use Rattle.core_crash.specs.image_model.Images.{found, map_of}
+use Rattle.lean_shell.specs.core_calls.Deeds.{answered, asked}
+use Rattle.lean_shell.specs.core_calls.Fronts.{Done}
+use Rattle.lean_shell.specs.core_calls.Steps.{is_structure}
+use Rattle.lean_shell.specs.image_model.Entries.{Entry, is_commit}
+use Rattle.lean_shell.specs.image_model.Fair.{IsFair, after_writes}
+use Rattle.lean_shell.specs.image_model.Images.{found, map_of}
 use Rattle.lean_disk.specs.Area.{Write}
 use Rattle.lean_disk.specs.Story.{Crash, Story, areas_of}
-use Rattle.disk_image.specs.disk_slots.declared.master.Master.{Master}
-use Rattle.disk_image.specs.MasterSlots.{master_on}
-use Rattle.disk_image.specs.Shown.{Areas, image_by}
-use Rattle.core_crash.specs.core_state.Openings.{Opening}
-use Rattle.core_crash.specs.core_state.Events.{Event, Mode}
-use Rattle.call_parts.specs.Rooms.{is_paging, makes_sync}
-use Rattle.engine_front.specs.Turns.{IsHindered, IsScanning}
-use Rattle.recovery.specs.Opened.{IsGreatest}
-use Rattle.recovery.specs.Telling.{TellsAll}
-use Rattle.script_lang.specs.Lines.{Spells, line_of}
-use Rattle.script_lang.specs.Text.{script_lines}
-use Rattle.script_lang.specs.declared.line.Line.{Line}
-use Rattle.transcripts.specs.Transcripts.{durables, first_lines}
-use Rattle.paged_engine.specs.declared.opening.Size.{Size}
+use Rattle.lean_shell.specs.disk_slots.declared.master.Master.{Master}
+use Rattle.lean_shell.specs.disk_image.MasterSlots.{master_on}
+use Rattle.lean_shell.specs.disk_image.Shown.{Areas, image_by}
+use Rattle.lean_shell.specs.core_state.Openings.{Opening}
+use Rattle.lean_shell.specs.core_state.Events.{Event, Mode}
+use Rattle.lean_shell.specs.call_parts.Rooms.{is_paging, makes_sync}
+use Rattle.lean_shell.specs.engine_front.Turns.{IsHindered, IsScanning}
+use Rattle.lean_shell.specs.recovery.Opened.{IsGreatest}
+use Rattle.lean_shell.specs.recovery.Telling.{TellsAll}
+use Rattle.lean_shell.specs.script_lang.Lines.{Spells, line_of}
+use Rattle.lean_shell.specs.script_lang.Text.{script_lines}
+use Rattle.lean_shell.specs.script_lang.declared.line.Line.{Line}
+use Rattle.lean_shell.specs.transcripts.Transcripts.{durables, first_lines}
+use Rattle.lean_shell.specs.paged_engine.declared.opening.Size.{Size}
 use Rattle.lean_shell.specs.Headline.{Survives}
 use Rattle.lean_shell.specs.Runs.{Counts, Executed}
 use Rattle.lean_shell.specs.Starts.{IsRoomOfNext}

@@ -7,29 +7,29 @@ use Rattle.map_model.specs.declared.call.Call.TheVariants.{Commit}
 use Rattle.map_model.specs.Journals.{Journal}
 use Rattle.map_model.specs.Lists.{Has}
 use Rattle.map_model.specs.Pairings.{in_turn, script_of}
-use Rattle.core_calls.specs.Deeds.{answered}
-use Rattle.core_calls.specs.Fronts.{Done, front}
-use Rattle.core_calls.specs.Steps.{hindered_in}
-use Rattle.core_crash.specs.Crashes.{log_of}
-use Rattle.core_crash.specs.core_state.Events.{Event}
-use Rattle.core_crash.specs.core_state.Needs.{holds_row, value_in}
-use Rattle.core_crash.specs.core_state.Openings.{Opening}
-use Rattle.core_crash.specs.core_state.States.{State}
-use Rattle.core_crash.specs.core_state.Steps.{run, state_after}
-use Rattle.disk_image.specs.Runs.{Block, block_at}
-use Rattle.disk_image.specs.Shown.{IsCleanDisk}
-use Rattle.disk_image.specs.disk_slots.declared.master.Master.{Master}
-use Rattle.core_crash.specs.image_model.Entries.{Entry}
+use Rattle.lean_shell.specs.core_calls.Deeds.{answered}
+use Rattle.lean_shell.specs.core_calls.Fronts.{Done, front}
+use Rattle.lean_shell.specs.core_calls.Steps.{hindered_in}
+use Rattle.lean_shell.specs.core_crash.Crashes.{log_of}
+use Rattle.lean_shell.specs.core_state.Events.{Event}
+use Rattle.lean_shell.specs.core_state.Needs.{holds_row, value_in}
+use Rattle.lean_shell.specs.core_state.Openings.{Opening}
+use Rattle.lean_shell.specs.core_state.States.{State}
+use Rattle.lean_shell.specs.core_state.Steps.{run, state_after}
+use Rattle.lean_shell.specs.disk_image.Runs.{Block, block_at}
+use Rattle.lean_shell.specs.disk_image.Shown.{IsCleanDisk}
+use Rattle.lean_shell.specs.disk_slots.declared.master.Master.{Master}
+use Rattle.lean_shell.specs.image_model.Entries.{Entry}
 use Rattle.lean_disk.specs.Story.{Story, areas_of}
-use Rattle.lean_edge.specs.Outside.{Feed}
-use Rattle.paged_engine.specs.declared.opening.Size.{Size}
-use Rattle.disk_image.specs.log_record.declared.record.Record.{Record}
-use Rattle.script_lang.specs.Text.{script_lines}
-use Rattle.script_run.specs.Runs.{works_on}
-use Rattle.script_run.specs.declared.stop.Stop.TheVariants as stops
-use Rattle.transcripts.specs.Transcripts.{asked, transcript}
-use Rattle.worker_log.specs.Accounts.{spelled_from}
-use Rattle.worker_log.specs.Logs.{Log, used}
+use Rattle.lean_shell.specs.lean_edge.Outside.{Feed}
+use Rattle.lean_shell.specs.paged_engine.declared.opening.Size.{Size}
+use Rattle.lean_shell.specs.log_record.declared.record.Record.{Record}
+use Rattle.lean_shell.specs.script_lang.Text.{script_lines}
+use Rattle.lean_shell.specs.script_run.Runs.{works_on}
+use Rattle.lean_shell.specs.script_run.declared.stop.Stop.TheVariants as stops
+use Rattle.lean_shell.specs.transcripts.Transcripts.{asked, transcript}
+use Rattle.lean_shell.specs.worker_log.Accounts.{spelled_from}
+use Rattle.lean_shell.specs.worker_log.Logs.{Log, used}
 use Rattle.lean_shell.specs.Crashes.{IsYoung, TellsCrashes}
 use Rattle.lean_shell.specs.Headline.{IsInHand}
 use Rattle.lean_shell.specs.Runs.{Ran}

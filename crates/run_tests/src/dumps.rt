@@ -7,7 +7,7 @@ use crate::runs::{
 use crate::scripts::{SIX_TEXT, TWO_TEXT};
 use crate::sweeps::disk_of_two;
 use lean_disk::MemDisk;
-use lean_edge::MemSink;
+use lean_shell::MemSink;
 use std::alloc::Global;
 use std::process::Abort;
 use std::sync::Wait;

@@ -2,8 +2,8 @@
 #![tactic(auto)]
 
 ghost use Rattle.std.specs.Prelude.{codes};
-ghost use Rattle.disk_image.specs.disk_slots.Slots as slots;
-ghost use Rattle.disk_image.specs.log_block.Block as blocks;
+ghost use Rattle.lean_shell.specs.disk_slots.Slots as slots;
+ghost use Rattle.lean_shell.specs.log_block.Block as blocks;
 ghost use Rattle.run_tests.specs.Laws.{EveryNextRun};
 ghost use Rattle.run_tests.specs.RuledOut.{EveryDurableIsFound, EveryFirstBegin, EveryFirstCommit, EveryKeyStands, EveryOtherKeyStands, EveryReadIsFair, EveryStoppedCall};
 ghost use Rattle.run_tests.specs.Ties.{EveryConflictIsAborted, EveryFlushedIsLeft, EveryHandIsNext, EveryPairIsHeld, EveryUsedIsWritten};
@@ -37,14 +37,14 @@ pub fn every_durable_is_found<D: Disk>(disk: &D)
 pub fn every_first_begin<D: Disk>(disk: &D)
     ensures { EveryFirstBegin (D.story disk.now) }
 {
-    disk_image::every_master_in();
+    lean_shell::every_master_in();
 }
 
 /// A run's first commit has the number behind the greatest of the disk.
 pub fn every_first_commit<D: Disk>(disk: &D)
     ensures { EveryFirstCommit (D.story disk.now) }
 {
-    disk_image::every_master_in();
+    lean_shell::every_master_in();
 }
 
 /// What a call that was not answered leaves is what a line of the script may do: only a put changes the tree, and only an abort puts back.

@@ -2,8 +2,8 @@
 use crate::cases::expect;
 use crate::runs::{FORMAT, MEMORY, at_rest, crashed, formatted, run_script};
 use crate::scripts::PUT;
-use disk_image::log_block::block_bytes;
 use lean_disk::{Choice, Disk, MemDisk};
+use lean_shell::block_bytes;
 use std::alloc::Global;
 use std::process::Abort;
 use std::sync::Wait;

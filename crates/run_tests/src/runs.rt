@@ -1,8 +1,7 @@
 // Runs of the program on a disk in memory. Memory that is refused ends the test.
 use crate::cases::expect;
 use lean_disk::{Choice, MemDisk};
-use lean_edge::{MemSink, MemSource};
-use lean_shell::{Ended, Gate, run};
+use lean_shell::{Ended, Gate, MemSink, MemSource, run};
 use std::alloc::Global;
 use std::process::Abort;
 use std::str;

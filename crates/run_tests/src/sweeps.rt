@@ -12,7 +12,7 @@ use crate::scripts::{
 };
 use crate::trees::{grown, maps_of_splits};
 use lean_disk::{Choice, MemDisk};
-use lean_edge::MemSink;
+use lean_shell::MemSink;
 use std::alloc::Global;
 use std::process::Abort;
 use std::sync::Wait;

@@ -10,17 +10,17 @@ use Rattle.map_model.specs.declared.call.Call.{Call}
 use Rattle.map_model.specs.declared.call.Answer.{Answer}
 use Rattle.map_model.specs.Lists.{any}
 use Rattle.map_model.specs.Outputs.{Reply}
-use Rattle.disk_runs.specs.core_state.Events.{Event}
-use Rattle.disk_runs.specs.core_state.Local.{is_sync}
-use Rattle.disk_runs.specs.core_state.Openings.{Opening}
-use Rattle.disk_runs.specs.disk_slots.declared.master.Master.{Master}
-use Rattle.core_calls.specs.Fronts.{Done, front}
-use Rattle.core_calls.specs.Printed.{printed}
-use Rattle.disk_runs.specs.Masters.{IsOfRunBy}
-use Rattle.disk_runs.specs.Stands.{Known}
-use Rattle.run_crashes.specs.Lines.{lines_of}
-use Rattle.engine_calls.specs.Clauses.{Between}
-use Rattle.engine_trait.specs.Limits.{limits}
+use Rattle.call_parts.specs.core_state.Events.{Event}
+use Rattle.call_parts.specs.core_state.Local.{is_sync}
+use Rattle.call_parts.specs.core_state.Openings.{Opening}
+use Rattle.call_parts.specs.disk_slots.declared.master.Master.{Master}
+use Rattle.call_parts.specs.core_calls.Fronts.{Done, front}
+use Rattle.call_parts.specs.core_calls.Printed.{printed}
+use Rattle.call_parts.specs.disk_runs.Masters.{IsOfRunBy}
+use Rattle.call_parts.specs.disk_runs.Stands.{Known}
+use Rattle.call_parts.specs.run_crashes.Lines.{lines_of}
+use Rattle.call_parts.specs.engine_calls.Clauses.{Between}
+use Rattle.call_parts.specs.engine_trait.Limits.{limits}
 use Rattle.call_parts.specs.Areas.{is_save}
 use Rattle.call_parts.specs.Deeds.{Does, Fails, Happens}
 use Rattle.call_parts.specs.Memory.{IsOf, Memory}

@@ -7,27 +7,27 @@ use Rattle.lean_disk.specs.Moments.{LeavesOnly}
 use Rattle.lean_disk.specs.Story.{Crash, IsLawful, Story}
 use Rattle.lean_disk.proofs.MomentLemmas.{started, then, weaker}
 use Rattle.map_model.specs.Outputs.{Reply}
-use Rattle.disk_runs.specs.core_state.Events.{Event}
-use Rattle.disk_runs.specs.core_state.Openings.{Opening}
-use Rattle.disk_runs.specs.disk_slots.declared.master.Master.{Master}
-use Rattle.disk_runs.specs.disk_image.Laws.{EveryAgreement}
-use Rattle.disk_runs.specs.core_disk.Shows.{EveryShown}
-use Rattle.core_calls.specs.Crashes.{EveryRunCrash}
-use Rattle.core_calls.specs.Fronts.{Done, front, outcomes}
-use Rattle.core_calls.specs.Printed.{printed}
-use Rattle.disk_runs.specs.Fair.{TellsAll}
-use Rattle.disk_runs.specs.Masters.{IsNoEarlier, IsOfRunBy}
-use Rattle.disk_runs.specs.Stands.{Known}
-use Rattle.disk_runs.proofs.LineLemmas.{every_master_line}
-use Rattle.disk_runs.proofs.StandLemmas.{every_same}
-use Rattle.run_crashes.specs.Lines.{CallLeaves, NoneStopped, RunLeft, lines_of, notes_of}
-use Rattle.run_crashes.proofs.LineLemmas.{every_crashed_line_for, every_stop_for, wider}
-use Rattle.engine_calls.specs.Clauses.{Between}
-use Rattle.engine_calls.specs.Runs.{LineCrash, LinesOut, Runs}
-use Rattle.engine_calls.proofs.MomentLemmas.{still}
-use Rattle.engine_calls.proofs.RunLemmas.{every_run_for, line}
-use Rattle.core_calls.specs.Steps.{call_behind}
-use Rattle.engine_trait.specs.Limits.{limits}
+use Rattle.call_parts.specs.core_state.Events.{Event}
+use Rattle.call_parts.specs.core_state.Openings.{Opening}
+use Rattle.call_parts.specs.disk_slots.declared.master.Master.{Master}
+use Rattle.call_parts.specs.disk_image.Laws.{EveryAgreement}
+use Rattle.call_parts.specs.core_disk.Shows.{EveryShown}
+use Rattle.call_parts.specs.core_calls.Crashes.{EveryRunCrash}
+use Rattle.call_parts.specs.core_calls.Fronts.{Done, front, outcomes}
+use Rattle.call_parts.specs.core_calls.Printed.{printed}
+use Rattle.call_parts.specs.disk_runs.Fair.{TellsAll}
+use Rattle.call_parts.specs.disk_runs.Masters.{IsNoEarlier, IsOfRunBy}
+use Rattle.call_parts.specs.disk_runs.Stands.{Known}
+use Rattle.call_parts.proofs.disk_runs.LineLemmas.{every_master_line}
+use Rattle.call_parts.proofs.disk_runs.StandLemmas.{every_same}
+use Rattle.call_parts.specs.run_crashes.Lines.{CallLeaves, NoneStopped, RunLeft, lines_of, notes_of}
+use Rattle.call_parts.proofs.run_crashes.LineLemmas.{every_crashed_line_for, every_stop_for, wider}
+use Rattle.call_parts.specs.engine_calls.Clauses.{Between}
+use Rattle.call_parts.specs.engine_calls.Runs.{LineCrash, LinesOut, Runs}
+use Rattle.call_parts.proofs.engine_calls.MomentLemmas.{still}
+use Rattle.call_parts.proofs.engine_calls.RunLemmas.{every_run_for, line}
+use Rattle.call_parts.specs.core_calls.Steps.{call_behind}
+use Rattle.call_parts.specs.engine_trait.Limits.{limits}
 use Rattle.call_parts.specs.Areas.{Around, Beside, IsAside}
 use Rattle.call_parts.specs.Deeds.{Keeps, Stops, Stops as stops}
 use Rattle.call_parts.specs.Memory.{IsOf, Memory}

@@ -10,16 +10,16 @@ use Rattle.map_model.specs.declared.call.Answer.{Answer}
 use Rattle.map_model.specs.Journals.{Name}
 use Rattle.map_model.specs.Outputs.{Reply}
 use Rattle.map_model.specs.Pairings.{is_last}
-use Rattle.disk_runs.specs.core_state.Events.{Event}
-use Rattle.disk_runs.specs.core_state.Openings.{Opening}
-use Rattle.disk_runs.specs.core_state.Steps.{state_after}
-use Rattle.core_calls.specs.Deeds.{answered}
-use Rattle.core_calls.specs.Durables.{due, durables, moments}
-use Rattle.core_calls.specs.Fronts.{front}
-use Rattle.core_calls.specs.Fronts as fronts
-use Rattle.core_calls.specs.Printed.{due_lines, durable_lines, printed}
-use Rattle.core_calls.proofs.CommitLemmas.{moments_last, moments_open, up_to_next}
-use Rattle.run_crashes.specs.Lines.{lines_of}
+use Rattle.call_parts.specs.core_state.Events.{Event}
+use Rattle.call_parts.specs.core_state.Openings.{Opening}
+use Rattle.call_parts.specs.core_state.Steps.{state_after}
+use Rattle.call_parts.specs.core_calls.Deeds.{answered}
+use Rattle.call_parts.specs.core_calls.Durables.{due, durables, moments}
+use Rattle.call_parts.specs.core_calls.Fronts.{front}
+use Rattle.call_parts.specs.core_calls.Fronts as fronts
+use Rattle.call_parts.specs.core_calls.Printed.{due_lines, durable_lines, printed}
+use Rattle.call_parts.proofs.core_calls.CommitLemmas.{moments_last, moments_open, up_to_next}
+use Rattle.call_parts.specs.run_crashes.Lines.{lines_of}
 use Rattle.script_lang.specs.Replies.{Fits, reply_line}
 use Rattle.script_run.specs.Inside.{HasTold, Says, Taking}
 use Rattle.script_run.specs.declared.stop.Stop.{Stop}

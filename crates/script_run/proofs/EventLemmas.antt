@@ -6,20 +6,20 @@ use Rattle.map_model.specs.declared.call.Call.{Call}
 use Rattle.map_model.specs.declared.call.Call.TheVariants as call
 use Rattle.map_model.specs.Lists.{all, any}
 use Rattle.map_model.specs.Maps.{MapAnswer}
-use Rattle.disk_runs.specs.image_model.Entries.{Entry}
-use Rattle.disk_runs.specs.core_state.Events.{Event, Mode}
-use Rattle.disk_runs.specs.core_state.Openings.{Opening}
-use Rattle.disk_runs.specs.core_state.States.{State}
-use Rattle.disk_runs.specs.core_state.Local.{is_of}
-use Rattle.disk_runs.specs.core_state.Needs.{may}
-use Rattle.disk_runs.specs.core_state.Steps.{state_after, step}
-use Rattle.core_calls.specs.Deeds.{commits}
-use Rattle.core_calls.specs.Fronts.{Done, front, outcomes}
-use Rattle.core_calls.specs.Marks.{Ended, Mark, back_in, mark, marks, met_in, onto}
-use Rattle.core_calls.specs.Steps.{call_behind, is_structure}
-use Rattle.run_crashes.specs.Laws.{CommitsNone, OfEachFirst}
-use Rattle.engine_calls.proofs.MarkLemmas.{either_false}
-use Rattle.engine_trait.specs.Rooms.{MakesRoom, needs_sync}
+use Rattle.call_parts.specs.image_model.Entries.{Entry}
+use Rattle.call_parts.specs.core_state.Events.{Event, Mode}
+use Rattle.call_parts.specs.core_state.Openings.{Opening}
+use Rattle.call_parts.specs.core_state.States.{State}
+use Rattle.call_parts.specs.core_state.Local.{is_of}
+use Rattle.call_parts.specs.core_state.Needs.{may}
+use Rattle.call_parts.specs.core_state.Steps.{state_after, step}
+use Rattle.call_parts.specs.core_calls.Deeds.{commits}
+use Rattle.call_parts.specs.core_calls.Fronts.{Done, front, outcomes}
+use Rattle.call_parts.specs.core_calls.Marks.{Ended, Mark, back_in, mark, marks, met_in, onto}
+use Rattle.call_parts.specs.core_calls.Steps.{call_behind, is_structure}
+use Rattle.call_parts.specs.run_crashes.Laws.{CommitsNone, OfEachFirst}
+use Rattle.call_parts.proofs.engine_calls.MarkLemmas.{either_false}
+use Rattle.call_parts.specs.engine_trait.Rooms.{MakesRoom, needs_sync}
 use Rattle.call_parts.specs.Rooms.{AreReady, HasDoneFor, IsRoomFor, gives_room, is_paging, makes_sync, puts_back, takes_row, walks}
 use Rattle.script_run.specs.Runs.{Hand, StoppedIn}
 

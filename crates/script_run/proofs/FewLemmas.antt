@@ -3,13 +3,13 @@ use Rattle.std.proofs.Common.{◌≡◌, ◌++◌, ◌∷◌, [], ◌≤◌, ◌
 use Rattle.std.proofs.lemmas.List.{append-nil, length-append}
 use Rattle.map_model.specs.Outputs.{Reply}
 use Rattle.map_model.specs.Pairings.{script_of}
-use Rattle.disk_runs.specs.core_state.Openings.{Opening}
-use Rattle.core_calls.specs.Durables.{durables, moments}
-use Rattle.core_calls.specs.Fronts.{Done}
-use Rattle.core_calls.specs.LineCounts.{EveryLineCount, LineCountLaws}
-use Rattle.core_calls.specs.Printed.{printed}
-use Rattle.core_calls.specs.Runs.{EachTells, Tells}
-use Rattle.engine_trait.specs.Limits.{limits}
+use Rattle.call_parts.specs.core_state.Openings.{Opening}
+use Rattle.call_parts.specs.core_calls.Durables.{durables, moments}
+use Rattle.call_parts.specs.core_calls.Fronts.{Done}
+use Rattle.call_parts.specs.core_calls.LineCounts.{EveryLineCount, LineCountLaws}
+use Rattle.call_parts.specs.core_calls.Printed.{printed}
+use Rattle.call_parts.specs.core_calls.Runs.{EachTells, Tells}
+use Rattle.call_parts.specs.engine_trait.Limits.{limits}
 use Rattle.call_parts.specs.Memory.{Memory}
 use Rattle.lean_edge.specs.Outside.{Feed, Held}
 use Rattle.lean_disk.specs.Story.{Story}

@@ -8,9 +8,9 @@ use Rattle.map_model.specs.declared.call.Refusal.{Refusal}
 use Rattle.map_model.specs.declared.call.Refusal.TheVariants as refusal
 use Rattle.map_model.specs.Outputs.{Reply}
 use Rattle.map_model.specs.Pairings.{is_last}
-use Rattle.core_calls.specs.Deeds.{Deed, Outcome, Begun, Got, Changed, Deleted, Absent, Met, Paused, Over, Committed, Aborted, Refused, Synced, Checkpointed, answered, asked}
-use Rattle.core_calls.specs.Steps.{IsAbortOf, IsBehind, hindered_in, is_conflict}
-use Rattle.engine_trait.specs.Calls.{IsAsked}
+use Rattle.call_parts.specs.core_calls.Deeds.{Deed, Outcome, Begun, Got, Changed, Deleted, Absent, Met, Paused, Over, Committed, Aborted, Refused, Synced, Checkpointed, answered, asked}
+use Rattle.call_parts.specs.core_calls.Steps.{IsAbortOf, IsBehind, hindered_in, is_conflict}
+use Rattle.call_parts.specs.engine_trait.Calls.{IsAsked}
 use Rattle.engine_front.specs.Turns.{behind_answer, behind_durables, behind_last, is_conflict_in}
 use Rattle.engine_front.specs.declared.calls.Next.TheVariants.{Abort, Line, Scan}
 use Rattle.script_lang.specs.Replies.{AnswerFits, Fits, SessionFits, reply_text}

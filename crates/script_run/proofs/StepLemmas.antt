@@ -9,11 +9,11 @@ use Rattle.map_model.specs.declared.call.Call.{Call}
 use Rattle.map_model.specs.declared.call.Call.TheVariants as call
 use Rattle.map_model.specs.Journals.{Name}
 use Rattle.map_model.specs.Pairings.{is_last, is_open_line, script_of}
-use Rattle.disk_runs.specs.core_state.Openings.{Opening}
-use Rattle.core_calls.specs.Deeds.{answered, asked}
-use Rattle.core_calls.specs.Durables.{durables, moments}
-use Rattle.core_calls.specs.Fronts.{Done}
-use Rattle.run_crashes.specs.Lines.{lines_of}
+use Rattle.call_parts.specs.core_state.Openings.{Opening}
+use Rattle.call_parts.specs.core_calls.Deeds.{answered, asked}
+use Rattle.call_parts.specs.core_calls.Durables.{durables, moments}
+use Rattle.call_parts.specs.core_calls.Fronts.{Done}
+use Rattle.call_parts.specs.run_crashes.Lines.{lines_of}
 use Rattle.call_parts.specs.Deeds.{Does, Fails}
 use Rattle.call_parts.specs.Memory.{Memory}
 use Rattle.engine_front.specs.Stops.{StandsNot}

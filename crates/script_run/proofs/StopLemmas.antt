@@ -8,9 +8,9 @@ use Rattle.map_model.specs.Journals.{Name}
 use Rattle.map_model.specs.Outputs.{Reply}
 use Rattle.map_model.specs.declared.call.Answered.{Answered}
 use Rattle.map_model.specs.Pairings.{is_open_line, script_of}
-use Rattle.disk_runs.specs.core_state.Openings.{Opening}
-use Rattle.core_calls.specs.Durables.{durables, moments}
-use Rattle.core_calls.specs.Fronts.{Done}
+use Rattle.call_parts.specs.core_state.Openings.{Opening}
+use Rattle.call_parts.specs.core_calls.Durables.{durables, moments}
+use Rattle.call_parts.specs.core_calls.Fronts.{Done}
 use Rattle.transcripts.specs.Told.{ask, asked_text}
 use Rattle.transcripts.proofs.AskedLemmas.{asked_append}
 use Rattle.transcripts.proofs.TranscriptLemmas.{script_append}

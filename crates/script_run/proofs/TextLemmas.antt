@@ -7,8 +7,8 @@ use Rattle.script_lang.specs.Reading.{Unread, Reading}
 use Rattle.map_model.specs.Outputs.{Reply}
 use Rattle.map_model.specs.declared.call.Answered.{Answered}
 use Rattle.map_model.specs.Pairings.{is_last, is_open_line, script_of}
-use Rattle.core_calls.specs.Deeds.{answered}
-use Rattle.core_calls.specs.Fronts.{Done}
+use Rattle.call_parts.specs.core_calls.Deeds.{answered}
+use Rattle.call_parts.specs.core_calls.Fronts.{Done}
 use Rattle.script_lang.specs.Replies.{reply_line, reply_text}
 use Rattle.script_lang.specs.Text.{script_lines}
 use Rattle.transcripts.specs.Told.{ask, asked_lines, asked_text, text_of, EachLineFits, EachReplyFits, IsCut}

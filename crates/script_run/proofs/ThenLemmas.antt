@@ -9,18 +9,18 @@ use Rattle.map_model.specs.declared.call.Call.{Call}
 use Rattle.map_model.specs.declared.call.Answered.{Answered}
 use Rattle.map_model.specs.Journals.{Name}
 use Rattle.map_model.specs.Pairings.{is_open_line, script_of}
-use Rattle.disk_runs.specs.core_state.Openings.{Opening}
-use Rattle.core_calls.specs.Deeds.{in_words}
-use Rattle.core_calls.specs.Fronts.{Done, front}
-use Rattle.core_calls.specs.Crashes.{EveryRunCrash}
-use Rattle.disk_runs.specs.core_disk.Shows.{EveryShown}
-use Rattle.disk_runs.specs.disk_image.Laws.{EveryAgreement}
-use Rattle.disk_runs.specs.disk_slots.declared.master.Master.{Master}
-use Rattle.disk_runs.specs.Stands.{Known}
-use Rattle.disk_runs.proofs.LineLemmas.{every_master_line}
-use Rattle.run_crashes.specs.Lines.{NoneStopped}
-use Rattle.engine_calls.specs.Runs as runs
-use Rattle.engine_trait.specs.Limits.{limits}
+use Rattle.call_parts.specs.core_state.Openings.{Opening}
+use Rattle.call_parts.specs.core_calls.Deeds.{in_words}
+use Rattle.call_parts.specs.core_calls.Fronts.{Done, front}
+use Rattle.call_parts.specs.core_calls.Crashes.{EveryRunCrash}
+use Rattle.call_parts.specs.core_disk.Shows.{EveryShown}
+use Rattle.call_parts.specs.disk_image.Laws.{EveryAgreement}
+use Rattle.call_parts.specs.disk_slots.declared.master.Master.{Master}
+use Rattle.call_parts.specs.disk_runs.Stands.{Known}
+use Rattle.call_parts.proofs.disk_runs.LineLemmas.{every_master_line}
+use Rattle.call_parts.specs.run_crashes.Lines.{NoneStopped}
+use Rattle.call_parts.specs.engine_calls.Runs as runs
+use Rattle.call_parts.specs.engine_trait.Limits.{limits}
 use Rattle.call_parts.specs.Memory.{IsOf, Memory}
 use Rattle.script_lang.specs.Reading.{Unread, Reading}
 use Rattle.transcripts.specs.Told.{asked_text, EachLineFits}

@@ -5,25 +5,25 @@ use Rattle.map_model.specs.declared.call.Answer.TheVariants as answer
 use Rattle.map_model.specs.Journals.{Name}
 use Rattle.map_model.specs.Outputs.{Reply}
 use Rattle.map_model.specs.Pairings.{is_last, is_open_line, script_of}
-use Rattle.disk_runs.specs.core_state.Openings.{Opening}
+use Rattle.call_parts.specs.core_state.Openings.{Opening}
 use Rattle.lean_edge.specs.Outside.{Feed, Held}
 use Rattle.lean_disk.specs.Area.{Leaves}
 use Rattle.lean_disk.specs.Moments.{LeavesOnly}
 use Rattle.lean_disk.specs.Story.{Crash, Story, Tells}
-use Rattle.disk_runs.specs.disk_slots.declared.master.Master.{Master}
-use Rattle.disk_runs.specs.disk_image.Laws.{EveryAgreement, EverySealed}
-use Rattle.disk_runs.specs.worker_log.Laws.{EveryKept, EveryPrefix}
-use Rattle.core_calls.specs.Crashes.{EveryRunCrash}
-use Rattle.core_calls.specs.Deeds.{answered, asked}
-use Rattle.core_calls.specs.Durables.{durables, moments}
-use Rattle.core_calls.specs.Fronts.{Done, front}
-use Rattle.core_calls.specs.Printed.{durable_lines, printed}
-use Rattle.core_calls.specs.Steps.{hindered_in}
-use Rattle.disk_runs.specs.core_disk.Shows.{EveryShown}
-use Rattle.disk_runs.specs.Masters.{IsOfRunBy}
-use Rattle.disk_runs.specs.Stands.{Known}
-use Rattle.engine_calls.specs.Clauses.{Between}
-use Rattle.engine_trait.specs.Limits.{limits}
+use Rattle.call_parts.specs.disk_slots.declared.master.Master.{Master}
+use Rattle.call_parts.specs.disk_image.Laws.{EveryAgreement, EverySealed}
+use Rattle.call_parts.specs.worker_log.Laws.{EveryKept, EveryPrefix}
+use Rattle.call_parts.specs.core_calls.Crashes.{EveryRunCrash}
+use Rattle.call_parts.specs.core_calls.Deeds.{answered, asked}
+use Rattle.call_parts.specs.core_calls.Durables.{durables, moments}
+use Rattle.call_parts.specs.core_calls.Fronts.{Done, front}
+use Rattle.call_parts.specs.core_calls.Printed.{durable_lines, printed}
+use Rattle.call_parts.specs.core_calls.Steps.{hindered_in}
+use Rattle.call_parts.specs.core_disk.Shows.{EveryShown}
+use Rattle.call_parts.specs.disk_runs.Masters.{IsOfRunBy}
+use Rattle.call_parts.specs.disk_runs.Stands.{Known}
+use Rattle.call_parts.specs.engine_calls.Clauses.{Between}
+use Rattle.call_parts.specs.engine_trait.Limits.{limits}
 use Rattle.call_parts.specs.Memory.{IsOf, Memory}
 use Rattle.script_lang.specs.Reading.{Unread, Reading}
 use Rattle.script_lang.specs.declared.line.Line.{Line}

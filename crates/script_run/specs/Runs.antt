@@ -5,25 +5,25 @@ use Rattle.map_model.specs.declared.call.Answered.{Answered}
 use Rattle.map_model.specs.Journals.{Name}
 use Rattle.map_model.specs.Outputs.{Reply}
 use Rattle.map_model.specs.Pairings.{is_last, script_of}
-use Rattle.disk_runs.specs.core_state.Events.{Event}
-use Rattle.disk_runs.specs.core_state.Openings.{Opening}
+use Rattle.call_parts.specs.core_state.Events.{Event}
+use Rattle.call_parts.specs.core_state.Openings.{Opening}
 use Rattle.lean_edge.specs.Outside.{Feed, Held}
 use Rattle.lean_disk.specs.Area.{Leaves}
 use Rattle.lean_disk.specs.Moments.{LeavesOnly}
 use Rattle.lean_disk.specs.Story.{Crash, Story, Tells}
-use Rattle.disk_runs.specs.disk_slots.declared.master.Master.{Master}
-use Rattle.core_calls.specs.Deeds.{answered, asked, in_words}
-use Rattle.core_calls.specs.Durables.{durables, moments}
-use Rattle.core_calls.specs.Fronts.{Done, front, outcomes}
-use Rattle.core_calls.specs.Printed.{printed}
-use Rattle.core_calls.specs.Runs as told
-use Rattle.disk_runs.specs.Masters.{IsNoEarlier, IsOfRunBy}
-use Rattle.disk_runs.specs.Stands.{Known, Stands}
-use Rattle.run_crashes.specs.Lines.{NoneStopped, RunLeft}
-use Rattle.engine_calls.specs.Clauses.{Between}
-use Rattle.engine_calls.specs.Runs as runs
-use Rattle.core_calls.specs.Steps.{call_behind, hindered_in}
-use Rattle.engine_trait.specs.Limits.{limits}
+use Rattle.call_parts.specs.disk_slots.declared.master.Master.{Master}
+use Rattle.call_parts.specs.core_calls.Deeds.{answered, asked, in_words}
+use Rattle.call_parts.specs.core_calls.Durables.{durables, moments}
+use Rattle.call_parts.specs.core_calls.Fronts.{Done, front, outcomes}
+use Rattle.call_parts.specs.core_calls.Printed.{printed}
+use Rattle.call_parts.specs.core_calls.Runs as told
+use Rattle.call_parts.specs.disk_runs.Masters.{IsNoEarlier, IsOfRunBy}
+use Rattle.call_parts.specs.disk_runs.Stands.{Known, Stands}
+use Rattle.call_parts.specs.run_crashes.Lines.{NoneStopped, RunLeft}
+use Rattle.call_parts.specs.engine_calls.Clauses.{Between}
+use Rattle.call_parts.specs.engine_calls.Runs as runs
+use Rattle.call_parts.specs.core_calls.Steps.{call_behind, hindered_in}
+use Rattle.call_parts.specs.engine_trait.Limits.{limits}
 use Rattle.call_parts.specs.Deeds.{Happens}
 use Rattle.call_parts.specs.Memory.{IsOf, Memory}
 use Rattle.call_parts.specs.Rooms.{IsRoomFor, most_of}

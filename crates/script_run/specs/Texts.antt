@@ -5,7 +5,7 @@ use Rattle.map_model.specs.declared.call.Answered.{Answered}
 use Rattle.map_model.specs.Outputs.{Reply}
 use Rattle.map_model.specs.Pairings.{is_open_line, script_of}
 use Rattle.lean_edge.specs.Outside.{Feed, Held}
-use Rattle.core_calls.specs.Fronts.{Done}
+use Rattle.call_parts.specs.core_calls.Fronts.{Done}
 use Rattle.script_lang.specs.Lines.{line_of}
 use Rattle.script_lang.specs.Reading.{Unread}
 use Rattle.script_lang.specs.Text.{script_lines}

@@ -1,16 +1,16 @@
 // What is printed of a call.
 ghost use Rattle.std.specs.Prelude.{◌≡◌, ◌<◌, ◌^◌, ◌∷◌, ◌++◌, List, None, Some, true, false};
-ghost use Rattle.disk_runs.specs.core_state.Openings.{Opening};
-ghost use Rattle.disk_runs.specs.core_state.Steps.{state_after};
-ghost use Rattle.core_calls.specs.Deeds.{answered};
-ghost use Rattle.core_calls.specs.Durables.{due, durables, moments};
-ghost use Rattle.core_calls.specs.Fronts.{Done, front};
-ghost use Rattle.core_calls.specs.Printed.{durable_lines};
+ghost use Rattle.call_parts.specs.core_state.Openings.{Opening};
+ghost use Rattle.call_parts.specs.core_state.Steps.{state_after};
+ghost use Rattle.call_parts.specs.core_calls.Deeds.{answered};
+ghost use Rattle.call_parts.specs.core_calls.Durables.{due, durables, moments};
+ghost use Rattle.call_parts.specs.core_calls.Fronts.{Done, front};
+ghost use Rattle.call_parts.specs.core_calls.Printed.{durable_lines};
 ghost use Rattle.lean_disk.specs.Calls.{Noted};
 ghost use Rattle.lean_disk.specs.Faults.{HasCause};
 ghost use Rattle.lean_edge.specs.Outside.{Puts};
-ghost use Rattle.run_crashes.specs.Lines.{lines_of};
-ghost use Rattle.engine_trait.specs.Calls.{HasCome};
+ghost use Rattle.call_parts.specs.run_crashes.Lines.{lines_of};
+ghost use Rattle.call_parts.specs.engine_trait.Calls.{HasCome};
 ghost use Rattle.engine_front.specs.Turns.{behind_answer, behind_durables};
 ghost use Rattle.map_model.specs.Journals.{Name};
 ghost use Rattle.map_model.specs.Outputs.{Reply};

@@ -1,13 +1,13 @@
 // Line by line: read, asked, printed.
 ghost use Rattle.std.specs.Prelude.{◌≡◌, ◌↔◌, ◌≤◌, ◌+◌, ◌^◌, ◌++◌, ◌∷◌, ◌<◌, ◌-◌, ℕ, true, false, List, Some, None, Err, IfOk, IfErr, IsErr};
-ghost use Rattle.disk_runs.specs.core_state.Openings.{Opening};
-ghost use Rattle.core_calls.specs.Deeds.{asked};
-ghost use Rattle.core_calls.specs.Durables.{durables, moments};
-ghost use Rattle.core_calls.specs.Fronts.{Done};
-ghost use Rattle.core_calls.specs.Steps.{hindered_in};
+ghost use Rattle.call_parts.specs.core_state.Openings.{Opening};
+ghost use Rattle.call_parts.specs.core_calls.Deeds.{asked};
+ghost use Rattle.call_parts.specs.core_calls.Durables.{durables, moments};
+ghost use Rattle.call_parts.specs.core_calls.Fronts.{Done};
+ghost use Rattle.call_parts.specs.core_calls.Steps.{hindered_in};
 ghost use Rattle.lean_disk.specs.Faults.{HasCause};
 ghost use Rattle.lean_edge.specs.Outside.{Feed};
-ghost use Rattle.engine_trait.specs.Calls.{IsAsked};
+ghost use Rattle.call_parts.specs.engine_trait.Calls.{IsAsked};
 ghost use Rattle.call_parts.specs.Deeds.{Does, Fails};
 ghost use Rattle.engine_front.specs.Stops.{StandsNot};
 ghost use Rattle.engine_front.specs.Turns.{behind_answer, behind_durables, is_conflict_in};
@@ -23,7 +23,6 @@ ghost use Rattle.script_run.specs.Inside.{AnsweredTo, AnswersRun, IsNewest, IsOf
 use crate::lines::{LINES, next_call};
 use crate::replies::{has_line, put_answer};
 use crate::stop::Stop;
-use disk_runs::{core_disk, disk_image, worker_log};
 use engine_front::calls::{Calls, Unanswered};
 use lean_disk::Disk;
 use lean_edge::{Sink, Source};
@@ -367,10 +366,10 @@ fn scan_engine<D: Disk, E: Calls<D>>(engine: &mut E) -> Result<Answer, Stop>
 fn laws()
     ensures { Laws }
 {
-    core_disk::every_shown();
-    core_calls::every_run_crash();
-    disk_image::every_agreement();
-    worker_log::every_kept();
-    worker_log::every_prefix();
-    disk_image::every_sealed();
+    call_parts::every_shown();
+    call_parts::every_run_crash();
+    call_parts::every_agreement();
+    call_parts::every_kept();
+    call_parts::every_prefix();
+    call_parts::every_sealed();
 }

@@ -1,8 +1,7 @@
 // Commands over a disk, a source and a sink in memory. Seals were computed by another SHA-256.
 use crate::cases::expect;
 use lean_disk::{Choice, MemDisk};
-use lean_edge::{MemSink, MemSource};
-use lean_shell::{Ended, Gate, run};
+use lean_shell::{Ended, Gate, MemSink, MemSource, run};
 use std::alloc::{AllocError, Global};
 use std::sync::Wait;
 use std::thread::Threads;

@@ -2,8 +2,7 @@
 use crate::commands::{Open, words_of};
 use crate::files::{FileRow, is_so, is_there};
 use host_disk::HostDisk;
-use lean_edge::{MemSink, MemSource};
-use lean_shell::{Ended, run};
+use lean_shell::{Ended, MemSink, MemSource, run};
 use std::alloc::{AllocError, Global};
 use std::sync::Wait;
 use std::thread::Threads;

@@ -3,7 +3,7 @@
 use crate::cases::expect;
 use crate::texts::{Command, Lines, PUT, PUT_LINES, Text, run_text, spelled};
 use lean_disk::{Disk, MemDisk};
-use lean_edge::MemSink;
+use lean_shell::MemSink;
 use std::alloc::{AllocError, Global};
 use std::sync::Wait;
 use std::thread::Threads;

@@ -1,11 +1,10 @@
 // Scripts on a fresh engine, over devices in memory. The expected lines were written down by hand.
 use crate::cases::expect;
 use crate::commands::formatted;
-use buffered_engine::{Engine, Opened, Size, Unopened};
 use lean_disk::MemDisk;
-use lean_edge::{MemSink, MemSource};
-use script_lang::LineReader;
-use script_run::{Stop, run_script};
+use lean_shell::{
+    Engine, LineReader, MemSink, MemSource, Opened, Size, Stop, Unopened, run_script,
+};
 use std::alloc::{AllocError, Global};
 use std::sync::Wait;
 use std::thread::Threads;

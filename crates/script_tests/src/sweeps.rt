@@ -3,7 +3,7 @@ use crate::cases::expect;
 use crate::commands::{Outcome, formatted, run_words};
 use crate::texts::{Command, Lines, PUT, PUT_LINES, run_text, spelled, words_of};
 use lean_disk::{Choice, MemDisk};
-use lean_edge::{MemSink, MemSource};
+use lean_shell::{MemSink, MemSource};
 use std::alloc::{AllocError, Global};
 use std::sync::Wait;
 use std::thread::Threads;

@@ -2,7 +2,7 @@
 use crate::commands::{FORMAT, Outcome, RUN, run_words};
 use itoa::Buffer;
 use lean_disk::MemDisk;
-use lean_edge::{MemSink, MemSource};
+use lean_shell::{MemSink, MemSource};
 use std::alloc::{AllocError, Global};
 use std::sync::Wait;
 use std::thread::Threads;

@@ -2,7 +2,7 @@
 use crate::cases::expect;
 use crate::commands::{Outcome, formatted, run_alone, run_list};
 use lean_disk::{Choice, MemDisk};
-use lean_edge::MemSink;
+use lean_shell::MemSink;
 use std::alloc::{AllocError, Global};
 use std::sync::Wait;
 use std::thread::Threads;

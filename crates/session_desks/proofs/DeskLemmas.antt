@@ -2,7 +2,7 @@
 use Rattle.std.proofs.Common.{◌≡◌, inl, inr, ◌<◌, ◌≤◌, ◌==◌, ◌-◌, ℕ, zero, suc, List, [], ◌∷◌, length, get_or, set, refl, sym, ap, ◌∙◌, subst, arith}
 use Rattle.std.proofs.lemmas.Bool.{cases_eq, cond-true, cond-false, eq-eqb, ne_eqb}
 use Rattle.std.proofs.lemmas.List.{get_or-set_same, get_or-set_other, length-set}
-use Rattle.disk_runs.specs.worker_log.Logs.{Log}
+use Rattle.session_state.specs.worker_log.Logs.{Log}
 use Rattle.session_state.specs.declared.session.Session.{Session}
 use Rattle.session_desks.specs.Desks.{AreSeated, Turned, desk_of, place_of}
 use Rattle.session_desks.specs.declared.desk.Desk.{Desk}

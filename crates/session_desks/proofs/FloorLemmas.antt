@@ -2,21 +2,21 @@
 use Rattle.std.proofs.Common.{◌≡◌, ◌++◌, ℕ, Bool, true, false, cond, List, [], ◌∷◌, refl, sym, ap, ◌∙◌, true≢false}
 use Rattle.std.proofs.lemmas.Bool.{and_parts}
 use Rattle.map_model.specs.Lists.{all}
-use Rattle.rows_trait.specs.image_model.Entries.{Entry}
-use Rattle.rows_trait.specs.core_state.Openings.{Opening}
-use Rattle.rows_trait.specs.core_state.States.{State}
-use Rattle.rows_trait.specs.core_state.Needs.{may}
-use Rattle.rows_trait.specs.core_state.Steps.{happens, put_back}
-use Rattle.rows_trait.specs.row_words.declared.event.Event.{Event}
-use Rattle.rows_trait.specs.row_words.declared.event.Event.TheVariants as told
-use Rattle.rows_trait.specs.row_words.declared.event.Met.TheVariants as met
-use Rattle.rows_trait.specs.row_words.declared.given.Given.{Given}
-use Rattle.rows_trait.specs.row_words.Moments.{Moment, event_of}
-use Rattle.rows_trait.specs.row_words.Openings.{opening}
-use Rattle.rows_trait.specs.row_words.Sealed.{begun, run, stepped}
-use Rattle.rows_trait.proofs.row_words_lemmas.SealedLemmas.{run_append}
-use Rattle.rows_trait.specs.declared.view.View.{View}
-use Rattle.rows_trait.specs.Views.{after_all, state}
+use Rattle.session_state.specs.image_model.Entries.{Entry}
+use Rattle.session_state.specs.core_state.Openings.{Opening}
+use Rattle.session_state.specs.core_state.States.{State}
+use Rattle.session_state.specs.core_state.Needs.{may}
+use Rattle.session_state.specs.core_state.Steps.{happens, put_back}
+use Rattle.session_state.specs.row_words.declared.event.Event.{Event}
+use Rattle.session_state.specs.row_words.declared.event.Event.TheVariants as told
+use Rattle.session_state.specs.row_words.declared.event.Met.TheVariants as met
+use Rattle.session_state.specs.row_words.declared.given.Given.{Given}
+use Rattle.session_state.specs.row_words.Moments.{Moment, event_of}
+use Rattle.session_state.specs.row_words.Openings.{opening}
+use Rattle.session_state.specs.row_words.Sealed.{begun, run, stepped}
+use Rattle.session_state.proofs.row_words.SealedLemmas.{run_append}
+use Rattle.session_state.specs.rows_trait.declared.view.View.{View}
+use Rattle.session_state.specs.rows_trait.Views.{after_all, state}
 use Rattle.session_state.specs.Others.{Steps, is_of}
 
 happens_floor : (own : ℕ) (g : Opening) (s : State) (e : Event) → is_of own e ≡ true → (happens g s (event_of e)).floor ≡ s.floor

@@ -1,11 +1,11 @@
 -- The parts of an engine behind a call of the session in the store.
 use Rattle.std.proofs.Common.{◌≡◌, ◌⊎◌, inl, inr, ◌≤◌, ◌<◌, ℕ, Bool, true, false, List, replicate, refl, sym, ap, ◌∙◌, subst, arith}
 use Rattle.std.proofs.lemmas.Bool.{cases_eq}
-use Rattle.disk_runs.specs.disk_slots.declared.master.Master.{Master}
-use Rattle.rows_trait.specs.Plain.{sizes}
-use Rattle.rows_trait.specs.Rule.{IsPicture, plan}
-use Rattle.rows_trait.specs.Views.{Shape}
-use Rattle.rows_trait.specs.declared.view.View.{View}
+use Rattle.session_state.specs.disk_slots.declared.master.Master.{Master}
+use Rattle.session_state.specs.rows_trait.Plain.{sizes}
+use Rattle.session_state.specs.rows_trait.Rule.{IsPicture, plan}
+use Rattle.session_state.specs.rows_trait.Views.{Shape}
+use Rattle.session_state.specs.rows_trait.declared.view.View.{View}
 use Rattle.session_state.specs.Holds.{Holds, IsSameSession}
 use Rattle.session_state.specs.Opened.{plain_shape}
 use Rattle.session_state.specs.Others.{EveryOther, Steps}

@@ -2,10 +2,10 @@
 use Rattle.std.proofs.Common.{◌≡◌, ◌↔◌, ◌⊎◌, inl, inr, ◌≤◌, ◌<◌, ◌==◌, ℕ, zero, suc, Bool, true, false, cond, List, [], ◌∷◌, length, get_or, refl, sym, ap, ◌∙◌, subst, arith}
 use Rattle.std.proofs.lemmas.Bool.{and_from, and_parts, cases_eq}
 use Rattle.map_model.specs.Lists.{all}
-use Rattle.rows_trait.specs.declared.view.View.{View}
-use Rattle.rows_trait.specs.Views.{Shape}
-use Rattle.disk_runs.specs.worker_log.Calls.{flushed_log}
-use Rattle.disk_runs.specs.worker_log.Logs.{Log}
+use Rattle.session_state.specs.rows_trait.declared.view.View.{View}
+use Rattle.session_state.specs.rows_trait.Views.{Shape}
+use Rattle.session_state.specs.worker_log.Calls.{flushed_log}
+use Rattle.session_state.specs.worker_log.Logs.{Log}
 use Rattle.session_state.specs.Syncs.{EveryFlush, MayFlush, flushed_of}
 use Rattle.session_state.specs.declared.session.Session.{Session}
 use Rattle.session_desks.specs.Desks.{desk_of, log_of, place_of}

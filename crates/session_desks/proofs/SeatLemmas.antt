@@ -1,10 +1,10 @@
 -- The parts of an engine belong together wherever the turn goes.
 use Rattle.std.proofs.Common.{◌≡◌, inl, inr, ◌<◌, ◌≤◌, ◌-◌, ℕ, zero, suc, Bool, true, false, List, [], ◌∷◌, length, get_or, replicate, refl, sym, ap, ◌∙◌, subst, arith}
 use Rattle.std.proofs.lemmas.Bool.{cases_lt}
-use Rattle.disk_runs.specs.disk_slots.declared.master.Master.{Master}
-use Rattle.rows_trait.specs.declared.view.View.{View}
-use Rattle.rows_trait.specs.Views.{Shape}
-use Rattle.disk_runs.specs.worker_log.Logs.{Log}
+use Rattle.session_state.specs.disk_slots.declared.master.Master.{Master}
+use Rattle.session_state.specs.rows_trait.declared.view.View.{View}
+use Rattle.session_state.specs.rows_trait.Views.{Shape}
+use Rattle.session_state.specs.worker_log.Logs.{Log}
 use Rattle.session_state.specs.Holds.{Holds}
 use Rattle.session_state.specs.Opened.{plain_shape}
 use Rattle.session_state.specs.declared.session.Session.{Session}

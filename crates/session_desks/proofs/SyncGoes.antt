@@ -2,15 +2,15 @@
 use Rattle.std.proofs.Common.{◌≡◌, ◌≤◌, ◌<◌, ◌+◌, ◌*◌, ◌^◌, ◌⊎◌, inl, inr, ◌==◌, ℕ, zero, suc, Bool, true, false, List, [], ◌∷◌, length, get_or, Result, Ok, Err, IfOk, refl, sym, ap, ◌∙◌, subst, arith, true≢false}
 use Rattle.std.proofs.lemmas.Bool.{and_from, and_parts, cases_eq, cases_lt, eq-eqb, eqb-true}
 use Rattle.map_model.specs.Lists.{all}
-use Rattle.disk_runs.specs.disk_slots.declared.master.Master.{Master}
-use Rattle.disk_runs.specs.MasterLaws.{raised}
-use Rattle.disk_runs.specs.core_disk.Versions.{EveryVersion}
-use Rattle.disk_runs.specs.disk_image.Laws.{EverySealed}
+use Rattle.session_state.specs.disk_slots.declared.master.Master.{Master}
+use Rattle.session_state.specs.disk_runs.MasterLaws.{raised}
+use Rattle.session_state.specs.core_disk.Versions.{EveryVersion}
+use Rattle.session_state.specs.disk_image.Laws.{EverySealed}
 use Rattle.lean_disk.specs.Story.{IsLawful, Story}
-use Rattle.row_opening.specs.Openings.{EveryNeed, EveryReached}
-use Rattle.rows_trait.specs.declared.view.View.{View}
-use Rattle.rows_trait.specs.Views.{Shape, state}
-use Rattle.disk_runs.specs.worker_log.Laws.{EveryKept, EveryPrefix}
+use Rattle.session_state.specs.row_opening.Openings.{EveryNeed, EveryReached}
+use Rattle.session_state.specs.rows_trait.declared.view.View.{View}
+use Rattle.session_state.specs.rows_trait.Views.{Shape, state}
+use Rattle.session_state.specs.worker_log.Laws.{EveryKept, EveryPrefix}
 use Rattle.session_state.specs.Numbers.{AreClocksLow}
 use Rattle.session_state.specs.Syncs.{HasSynced, synced_session}
 use Rattle.session_state.specs.declared.session.Session.{Session}

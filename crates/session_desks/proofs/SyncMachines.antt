@@ -1,23 +1,23 @@
 -- The parts of an engine behind a sync.
 use Rattle.std.proofs.Common.{◌≡◌, ◌≤◌, ◌<◌, ◌+◌, ◌*◌, ◌^◌, inl, inr, ℕ, zero, suc, Bool, true, List, [], ◌∷◌, length, get_or, refl, sym, ap, ◌∙◌, subst, arith}
 use Rattle.std.proofs.lemmas.Bool.{cases_eq, cases_lt, cond-true}
-use Rattle.rows_trait.specs.core_state.Events as happening
-use Rattle.rows_trait.specs.core_state.Needs.{may}
-use Rattle.rows_trait.specs.core_state.States as core
-use Rattle.rows_trait.specs.core_state.Steps.{happens}
+use Rattle.session_state.specs.core_state.Events as happening
+use Rattle.session_state.specs.core_state.Needs.{may}
+use Rattle.session_state.specs.core_state.States as core
+use Rattle.session_state.specs.core_state.Steps.{happens}
 use Rattle.lean_disk.specs.Story.{Story}
 use Rattle.map_model.specs.Lists.{Has}
-use Rattle.disk_runs.specs.disk_slots.declared.master.Master.{Master}
-use Rattle.rows_trait.specs.row_words.declared.event.Event.TheVariants as told
-use Rattle.rows_trait.specs.row_words.declared.given.Given.{Given}
-use Rattle.rows_trait.specs.row_words.Moments.{Moment}
-use Rattle.rows_trait.specs.row_words.Openings.{opening}
-use Rattle.rows_trait.specs.row_words.Sealed.{stepped}
-use Rattle.rows_trait.specs.Plain.{sizes}
-use Rattle.rows_trait.specs.Rule.{IsPicture, plan}
-use Rattle.rows_trait.specs.declared.view.View.{View}
-use Rattle.rows_trait.specs.Views.{Shape, state}
-use Rattle.disk_runs.specs.worker_log.Logs.{Log}
+use Rattle.session_state.specs.disk_slots.declared.master.Master.{Master}
+use Rattle.session_state.specs.row_words.declared.event.Event.TheVariants as told
+use Rattle.session_state.specs.row_words.declared.given.Given.{Given}
+use Rattle.session_state.specs.row_words.Moments.{Moment}
+use Rattle.session_state.specs.row_words.Openings.{opening}
+use Rattle.session_state.specs.row_words.Sealed.{stepped}
+use Rattle.session_state.specs.rows_trait.Plain.{sizes}
+use Rattle.session_state.specs.rows_trait.Rule.{IsPicture, plan}
+use Rattle.session_state.specs.rows_trait.declared.view.View.{View}
+use Rattle.session_state.specs.rows_trait.Views.{Shape, state}
+use Rattle.session_state.specs.worker_log.Logs.{Log}
 use Rattle.session_state.specs.Opened.{plain_shape}
 use Rattle.session_state.specs.Syncs.{EverySynced, HasSynced}
 use Rattle.session_desks.specs.Desks.{desk_of, log_of, place_of}

@@ -3,20 +3,20 @@ use Rattle.std.proofs.Common.{◌≡◌, ◌≤◌, ◌<◌, ◌+◌, ◌^◌, �
 use Rattle.std.proofs.lemmas.Bool.{and_from, and_parts, cases_eq, cases_lt, ltb-true}
 use Rattle.map_model.specs.Lists.{Has}
 use Rattle.map_model.proofs.ListLemmas.{any_has}
-use Rattle.rows_trait.specs.image_model.Entries.{Entry, is_record}
-use Rattle.rows_trait.specs.core_state.Lists.{most}
-use Rattle.rows_trait.specs.core_state.States.{State, flushed_by_all, start}
-use Rattle.rows_trait.specs.core_state.Events as happening
-use Rattle.rows_trait.specs.core_state.Needs.{is_behind, may}
-use Rattle.disk_runs.proofs.core_commit_lemmas.Controls.{le_most}
-use Rattle.disk_runs.proofs.core_commit_lemmas.History.{IsRecorded}
-use Rattle.disk_runs.proofs.core_commit_lemmas.Lists.{Within}
-use Rattle.disk_runs.proofs.core_commit_lemmas.Runs.{Good, good_run, good_start}
-use Rattle.row_opening.specs.Openings.{EveryReached}
-use Rattle.rows_trait.specs.row_words.Moments.{events_of}
-use Rattle.rows_trait.specs.row_words.Openings.{opening}
-use Rattle.rows_trait.specs.declared.view.View.{View}
-use Rattle.rows_trait.specs.Views.{Shape, state}
+use Rattle.session_state.specs.image_model.Entries.{Entry, is_record}
+use Rattle.session_state.specs.core_state.Lists.{most}
+use Rattle.session_state.specs.core_state.States.{State, flushed_by_all, start}
+use Rattle.session_state.specs.core_state.Events as happening
+use Rattle.session_state.specs.core_state.Needs.{is_behind, may}
+use Rattle.session_state.proofs.core_commit.Controls.{le_most}
+use Rattle.session_state.proofs.core_commit.History.{IsRecorded}
+use Rattle.session_state.proofs.core_commit.Lists.{Within}
+use Rattle.session_state.proofs.core_commit.Runs.{Good, good_run, good_start}
+use Rattle.session_state.specs.row_opening.Openings.{EveryReached}
+use Rattle.session_state.specs.row_words.Moments.{events_of}
+use Rattle.session_state.specs.row_words.Openings.{opening}
+use Rattle.session_state.specs.rows_trait.declared.view.View.{View}
+use Rattle.session_state.specs.rows_trait.Views.{Shape, state}
 use Rattle.session_state.specs.Numbers.{AreClocksLow, AreNumbered}
 use Rattle.session_desks.specs.Desks.{desk_of, log_of, place_of}
 use Rattle.session_desks.specs.Machines.{AreDesks, AreLogged}

@@ -2,43 +2,43 @@
 use Rattle.std.proofs.Common.{◌≡◌, ◌≤◌, ◌<◌, ◌⊎◌, inl, inr, ◌++◌, ◌+◌, ◌^◌, ℕ, suc, Bool, true, List, [], ◌∷◌, IsTrue, refl, sym, ap, ◌∙◌, subst, arith, true≢false}
 use Rattle.std.proofs.lemmas.Bool.{cases_eq}
 use Rattle.std.proofs.lemmas.List.{append_assoc}
-use Rattle.rows_trait.specs.core_state.Openings.{Opening}
-use Rattle.rows_trait.specs.core_state.Events.{Event}
-use Rattle.rows_trait.specs.core_state.Needs.{may}
-use Rattle.rows_trait.specs.core_state.States.{flushed_by_all}
-use Rattle.rows_trait.specs.core_state.Steps.{state_after}
-use Rattle.core_calls.specs.Fronts.{Done, front}
+use Rattle.session_state.specs.core_state.Openings.{Opening}
+use Rattle.session_state.specs.core_state.Events.{Event}
+use Rattle.session_state.specs.core_state.Needs.{may}
+use Rattle.session_state.specs.core_state.States.{flushed_by_all}
+use Rattle.session_state.specs.core_state.Steps.{state_after}
+use Rattle.session_state.specs.core_calls.Fronts.{Done, front}
 use Rattle.lean_disk.specs.Area.{Leaves}
 use Rattle.lean_disk.specs.Moments.{CrashIn, Framed, LeavesOnly}
 use Rattle.lean_disk.specs.Story.{Crash, IsLawful, Story}
 use Rattle.lean_disk.proofs.MomentLemmas.{started, weaker}
 use Rattle.lean_disk.proofs.MomentLemmas as moments
-use Rattle.disk_runs.specs.disk_image.Laws.{EverySealed}
-use Rattle.disk_runs.specs.disk_slots.Masters.{IsMaster}
-use Rattle.disk_runs.specs.disk_slots.declared.master.Master.{Master}
-use Rattle.disk_runs.specs.core_disk.Versions.{EveryVersion}
-use Rattle.disk_runs.specs.MasterLaws.{IsAllSynced, IsSync, raised, with_sync}
-use Rattle.disk_runs.specs.Masters.{IsNextOf, IsNoEarlier, slot_of}
-use Rattle.rows_trait.specs.image_model.Fair.{piece}
-use Rattle.disk_runs.specs.Moments.{LeavesSome}
-use Rattle.disk_runs.specs.Stands.{Known, Stands}
-use Rattle.disk_runs.proofs.LineLemmas.{same}
-use Rattle.disk_runs.proofs.LineLemmas as lines
-use Rattle.disk_runs.proofs.MasterLemmas.{is_slot}
-use Rattle.disk_runs.proofs.MomentLemmas.{every_moment, none_yet}
-use Rattle.disk_runs.proofs.NextLemmas.{every_still_sync}
-use Rattle.disk_runs.proofs.StandLemmas.{every_rest}
-use Rattle.disk_runs.specs.worker_log.Laws.{EveryKept, EveryPrefix}
-use Rattle.disk_runs.specs.worker_log.Logs.{Log}
-use Rattle.log_calls.specs.Calls.{Anything, IsLog, KeepsWithin}
-use Rattle.log_calls.specs.Syncs.{KeepsEither, SyncsOn}
-use Rattle.log_calls.specs.Wholes.{EndsInRecord, FlushesWhole, IsWhole, flush_of}
-use Rattle.engine_calls.specs.Clauses.{OnLog}
-use Rattle.engine_calls.specs.Parts.{Passes}
-use Rattle.engine_calls.proofs.MoveLemmas as moves
-use Rattle.engine_trait.specs.Areas.{Around, Beside, IsAside}
-use Rattle.engine_trait.specs.Calls.{IsOf, Memory}
-use Rattle.rows_trait.specs.declared.view.View.{View}
+use Rattle.session_state.specs.disk_image.Laws.{EverySealed}
+use Rattle.session_state.specs.disk_slots.Masters.{IsMaster}
+use Rattle.session_state.specs.disk_slots.declared.master.Master.{Master}
+use Rattle.session_state.specs.core_disk.Versions.{EveryVersion}
+use Rattle.session_state.specs.disk_runs.MasterLaws.{IsAllSynced, IsSync, raised, with_sync}
+use Rattle.session_state.specs.disk_runs.Masters.{IsNextOf, IsNoEarlier, slot_of}
+use Rattle.session_state.specs.image_model.Fair.{piece}
+use Rattle.session_state.specs.disk_runs.Moments.{LeavesSome}
+use Rattle.session_state.specs.disk_runs.Stands.{Known, Stands}
+use Rattle.session_state.proofs.disk_runs.LineLemmas.{same}
+use Rattle.session_state.proofs.disk_runs.LineLemmas as lines
+use Rattle.session_state.proofs.disk_runs.MasterLemmas.{is_slot}
+use Rattle.session_state.proofs.disk_runs.MomentLemmas.{every_moment, none_yet}
+use Rattle.session_state.proofs.disk_runs.NextLemmas.{every_still_sync}
+use Rattle.session_state.proofs.disk_runs.StandLemmas.{every_rest}
+use Rattle.session_state.specs.worker_log.Laws.{EveryKept, EveryPrefix}
+use Rattle.session_state.specs.worker_log.Logs.{Log}
+use Rattle.session_state.specs.log_calls.Calls.{Anything, IsLog, KeepsWithin}
+use Rattle.session_state.specs.log_calls.Syncs.{KeepsEither, SyncsOn}
+use Rattle.session_state.specs.log_calls.Wholes.{EndsInRecord, FlushesWhole, IsWhole, flush_of}
+use Rattle.session_state.specs.engine_calls.Clauses.{OnLog}
+use Rattle.session_state.specs.engine_calls.Parts.{Passes}
+use Rattle.session_state.proofs.engine_calls.MoveLemmas as moves
+use Rattle.session_state.specs.engine_trait.Areas.{Around, Beside, IsAside}
+use Rattle.session_state.specs.engine_trait.Calls.{IsOf, Memory}
+use Rattle.session_state.specs.rows_trait.declared.view.View.{View}
 use Rattle.session_desks.specs.Runs.{Breaks, EachGoes, Goes, GoesFlushed, memory_with}
 use Rattle.session_desks.specs.Syncs.{IsWriting, IsWritten, next_with}
 

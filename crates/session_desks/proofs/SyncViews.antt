@@ -3,38 +3,38 @@ use Rattle.std.proofs.Common.{◌≡◌, ◌≤◌, ◌<◌, ◌⊎◌, inl, inr
 use Rattle.std.proofs.lemmas.Bool.{cases_eq}
 use Rattle.std.proofs.lemmas.List.{append_assoc, length-append}
 use Rattle.map_model.specs.Lists.{Has}
-use Rattle.rows_trait.specs.core_state.Openings.{Opening}
-use Rattle.rows_trait.specs.core_state.States as core
-use Rattle.rows_trait.specs.core_state.States.{start}
-use Rattle.rows_trait.specs.core_state.Events as happening
-use Rattle.rows_trait.specs.core_state.Needs.{may}
-use Rattle.rows_trait.specs.core_state.Steps.{AllMet, happens, state_after}
-use Rattle.rows_trait.specs.core_state.Steps as steps
-use Rattle.rows_trait.proofs.core_state_lemmas.Runs.{run_more}
-use Rattle.core_calls.specs.Fronts.{Done, front}
-use Rattle.core_calls.specs.LogEvents.{AreFlushes}
+use Rattle.session_state.specs.core_state.Openings.{Opening}
+use Rattle.session_state.specs.core_state.States as core
+use Rattle.session_state.specs.core_state.States.{start}
+use Rattle.session_state.specs.core_state.Events as happening
+use Rattle.session_state.specs.core_state.Needs.{may}
+use Rattle.session_state.specs.core_state.Steps.{AllMet, happens, state_after}
+use Rattle.session_state.specs.core_state.Steps as steps
+use Rattle.session_state.proofs.core_state.Runs.{run_more}
+use Rattle.session_state.specs.core_calls.Fronts.{Done, front}
+use Rattle.session_state.specs.core_calls.LogEvents.{AreFlushes}
 use Rattle.lean_disk.specs.Story.{Crash, IsLawful, Story}
-use Rattle.disk_runs.specs.core_disk.Versions.{EveryVersion}
-use Rattle.disk_runs.specs.disk_image.Laws.{EverySealed}
-use Rattle.disk_runs.specs.disk_slots.declared.master.Master.{Master}
-use Rattle.disk_runs.specs.Stands.{Known}
-use Rattle.log_calls.specs.Wholes.{EndsInRecord, flush_of}
-use Rattle.engine_calls.specs.Parts.{behind_first}
-use Rattle.engine_calls.proofs.MarkLemmas.{met_join}
-use Rattle.engine_trait.specs.Areas.{Around}
-use Rattle.engine_trait.specs.Logs.{Logs}
-use Rattle.row_opening.specs.Openings.{EveryNeed, EveryReached, Opens}
-use Rattle.rows_trait.specs.row_words.declared.event.Event.{Event}
-use Rattle.rows_trait.specs.row_words.declared.event.Event.TheVariants as told
-use Rattle.rows_trait.specs.row_words.declared.given.Given.{Given}
-use Rattle.rows_trait.specs.row_words.Moments.{Moment, event_of, events_of}
-use Rattle.rows_trait.specs.row_words.Openings.{opening}
-use Rattle.rows_trait.specs.row_words.Sealed.{run, stepped}
-use Rattle.rows_trait.specs.declared.view.View.{View}
-use Rattle.rows_trait.specs.Views.{state}
-use Rattle.disk_runs.specs.worker_log.Calls.{flushed_log}
-use Rattle.disk_runs.specs.worker_log.Laws.{EveryKept, EveryPrefix}
-use Rattle.disk_runs.specs.worker_log.Logs.{Log}
+use Rattle.session_state.specs.core_disk.Versions.{EveryVersion}
+use Rattle.session_state.specs.disk_image.Laws.{EverySealed}
+use Rattle.session_state.specs.disk_slots.declared.master.Master.{Master}
+use Rattle.session_state.specs.disk_runs.Stands.{Known}
+use Rattle.session_state.specs.log_calls.Wholes.{EndsInRecord, flush_of}
+use Rattle.session_state.specs.engine_calls.Parts.{behind_first}
+use Rattle.session_state.proofs.engine_calls.MarkLemmas.{met_join}
+use Rattle.session_state.specs.engine_trait.Areas.{Around}
+use Rattle.session_state.specs.engine_trait.Logs.{Logs}
+use Rattle.session_state.specs.row_opening.Openings.{EveryNeed, EveryReached, Opens}
+use Rattle.session_state.specs.row_words.declared.event.Event.{Event}
+use Rattle.session_state.specs.row_words.declared.event.Event.TheVariants as told
+use Rattle.session_state.specs.row_words.declared.given.Given.{Given}
+use Rattle.session_state.specs.row_words.Moments.{Moment, event_of, events_of}
+use Rattle.session_state.specs.row_words.Openings.{opening}
+use Rattle.session_state.specs.row_words.Sealed.{run, stepped}
+use Rattle.session_state.specs.rows_trait.declared.view.View.{View}
+use Rattle.session_state.specs.rows_trait.Views.{state}
+use Rattle.session_state.specs.worker_log.Calls.{flushed_log}
+use Rattle.session_state.specs.worker_log.Laws.{EveryKept, EveryPrefix}
+use Rattle.session_state.specs.worker_log.Logs.{Log}
 use Rattle.session_state.specs.Ties.{Behind}
 use Rattle.session_state.specs.Staging.{KeepsLog}
 use Rattle.session_state.specs.Syncs.{HasNoneBehind, flushed_of, flushes_of}

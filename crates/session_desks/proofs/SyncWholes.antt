@@ -1,31 +1,31 @@
 -- A whole sync as one part of a call: its flushes, and then the sync, behind a master that was written or not.
 use Rattle.std.proofs.Common.{◌≡◌, ◌≤◌, ◌<◌, inl, inr, ◌++◌, ℕ, suc, true, List, [], ◌∷◌, length, refl, sym, ap, ◌∙◌, subst, arith}
 use Rattle.std.proofs.lemmas.List.{append_assoc, length-append}
-use Rattle.rows_trait.specs.core_state.Openings.{Opening}
-use Rattle.rows_trait.specs.core_state.States as core
-use Rattle.rows_trait.specs.core_state.States.{flushed_by_all}
-use Rattle.rows_trait.specs.core_state.Events as happening
-use Rattle.rows_trait.specs.core_state.Needs.{may}
-use Rattle.rows_trait.specs.core_state.Steps.{AllMet, state_after}
-use Rattle.core_calls.specs.Fronts.{Done, front}
-use Rattle.disk_runs.proofs.core_commit_lemmas.Lists.{le_least}
-use Rattle.disk_runs.specs.core_disk.Versions.{EveryVersion}
-use Rattle.disk_runs.specs.disk_image.Laws.{EverySealed}
-use Rattle.disk_runs.specs.MasterLaws.{IsAllSynced, raised}
-use Rattle.disk_runs.specs.Masters.{IsNoEarlier}
-use Rattle.disk_runs.specs.Stands.{Known}
+use Rattle.session_state.specs.core_state.Openings.{Opening}
+use Rattle.session_state.specs.core_state.States as core
+use Rattle.session_state.specs.core_state.States.{flushed_by_all}
+use Rattle.session_state.specs.core_state.Events as happening
+use Rattle.session_state.specs.core_state.Needs.{may}
+use Rattle.session_state.specs.core_state.Steps.{AllMet, state_after}
+use Rattle.session_state.specs.core_calls.Fronts.{Done, front}
+use Rattle.session_state.proofs.core_commit.Lists.{le_least}
+use Rattle.session_state.specs.core_disk.Versions.{EveryVersion}
+use Rattle.session_state.specs.disk_image.Laws.{EverySealed}
+use Rattle.session_state.specs.disk_runs.MasterLaws.{IsAllSynced, raised}
+use Rattle.session_state.specs.disk_runs.Masters.{IsNoEarlier}
+use Rattle.session_state.specs.disk_runs.Stands.{Known}
 use Rattle.lean_disk.specs.Story.{Crash, IsLawful, Story}
-use Rattle.engine_calls.proofs.MarkLemmas.{met_join}
-use Rattle.engine_trait.specs.Areas.{Around}
-use Rattle.engine_trait.specs.Calls.{Memory}
-use Rattle.engine_trait.specs.Logs.{Logs}
-use Rattle.row_opening.specs.Openings.{EveryNeed, EveryReached}
-use Rattle.rows_trait.specs.row_words.declared.event.Event.TheVariants as told
-use Rattle.rows_trait.specs.row_words.Moments.{events_of}
-use Rattle.rows_trait.specs.declared.view.View.{View}
-use Rattle.rows_trait.specs.Views.{state}
-use Rattle.disk_runs.specs.worker_log.Laws.{EveryKept, EveryPrefix}
-use Rattle.disk_runs.specs.worker_log.Logs.{Log}
+use Rattle.session_state.proofs.engine_calls.MarkLemmas.{met_join}
+use Rattle.session_state.specs.engine_trait.Areas.{Around}
+use Rattle.session_state.specs.engine_trait.Calls.{Memory}
+use Rattle.session_state.specs.engine_trait.Logs.{Logs}
+use Rattle.session_state.specs.row_opening.Openings.{EveryNeed, EveryReached}
+use Rattle.session_state.specs.row_words.declared.event.Event.TheVariants as told
+use Rattle.session_state.specs.row_words.Moments.{events_of}
+use Rattle.session_state.specs.rows_trait.declared.view.View.{View}
+use Rattle.session_state.specs.rows_trait.Views.{state}
+use Rattle.session_state.specs.worker_log.Laws.{EveryKept, EveryPrefix}
+use Rattle.session_state.specs.worker_log.Logs.{Log}
 use Rattle.session_state.specs.Ties.{Behind}
 use Rattle.session_state.specs.Syncs.{HasSynced}
 use Rattle.session_desks.specs.Runs.{Breaks, Goes, GoesFlushed, IsAt, memory_with}

@@ -1,6 +1,6 @@
 -- Where each session of an engine stands: one in the store, which has the turn, and the others at desks.
 use Rattle.std.specs.Prelude.{◌≡◌, ◌<◌, ◌≤◌, ◌==◌, ◌-◌, ℕ, suc, List, get_or, length, if◌then◌else◌}
-use Rattle.disk_runs.specs.worker_log.Logs.{Log}
+use Rattle.session_state.specs.worker_log.Logs.{Log}
 use Rattle.session_desks.specs.declared.desk.Desk.{Desk}
 
 -- where the desk of a session stands that has not the turn: session 1 stands in for whoever has it

@@ -1,15 +1,15 @@
 -- The parts of an engine that work on rows and disk: its rows and their seat, the session in the store and those at their desks, and the master that counts.
 use Rattle.std.specs.Prelude.{◌≡◌, ◌≤◌, ◌<◌, ◌+◌, ◌^◌, ℕ, suc, Bool, true, false, List, length, replicate, ◌*◌, min}
-use Rattle.rows_trait.specs.image_model.Entries.{Entry, is_record}
+use Rattle.session_state.specs.image_model.Entries.{Entry, is_record}
 use Rattle.map_model.specs.Lists.{Has}
-use Rattle.rows_trait.specs.core_state.States as core
-use Rattle.disk_runs.specs.disk_slots.declared.master.Master.{Master}
-use Rattle.log_calls.specs.Wholes.{EndsInRecord}
-use Rattle.rows_trait.specs.declared.view.View.{View}
-use Rattle.rows_trait.specs.Plain.{sizes}
-use Rattle.rows_trait.specs.Rule.{IsPicture, plan}
-use Rattle.rows_trait.specs.Views.{Shape, state}
-use Rattle.disk_runs.specs.worker_log.Logs.{Log}
+use Rattle.session_state.specs.core_state.States as core
+use Rattle.session_state.specs.disk_slots.declared.master.Master.{Master}
+use Rattle.session_state.specs.log_calls.Wholes.{EndsInRecord}
+use Rattle.session_state.specs.rows_trait.declared.view.View.{View}
+use Rattle.session_state.specs.rows_trait.Plain.{sizes}
+use Rattle.session_state.specs.rows_trait.Rule.{IsPicture, plan}
+use Rattle.session_state.specs.rows_trait.Views.{Shape, state}
+use Rattle.session_state.specs.worker_log.Logs.{Log}
 use Rattle.session_state.specs.Holds.{Holds}
 use Rattle.session_state.specs.Opened.{plain_shape}
 use Rattle.session_state.specs.declared.session.Session.{Session}

@@ -1,11 +1,11 @@
 -- A machine and its parts, as its functions name them, and what a sync left of it.
 use Rattle.std.specs.Prelude.{◌≡◌, ℕ, true}
 use Rattle.lean_disk.specs.Story.{Story}
-use Rattle.engine_trait.specs.Calls.{Memory}
-use Rattle.rows_trait.specs.Plain.{sizes}
-use Rattle.rows_trait.specs.Rule.{IsPicture, plan}
-use Rattle.rows_trait.specs.Views.{Shape, state}
-use Rattle.disk_runs.specs.worker_log.Logs.{Log}
+use Rattle.session_state.specs.engine_trait.Calls.{Memory}
+use Rattle.session_state.specs.rows_trait.Plain.{sizes}
+use Rattle.session_state.specs.rows_trait.Rule.{IsPicture, plan}
+use Rattle.session_state.specs.rows_trait.Views.{Shape, state}
+use Rattle.session_state.specs.worker_log.Logs.{Log}
 use Rattle.session_state.specs.Opened.{plain_shape}
 use Rattle.session_state.specs.declared.work.Work.{Work}
 use Rattle.session_desks.specs.Desks.{AreSeated, Turned, log_of}

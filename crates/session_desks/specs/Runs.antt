@@ -1,19 +1,19 @@
 -- A part of a call in each run, from wherever the call has come to: how the disk goes on, and what is in memory of it then.
 use Rattle.std.specs.Prelude.{◌≡◌, ◌≤◌, ◌<◌, ◌++◌, ℕ, true, List}
-use Rattle.rows_trait.specs.core_state.Openings.{Opening}
-use Rattle.rows_trait.specs.core_state.Events.{Event}
-use Rattle.core_calls.specs.Fronts.{Done, front}
+use Rattle.session_state.specs.core_state.Openings.{Opening}
+use Rattle.session_state.specs.core_state.Events.{Event}
+use Rattle.session_state.specs.core_calls.Fronts.{Done, front}
 use Rattle.lean_disk.specs.Moments.{LeavesOnly}
 use Rattle.lean_disk.specs.Story.{Crash, Story}
-use Rattle.disk_runs.specs.disk_slots.declared.master.Master.{Master}
-use Rattle.disk_runs.specs.MasterLaws.{IsAllSynced}
-use Rattle.disk_runs.specs.Stands.{Known, Stands}
-use Rattle.engine_calls.specs.Moves.{Moved}
-use Rattle.engine_calls.specs.Parts.{Passes}
-use Rattle.engine_trait.specs.Areas.{Beside}
-use Rattle.engine_trait.specs.Calls.{IsOf, Memory}
-use Rattle.rows_trait.specs.declared.view.View.{View}
-use Rattle.disk_runs.specs.worker_log.Logs.{Log}
+use Rattle.session_state.specs.disk_slots.declared.master.Master.{Master}
+use Rattle.session_state.specs.disk_runs.MasterLaws.{IsAllSynced}
+use Rattle.session_state.specs.disk_runs.Stands.{Known, Stands}
+use Rattle.session_state.specs.engine_calls.Moves.{Moved}
+use Rattle.session_state.specs.engine_calls.Parts.{Passes}
+use Rattle.session_state.specs.engine_trait.Areas.{Beside}
+use Rattle.session_state.specs.engine_trait.Calls.{IsOf, Memory}
+use Rattle.session_state.specs.rows_trait.declared.view.View.{View}
+use Rattle.session_state.specs.worker_log.Logs.{Log}
 use Rattle.session_state.specs.Ties.{Behind}
 
 -- these logs, and the master that counts

@@ -1,32 +1,32 @@
 -- How a sync goes on: it flushes the log of one session after another, and then writes the next master; and what that comes to.
 use Rattle.std.specs.Prelude.{◌≡◌, ◌⊎◌, ◌≤◌, ◌<◌, ◌+◌, ◌^◌, ◌++◌, ◌&&◌, ◌||◌, ◌==◌, max, ℕ, suc, Bool, true, false, List, [], ◌∷◌, get_or, length}
 use Rattle.map_model.specs.Lists.{all, any}
-use Rattle.rows_trait.specs.core_state.Events as happening
-use Rattle.rows_trait.specs.core_state.Needs.{may}
-use Rattle.rows_trait.specs.core_state.Openings.{Opening}
-use Rattle.rows_trait.specs.core_state.States as core
-use Rattle.rows_trait.specs.core_state.Steps.{AllMet, state_after}
-use Rattle.core_calls.specs.Fronts.{Done, front}
-use Rattle.core_calls.specs.LogEvents.{AreFlushes, IsSync}
+use Rattle.session_state.specs.core_state.Events as happening
+use Rattle.session_state.specs.core_state.Needs.{may}
+use Rattle.session_state.specs.core_state.Openings.{Opening}
+use Rattle.session_state.specs.core_state.States as core
+use Rattle.session_state.specs.core_state.Steps.{AllMet, state_after}
+use Rattle.session_state.specs.core_calls.Fronts.{Done, front}
+use Rattle.session_state.specs.core_calls.LogEvents.{AreFlushes, IsSync}
 use Rattle.lean_disk.specs.Moments.{CrashIn, Framed, LeavesOnly}
 use Rattle.lean_disk.specs.Story.{Story}
-use Rattle.disk_runs.specs.disk_slots.declared.master.Master.{Master}
-use Rattle.disk_runs.specs.MasterLaws.{raised}
-use Rattle.disk_runs.specs.Masters.{IsNoEarlier}
-use Rattle.log_calls.specs.Calls.{Anything}
-use Rattle.log_calls.specs.Syncs.{KeepsEither, SyncsOn}
-use Rattle.log_calls.specs.Wholes.{FlushesWhole, flush_of}
-use Rattle.engine_trait.specs.Areas.{Around}
-use Rattle.engine_trait.specs.Calls.{Memory}
-use Rattle.engine_trait.specs.Logs.{Logs}
-use Rattle.row_opening.specs.Openings.{Opens}
-use Rattle.rows_trait.specs.row_words.declared.event.Event as told
-use Rattle.rows_trait.specs.row_words.declared.given.Given.{Given}
-use Rattle.rows_trait.specs.row_words.Moments.{events_of}
-use Rattle.rows_trait.specs.row_words.Openings.{opening}
-use Rattle.rows_trait.specs.declared.view.View.{View}
-use Rattle.rows_trait.specs.Views.{state}
-use Rattle.disk_runs.specs.worker_log.Logs.{Log}
+use Rattle.session_state.specs.disk_slots.declared.master.Master.{Master}
+use Rattle.session_state.specs.disk_runs.MasterLaws.{raised}
+use Rattle.session_state.specs.disk_runs.Masters.{IsNoEarlier}
+use Rattle.session_state.specs.log_calls.Calls.{Anything}
+use Rattle.session_state.specs.log_calls.Syncs.{KeepsEither, SyncsOn}
+use Rattle.session_state.specs.log_calls.Wholes.{FlushesWhole, flush_of}
+use Rattle.session_state.specs.engine_trait.Areas.{Around}
+use Rattle.session_state.specs.engine_trait.Calls.{Memory}
+use Rattle.session_state.specs.engine_trait.Logs.{Logs}
+use Rattle.session_state.specs.row_opening.Openings.{Opens}
+use Rattle.session_state.specs.row_words.declared.event.Event as told
+use Rattle.session_state.specs.row_words.declared.given.Given.{Given}
+use Rattle.session_state.specs.row_words.Moments.{events_of}
+use Rattle.session_state.specs.row_words.Openings.{opening}
+use Rattle.session_state.specs.rows_trait.declared.view.View.{View}
+use Rattle.session_state.specs.rows_trait.Views.{state}
+use Rattle.session_state.specs.worker_log.Logs.{Log}
 use Rattle.session_state.specs.Ties.{Behind}
 use Rattle.session_state.specs.Syncs.{HasSynced, MayFlush, finds_room, flushed_of, flushes_of, synced_session}
 use Rattle.session_desks.specs.Desks.{desk_of}

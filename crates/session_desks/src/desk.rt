@@ -3,8 +3,7 @@ ghost use Rattle.std.specs.Prelude.{◌≡◌, ◌≤◌, ◌<◌};
 ghost use Rattle.session_desks.specs.Desks.{AreSeated, Turned};
 ghost use Rattle.session_desks.specs.Parts.{in_store};
 
-use disk_runs::worker_log::WorkerLog;
-use session_state::{Session, Work};
+use session_state::{Session, Work, WorkerLog};
 use std::mem::swap;
 
 /// A session and its log.

@@ -1,10 +1,8 @@
 // What the calls of a machine stand on.
-ghost use Rattle.disk_runs.specs.core_disk.Versions.{EveryVersion};
-ghost use Rattle.disk_runs.specs.worker_log.Laws.{EveryKept, EveryPrefix};
-ghost use Rattle.disk_runs.specs.disk_image.Laws.{EverySealed};
-ghost use Rattle.row_opening.specs.Openings.{EveryNeed, EveryReached};
-
-use disk_runs::{core_disk, disk_image, worker_log};
+ghost use Rattle.session_state.specs.core_disk.Versions.{EveryVersion};
+ghost use Rattle.session_state.specs.worker_log.Laws.{EveryKept, EveryPrefix};
+ghost use Rattle.session_state.specs.disk_image.Laws.{EverySealed};
+ghost use Rattle.session_state.specs.row_opening.Openings.{EveryNeed, EveryReached};
 
 /// The laws of versions, logs, seals and openings.
 pub fn laws()
@@ -15,10 +13,10 @@ pub fn laws()
     ensures reached { EveryReached }
     ensures needs { EveryNeed }
 {
-    core_disk::every_version();
-    worker_log::every_kept();
-    worker_log::every_prefix();
-    disk_image::every_sealed();
-    row_opening::every_reached();
-    row_opening::every_need();
+    session_state::every_version();
+    session_state::every_kept();
+    session_state::every_prefix();
+    session_state::every_sealed();
+    session_state::every_reached();
+    session_state::every_need();
 }

@@ -3,11 +3,7 @@ ghost use Rattle.std.specs.Prelude.{◌≡◌, ◌≤◌, ◌<◌};
 ghost use Rattle.session_desks.specs.Parts.{HasTurned, IsSound, Works};
 
 use crate::desk::{Desk, turn_to};
-use disk_runs::disk_slots::Master;
-use key_locks::latches::Latches;
-use rows_trait::plain::PlainRows;
-use rows_trait::trace::Trace;
-use session_state::{Stages, Work};
+use session_state::{Latches, Master, PlainRows, Stages, Trace, Work};
 
 /// The rows and their seat, the disk and the session whose turn it is with its log, the other sessions at their desks, the marks of latched lock rows, and the master
 /// that counts.

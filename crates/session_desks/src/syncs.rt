@@ -2,12 +2,12 @@
 ghost use Rattle.std.specs.Prelude.{◌≡◌, ◌↔◌, ◌≤◌, ◌<◌, ◌+◌, ◌^◌, ℕ, max, IsErr, IsOk, IfOk, OnOk, get_or, length, true, false};
 ghost use Rattle.map_model.specs.Lists.{all};
 ghost use Rattle.lean_disk.specs.Faults.{HasCause};
-ghost use Rattle.log_calls.specs.Syncs.{SyncsOn};
-ghost use Rattle.log_calls.specs.Wholes.{EndsInRecord};
-ghost use Rattle.disk_runs.specs.MasterLaws.{raised};
+ghost use Rattle.session_state.specs.log_calls.Syncs.{SyncsOn};
+ghost use Rattle.session_state.specs.log_calls.Wholes.{EndsInRecord};
+ghost use Rattle.session_state.specs.disk_runs.MasterLaws.{raised};
 ghost use Rattle.session_state.specs.Staging.{KeepsLog};
 ghost use Rattle.session_state.specs.Syncs.{HasNoneBehind, HasSynced, MayFlush, synced_session};
-ghost use Rattle.rows_trait.specs.Views.{state};
+ghost use Rattle.session_state.specs.rows_trait.Views.{state};
 ghost use Rattle.session_desks.specs.Desks.{desk_of};
 ghost use Rattle.session_desks.specs.Parts.{AreAsMany, FailsToFlush, FailsToSync, FlushesAll, FlushesOne, HasLogs, IsFlushed, IsRaised, IsSound, IsStill, IsSynced, MakesSync, MaySync, SeatFits, Works, here, logs};
 ghost use Rattle.session_desks.specs.Syncs.{AreRaised, HasOpening, IsWriting, IsWritten, all_end_at, all_find_room, ends_at, finds_room_desk, greatest, next_with};
@@ -15,11 +15,11 @@ ghost use Rattle.session_desks.specs.Syncs.{AreRaised, HasOpening, IsWriting, Is
 use crate::desk::Desk;
 use crate::grounds::laws;
 use crate::machine::Machine;
-use disk_runs::disk_slots::{Heads, Master};
-use disk_runs::worker_log::{DiskFault, WorkerLog};
 use lean_disk::{Did, Disk};
-use log_calls::sync_master;
-use session_state::{Session, Stages, clocks_low, flush_own, may_flush, store_synced};
+use session_state::{
+    DiskFault, Heads, Master, Session, Stages, WorkerLog, clocks_low, flush_own, may_flush,
+    store_synced, sync_master,
+};
 
 // The greater of two numbers.
 fn greater(a: u64, b: u64) -> u64
@@ -213,7 +213,7 @@ impl<D: Stages> Machine<D> {
 
         ensures cause_disk_fault { HasCause (D.faults self.old.work.disk) (D.faults self.new.work.disk) (IsErr result) }
     {
-        row_opening::every_reached();
+        session_state::every_reached();
         session_state::every_synced();
         clocks_low(&self.rows, &self.seat);
         let number = greatest_clock(&self.work.session, &self.desks);

@@ -4,7 +4,7 @@ use Rattle.map_model.specs.Lists.{Has}
 use Rattle.btree_descent.specs.image_model.Entries.{Entry}
 use Rattle.btree_descent.specs.core_state.Openings.{Opening}
 use Rattle.btree_descent.specs.core_state.States.{State, start}
-use Rattle.btree_descent.proofs.core_commit_lemmas.Runs.{good_run, good_start}
+use Rattle.btree_descent.proofs.core_commit.Runs.{good_run, good_start}
 use Rattle.btree_descent.specs.row_words.declared.given.Given.{Given}
 use Rattle.btree_descent.specs.row_words.Moments.{events_of}
 use Rattle.row_opening.specs.Openings.{EveryReached, Opens}

@@ -3,7 +3,7 @@ use Rattle.std.proofs.Common.{◌≡◌, ◌+◌, ℕ, suc, ap, ◌∙◌, subst
 use Rattle.lean_disk.specs.Area.{Area, Leaves}
 use Rattle.lean_disk.specs.Moments.{CrashIn, Framed, LeavesOnly}
 use Rattle.lean_disk.specs.Story.{Crash, Story}
-use Rattle.log_calls.specs.Calls.{Anything}
+use Rattle.engine_calls.specs.log_calls.Calls.{Anything}
 
 pub framed_then : (a : ℕ) (s0 s1 s2 : Story) → Framed a s0 s1 → Framed a s1 s2 → Framed a s0 s2
 framed_then a s0 s1 s2 f w = record {

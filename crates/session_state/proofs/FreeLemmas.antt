@@ -5,7 +5,7 @@ use Rattle.std.proofs.lemmas.List.{reverse-append}
 use Rattle.page_model.specs.Nodes.{Node}
 use Rattle.page_model.specs.Page.{Page}
 use Rattle.row_opening.specs.Opened.{page_at}
-use Rattle.core_calls.specs.Room.{frees_from}
+use Rattle.engine_calls.specs.core_calls.Room.{frees_from}
 
 -- a page that comes behind the others is the first of them in reverse
 pub reverse_last : (xs : List ℕ) (x : ℕ) → reverse (xs ++ x ∷ []) ≡ x ∷ reverse xs

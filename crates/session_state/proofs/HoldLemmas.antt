@@ -5,7 +5,7 @@ use Rattle.btree_descent.specs.rows_trait.declared.view.View.{View}
 use Rattle.btree_descent.specs.rows_trait.Views.{Shape}
 use Rattle.btree_descent.specs.Known as pages
 use Rattle.key_locks.specs.Rows as locking
-use Rattle.disk_runs.specs.worker_log.Logs.{Log}
+use Rattle.engine_calls.specs.worker_log.Logs.{Log}
 use Rattle.session_state.specs.Holds.{AreRows, Holds}
 use Rattle.session_state.specs.Numbers.{AreClocked, AreNumbered}
 use Rattle.session_state.specs.declared.session.Session.{Session}

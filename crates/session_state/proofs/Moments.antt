@@ -1,14 +1,14 @@
 -- What the seat sees where nobody else steps, and what it is in a run.
 use Rattle.std.proofs.Common.{◌≡◌, ◌≤◌, ◌<◌, ℕ, true, List, [], ◌∷◌, ◌++◌, refl, sym, ap, subst, ◌∙◌, append-nil}
 use Rattle.btree_descent.specs.core_state.Needs.{may}
-use Rattle.core_calls.specs.Room.{free_list, frees_from}
+use Rattle.engine_calls.specs.core_calls.Room.{free_list, frees_from}
 use Rattle.btree_descent.specs.core_state.Steps.{happens}
 use Rattle.btree_descent.specs.row_words.declared.event.Event.{Event}
 use Rattle.btree_descent.specs.row_words.declared.given.Given.{Given}
 use Rattle.btree_descent.specs.row_words.Moments.{Moment, event_of, events_of}
 use Rattle.btree_descent.specs.row_words.Openings.{opening}
 use Rattle.btree_descent.specs.row_words.Sealed.{begun, run, stepped}
-use Rattle.btree_descent.proofs.row_words_lemmas.SealedLemmas.{run_append}
+use Rattle.btree_descent.proofs.row_words.SealedLemmas.{run_append}
 use Rattle.btree_descent.specs.rows_trait.declared.view.View.{View}
 use Rattle.btree_descent.specs.rows_trait.Views.{Shape, after_all, may as plays, state}
 use Rattle.btree_descent.specs.rows_trait.Turns.{Goes}

@@ -15,8 +15,8 @@ use Rattle.btree_descent.specs.core_state.Openings.{Opening}
 use Rattle.btree_descent.specs.core_state.States.{Row, State, flushed_by_all, gsns_of, nodes_of}
 use Rattle.btree_descent.specs.core_state.Steps as core
 use Rattle.btree_descent.specs.core_state.Steps.{AllMet, end_entry, happens, locked, put_back, unlocked}
-use Rattle.btree_descent.proofs.core_state_lemmas.Locality.{every_local}
-use Rattle.core_calls.specs.LogEvents.{behind}
+use Rattle.btree_descent.proofs.core_state.Locality.{every_local}
+use Rattle.engine_calls.specs.core_calls.LogEvents.{behind}
 use Rattle.engine_calls.proofs.MarkLemmas.{met_join}
 use Rattle.btree_descent.specs.row_words.declared.event.Event.{Event}
 use Rattle.btree_descent.specs.row_words.declared.event.Event.TheVariants as told
@@ -25,7 +25,7 @@ use Rattle.btree_descent.specs.row_words.declared.given.Given.{Given}
 use Rattle.btree_descent.specs.row_words.Moments.{Moment, event_of, events_of, mode_of}
 use Rattle.btree_descent.specs.row_words.Openings.{opening}
 use Rattle.btree_descent.specs.row_words.Sealed.{begun, run, stepped}
-use Rattle.btree_descent.proofs.row_words_lemmas.SealedLemmas.{run_append}
+use Rattle.btree_descent.proofs.row_words.SealedLemmas.{run_append}
 use Rattle.btree_descent.specs.rows_trait.declared.view.View.{View}
 use Rattle.btree_descent.specs.rows_trait.Views.{after_all, state}
 use Rattle.key_locks.proofs.Masks.{others_else, reads_else}

@@ -2,7 +2,7 @@
 use Rattle.std.proofs.Common.{◌≡◌, ◌≤◌, ◌+◌, ◌-◌, ◌*◌, ◌++◌, ℕ, zero, suc, List, [], ◌∷◌, inl, inr, refl, sym, ap, ◌∙◌, subst, arith, lit≤}
 use Rattle.std.specs.Prelude.{replicate}
 use Rattle.std.proofs.Math.Nat.{le-max_left, le-max_right}
-use Rattle.disk_runs.specs.worker_log.Logs.{Log}
+use Rattle.engine_calls.specs.worker_log.Logs.{Log}
 use Rattle.session_state.specs.Reserves.{EveryReserve, Makes, MakesAll, Step, takes, takes_all}
 use Rattle.session_state.specs.Undo.{filled}
 use Rattle.session_state.proofs.UndoLemmas.{fills, flush_fills, used_filled, used_written, written_most}

@@ -5,9 +5,9 @@ use Rattle.btree_descent.specs.draw_trait.declared.draw.Unstaged.{Unstaged}
 use Rattle.flush_avoidance.specs.declared.Clock.{Clock}
 use Rattle.lean_disk.specs.Story.{Story}
 use Rattle.btree_descent.specs.log_record.declared.record.Record.{Record}
-use Rattle.disk_runs.specs.log_block.Block.{records_text}
-use Rattle.disk_runs.specs.worker_log.Calls.{After, HasRoom}
-use Rattle.disk_runs.specs.worker_log.Logs.{Log}
+use Rattle.engine_calls.specs.log_block.Block.{records_text}
+use Rattle.engine_calls.specs.worker_log.Calls.{After, HasRoom}
+use Rattle.engine_calls.specs.worker_log.Logs.{Log}
 use Rattle.flush_avoidance.specs.Clocks.{risen}
 use Rattle.session_state.specs.Staging.{IsButClock, Staging}
 use Rattle.session_state.specs.declared.session.Session.{Session}

@@ -10,14 +10,14 @@ use Rattle.btree_descent.specs.core_state.Lists.{most}
 use Rattle.btree_descent.specs.core_state.Needs.{holds_row, is_behind, may}
 use Rattle.btree_descent.specs.core_state.States.{State, flushed_by_all}
 use Rattle.btree_descent.specs.core_state.Steps.{happens}
-use Rattle.core_calls.proofs.EntryLemmas.{commit_record}
-use Rattle.core_calls.specs.LogEvents as log_events
+use Rattle.engine_calls.proofs.core_calls.EntryLemmas.{commit_record}
+use Rattle.engine_calls.specs.core_calls.LogEvents as log_events
 use Rattle.lean_disk.specs.Story.{Story}
-use Rattle.log_calls.specs.Wholes.{EndsInRecord, FlushesWhole, flush_of}
-use Rattle.disk_runs.specs.worker_log.Calls.{flushed_log}
-use Rattle.disk_runs.specs.worker_log.Logs.{Log}
+use Rattle.engine_calls.specs.log_calls.Wholes.{EndsInRecord, FlushesWhole, flush_of}
+use Rattle.engine_calls.specs.worker_log.Calls.{flushed_log}
+use Rattle.engine_calls.specs.worker_log.Logs.{Log}
 use Rattle.btree_descent.specs.row_words.declared.event.Event.TheVariants.{Flush, Sync}
-use Rattle.btree_descent.proofs.core_commit_lemmas.Controls.{le_most}
+use Rattle.btree_descent.proofs.core_commit.Controls.{le_most}
 use Rattle.btree_descent.specs.row_words.Moments.{events_of}
 use Rattle.btree_descent.specs.row_words.Openings.{opening}
 use Rattle.btree_descent.specs.rows_trait.declared.view.View.{View}

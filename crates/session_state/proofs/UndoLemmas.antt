@@ -7,10 +7,10 @@ use Rattle.std.proofs.lemmas.List.{length-append, reverse-append}
 use Rattle.btree_descent.specs.image_model.Entries.{Entry}
 use Rattle.btree_descent.specs.log_record.declared.record.Record.{Record}
 use Rattle.btree_descent.specs.log_record.Spelling.{Fits, record_text}
-use Rattle.btree_descent.proofs.log_record_lemmas.SizeLemmas.{size_range, text_size}
-use Rattle.disk_runs.specs.log_block.Block.{records_text}
-use Rattle.disk_runs.specs.worker_log.Calls.{After, HasRoom, flushed_log}
-use Rattle.disk_runs.specs.worker_log.Logs.{Log, limit, used}
+use Rattle.btree_descent.proofs.log_record.SizeLemmas.{size_range, text_size}
+use Rattle.engine_calls.specs.log_block.Block.{records_text}
+use Rattle.engine_calls.specs.worker_log.Calls.{After, HasRoom, flushed_log}
+use Rattle.engine_calls.specs.worker_log.Logs.{Log, limit, used}
 use Rattle.session_state.specs.Undo.{HasHand, HasRoomToStage, HasRoomToUndo, filled, kept_blocks, undo_of}
 use Rattle.session_state.specs.declared.undo.Undone.{Undone}
 

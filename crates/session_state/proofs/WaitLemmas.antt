@@ -9,8 +9,8 @@ use Rattle.btree_descent.specs.core_state.Events.{Event}
 use Rattle.btree_descent.specs.core_state.Openings.{Opening}
 use Rattle.btree_descent.specs.core_state.States.{State, flushed_by_all}
 use Rattle.btree_descent.specs.core_state.Steps.{happens}
-use Rattle.btree_descent.proofs.core_commit_lemmas.Copies.{at_place}
-use Rattle.core_calls.specs.LogEvents.{behind}
+use Rattle.btree_descent.proofs.core_commit.Copies.{at_place}
+use Rattle.engine_calls.specs.core_calls.LogEvents.{behind}
 
 -- what all logs are flushed up to they are behind a flush
 pub floor_flush : (g : Opening) (s : State) (w m floor : ℕ) → s.flushed w ≤ m → floor ≤ flushed_by_all g s → floor ≤ flushed_by_all g (happens g s (Event.Flush w m))

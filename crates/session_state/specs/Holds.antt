@@ -4,15 +4,15 @@ use Rattle.page_model.specs.Limits.{most_sessions, transaction_changes}
 use Rattle.map_model.specs.Lists.{Has}
 use Rattle.btree_descent.specs.core_state.States.{Worker, flushed_by_all}
 use Rattle.btree_descent.specs.core_state.Needs.{holds_row}
-use Rattle.core_calls.specs.LogEvents.{behind}
-use Rattle.core_calls.specs.Room.{free_list}
+use Rattle.engine_calls.specs.core_calls.LogEvents.{behind}
+use Rattle.engine_calls.specs.core_calls.Room.{free_list}
 use Rattle.btree_descent.specs.row_words.Openings.{opening}
 use Rattle.btree_descent.specs.rows_trait.declared.view.View.{View}
 use Rattle.btree_descent.specs.rows_trait.Views.{Shape, state}
 use Rattle.btree_descent.specs.Descents as descents
 use Rattle.btree_descent.specs.Known as pages
 use Rattle.key_locks.specs.Rows as locking
-use Rattle.disk_runs.specs.worker_log.Logs.{Log, used}
+use Rattle.engine_calls.specs.worker_log.Logs.{Log, used}
 use Rattle.session_state.specs.declared.session.Session.{Session}
 use Rattle.session_state.specs.Numbers.{AreClocked, AreNumbered}
 use Rattle.session_state.specs.Undo.{HasHand, HasRoomToUndo, kept_blocks, undo_of}

@@ -2,10 +2,10 @@
 -- seven of them for the latter alone.
 use Rattle.std.specs.Prelude.{◌≡◌, ◌≤◌, ◌<◌, ◌+◌, ◌*◌, ◌-◌, ◌++◌, ℕ, suc, max, List, [], ◌∷◌, length, replicate}
 use Rattle.page_model.specs.Limits.{leaf_room, top_level, transaction_changes}
-use Rattle.disk_runs.specs.log_block.Block.{records_text}
+use Rattle.engine_calls.specs.log_block.Block.{records_text}
 use Rattle.btree_descent.specs.log_record.declared.record.Record.{Record}
-use Rattle.disk_runs.specs.worker_log.Calls.{After, flushed_log}
-use Rattle.disk_runs.specs.worker_log.Logs.{Log, limit, used}
+use Rattle.engine_calls.specs.worker_log.Calls.{After, flushed_log}
+use Rattle.engine_calls.specs.worker_log.Logs.{Log, limit, used}
 use Rattle.session_state.specs.Undo.{HasHand, HasRoomToUndo, kept_blocks}
 
 -- a record of at most so many bytes is staged, or the log is flushed

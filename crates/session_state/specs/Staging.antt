@@ -6,10 +6,10 @@ use Rattle.lean_disk.specs.Faults.{HasCause}
 use Rattle.lean_disk.specs.Moments.{Framed}
 use Rattle.lean_disk.specs.Story.{Story}
 use Rattle.btree_descent.specs.log_record.declared.record.Record.{Record}
-use Rattle.disk_runs.specs.log_block.Block.{records_text}
-use Rattle.disk_runs.specs.worker_log.Calls.{After}
-use Rattle.disk_runs.specs.worker_log.Logs.{Log, used}
-use Rattle.log_calls.specs.Calls.{KeepsWithin, StagesOn}
+use Rattle.engine_calls.specs.log_block.Block.{records_text}
+use Rattle.engine_calls.specs.worker_log.Calls.{After}
+use Rattle.engine_calls.specs.worker_log.Logs.{Log, used}
+use Rattle.engine_calls.specs.log_calls.Calls.{KeepsWithin, StagesOn}
 use Rattle.engine_calls.specs.Clauses.{OnLog}
 use Rattle.flush_avoidance.specs.Clocks.{risen}
 use Rattle.session_state.specs.declared.session.Session.{Session}

@@ -6,16 +6,16 @@ use Rattle.btree_descent.specs.core_state.States.{State}
 use Rattle.btree_descent.specs.core_state.Events as happening
 use Rattle.btree_descent.specs.core_state.Needs.{may}
 use Rattle.lean_disk.specs.Story.{Story}
-use Rattle.log_calls.specs.Wholes.{FlushesWhole, flush_of}
-use Rattle.disk_runs.specs.MasterLaws.{raised}
+use Rattle.engine_calls.specs.log_calls.Wholes.{FlushesWhole, flush_of}
+use Rattle.engine_calls.specs.disk_runs.MasterLaws.{raised}
 use Rattle.btree_descent.specs.row_words.declared.event.Event.{Event}
 use Rattle.btree_descent.specs.row_words.declared.event.Event.TheVariants as told
 use Rattle.btree_descent.specs.row_words.Moments.{events_of}
 use Rattle.btree_descent.specs.row_words.Openings.{opening}
 use Rattle.btree_descent.specs.rows_trait.declared.view.View.{View}
 use Rattle.btree_descent.specs.rows_trait.Views.{Shape, state}
-use Rattle.disk_runs.specs.worker_log.Calls.{flushed_log}
-use Rattle.disk_runs.specs.worker_log.Logs.{Log}
+use Rattle.engine_calls.specs.worker_log.Calls.{flushed_log}
+use Rattle.engine_calls.specs.worker_log.Logs.{Log}
 use Rattle.session_state.specs.Holds.{Holds}
 use Rattle.session_state.specs.Others.{Steps}
 use Rattle.session_state.specs.Undo.{HasRoomToUndo, filled}

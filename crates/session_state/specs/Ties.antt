@@ -3,8 +3,8 @@ use Rattle.std.specs.Prelude.{◌≡◌, ◌≤◌, ◌^◌, ◌++◌, ℕ, Bool
 use Rattle.btree_descent.specs.core_state.Openings.{Opening}
 use Rattle.btree_descent.specs.core_state.Events.{Event}
 use Rattle.btree_descent.specs.core_state.Steps.{AllMet, state_after}
-use Rattle.core_calls.specs.Fronts.{Done, front}
-use Rattle.core_calls.specs.Runs.{EachTells}
+use Rattle.engine_calls.specs.core_calls.Fronts.{Done, front}
+use Rattle.engine_calls.specs.core_calls.Runs.{EachTells}
 use Rattle.engine_trait.specs.Calls.{is_half_done}
 use Rattle.engine_trait.specs.Limits.{AreLoads, limits}
 use Rattle.btree_descent.specs.row_words.Moments.{events_of}

@@ -2,7 +2,7 @@
 use Rattle.std.specs.Prelude.{◌≡◌, ◌≤◌, ◌<◌, ◌+◌, ◌-◌, ◌*◌, ◌^◌, ℕ, min, List, [], ◌∷◌, length, Option, Some, None}
 use Rattle.btree_descent.specs.image_model.Entries.{Entry}
 use Rattle.page_model.specs.Limits.{transaction_changes}
-use Rattle.disk_runs.specs.worker_log.Logs.{Log, used}
+use Rattle.engine_calls.specs.worker_log.Logs.{Log, used}
 use Rattle.session_state.specs.declared.undo.Undone.{Undone}
 
 -- the newest one, if there is one

@@ -1,9 +1,9 @@
 // The pages that are free.
 ghost use Rattle.std.specs.Prelude.{◌≡◌, ◌<◌, ◌^◌, length, IfOk};
-ghost use Rattle.core_calls.specs.Room.{frees_from};
+ghost use Rattle.engine_calls.specs.core_calls.Room.{frees_from};
 ghost use Rattle.session_state.specs.Free.{first_of, nodes_in, without_first};
 
-use btree_descent::btree_node::Node;
+use btree_descent::BtreeNodeNode as Node;
 use std::alloc::{AllocError, Global};
 use std::marker::Model;
 

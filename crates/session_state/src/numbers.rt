@@ -1,7 +1,7 @@
 // That numbers fit their words, whatever other seats do: what a seat has seen is tame.
 ghost use Rattle.session_state.specs.Numbers.{AreClocksLow, AreNumbered, HaveRoom};
 
-use btree_descent::rows_trait::rows::Rows;
+use btree_descent::Rows;
 
 /// The next number of each worker that is open fits. The call does nothing.
 pub fn next_fits<R: Rows>(rows: &R, seat: &R::Seat)

@@ -3,7 +3,7 @@ ghost use Rattle.std.specs.Prelude.{◌≡◌, ◌↔◌, ◌<◌, ◌+◌, IsEr
 ghost use Rattle.btree_descent.specs.core_state.Events as happening;
 ghost use Rattle.btree_descent.specs.core_state.Needs.{may};
 ghost use Rattle.lean_disk.specs.Faults.{HasCause};
-ghost use Rattle.log_calls.specs.Wholes.{EndsInRecord};
+ghost use Rattle.engine_calls.specs.log_calls.Wholes.{EndsInRecord};
 ghost use Rattle.btree_descent.specs.row_words.Openings.{opening};
 ghost use Rattle.btree_descent.specs.rows_trait.Views.{state};
 ghost use Rattle.session_state.specs.Holds.{Holds, IsSameSession};
@@ -12,12 +12,9 @@ ghost use Rattle.session_state.specs.Syncs.{FlushesOwn, HasNoneBehind, HasSynced
 
 use crate::session::Session;
 use crate::work::Work;
-use btree_descent::lean_proto;
-use btree_descent::rows_trait::names::Names;
-use btree_descent::rows_trait::rows::Rows;
-use disk_runs::worker_log::{DiskFault, RESERVE, WorkerLog};
+use btree_descent::{Names, Rows};
+use engine_calls::{DiskFault, RESERVE, WorkerLog, flush_whole};
 use lean_disk::Disk;
-use log_calls::flush_whole;
 
 /// The event of a flush of a session's log up to this number.
 #[derive(Drop)]
@@ -95,7 +92,7 @@ pub fn flush_own<R: Rows, D: Disk>(
 
     ensures cause_disk_fault { HasCause (D.faults work.old.disk) (D.faults work.new.disk) (IsErr result) }
 {
-    lean_proto::every_turn();
+    btree_descent::every_turn();
     let own = work.session.own;
     let number = work.log.last();
     let flushed = work.log.flushed();

@@ -4,16 +4,14 @@ ghost use Rattle.page_model.specs.Limits.{most_sessions};
 ghost use Rattle.lean_disk.specs.Faults.{HasCause};
 ghost use Rattle.lean_disk.specs.Moments.{Framed};
 ghost use Rattle.btree_descent.specs.log_record.Spelling.{Fits};
-ghost use Rattle.disk_runs.specs.worker_log.Calls.{After};
-ghost use Rattle.disk_runs.specs.worker_log.Kept.{IsInRange};
-ghost use Rattle.disk_runs.specs.worker_log.Logs.{used};
-ghost use Rattle.log_calls.specs.Calls.{KeepsMoments, KeepsNotes, KeepsWithin, StagesOn};
+ghost use Rattle.engine_calls.specs.worker_log.Calls.{After};
+ghost use Rattle.engine_calls.specs.worker_log.Kept.{IsInRange};
+ghost use Rattle.engine_calls.specs.worker_log.Logs.{used};
+ghost use Rattle.engine_calls.specs.log_calls.Calls.{KeepsMoments, KeepsNotes, KeepsWithin, StagesOn};
 
 use crate::session::Session;
-use btree_descent::draw_trait::draw::{Draw, Unstaged};
-use btree_descent::draw_trait::staged::{Staged, one_more};
-use btree_descent::log_record::Record;
-use disk_runs::worker_log::{DiskFault, RESERVE, WorkerLog};
+use btree_descent::{Draw, Record, Staged, Unstaged, one_more};
+use engine_calls::{DiskFault, RESERVE, WorkerLog};
 use lean_disk::{Disk, MemDisk};
 use std::marker::Brand;
 
@@ -50,7 +48,7 @@ pub trait Stages: Disk {
 
 impl Stages for MemDisk {
     fn stage_on(&mut self, log: &mut WorkerLog, own: u32, entry: &Record) -> Result<(), DiskFault> {
-        log_calls::stage_end(self, log, own, entry)
+        engine_calls::stage_end(self, log, own, entry)
     }
 }
 

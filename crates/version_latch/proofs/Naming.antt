@@ -5,7 +5,7 @@ use Rattle.rows_trait.specs.row_words.declared.event.Event.{Event}
 use Rattle.rows_trait.specs.row_words.declared.event.Event.TheVariants.{Miss}
 use Rattle.rows_trait.specs.row_words.declared.given.Given.{Given}
 use Rattle.rows_trait.specs.row_words.Moments.{actor_of, is_rising}
-use Rattle.rows_trait.proofs.row_words_lemmas.SealedLemmas.{is_silent, silent_changes, silent_sets, silent_part}
+use Rattle.rows_trait.proofs.row_words.SealedLemmas.{is_silent, silent_changes, silent_sets, silent_part}
 use Rattle.rows_trait.specs.Views.{IsEven, AreSilent}
 use Rattle.version_latch.specs.Named.{missed, checked}
 

@@ -12,5 +12,8 @@ pub use glimpse::{Glimpse, LAST, Latched, Moved, Unheld};
 pub use hold::Hold;
 
 // Passed on to the crates above.
-pub use rows_trait;
-pub use rows_trait::btree_node;
+pub use rows_trait::names::{Names, Nothing};
+pub use rows_trait::plain::PlainRows;
+pub use rows_trait::rows::Rows;
+pub use rows_trait::trace::Trace;
+pub use rows_trait::{Node, every_low};

@@ -12,7 +12,7 @@ use Rattle.lean_disk.specs.declared.disk.Did.TheVariants.{Done}
 use Rattle.lean_disk.proofs.MomentLemmas.{started, goes_on, then, weaker, framed, framed_wrote, framed_synced, crash_in}
 use Rattle.disk_image.specs.log_record.Spelling.{Fits}
 use Rattle.disk_image.specs.log_record.declared.record.Record.{Record}
-use Rattle.disk_image.proofs.log_record_lemmas.SizeLemmas.{size_range}
+use Rattle.disk_image.proofs.log_record.SizeLemmas.{size_range}
 use Rattle.disk_image.specs.log_block.Block.{Belongs, IsSealed, block_text, generation_of, records_text}
 use Rattle.disk_image.specs.Runs.{Block}
 use Rattle.disk_image.proofs.BlockInLemmas.{every_belongs}

@@ -4,7 +4,7 @@ use Rattle.std.proofs.lemmas.List.{length-take}
 use Rattle.std.proofs.Math.Nat.{mod-lt}
 use Rattle.map_model.specs.Lists.{Has}
 use Rattle.disk_image.specs.image_model.Fair.{piece, IsFair}
-use Rattle.disk_image.proofs.image_model_lemmas.FairLemmas.{IsOfOne, narrow}
+use Rattle.disk_image.proofs.image_model.FairLemmas.{IsOfOne, narrow}
 use Rattle.lean_disk.specs.Area.{Area, Write, IsApart}
 use Rattle.disk_image.specs.log_record.declared.record.Record.{Record}
 use Rattle.disk_image.specs.log_block.Block.{Belongs, IsSealed, block_of}

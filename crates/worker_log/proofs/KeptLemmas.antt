@@ -6,7 +6,7 @@ use Rattle.std.proofs.lemmas.List.Concat.{flat_map-append}
 use Rattle.map_model.proofs.ListLemmas.{has_cases, has_left, has_right}
 use Rattle.map_model.specs.Lists.{Has}
 use Rattle.disk_image.specs.image_model.Fair.{piece, IsFair, IsWritten}
-use Rattle.disk_image.proofs.image_model_lemmas.FairLemmas.{among_more, exactly}
+use Rattle.disk_image.proofs.image_model.FairLemmas.{among_more, exactly}
 use Rattle.lean_disk.specs.Area.{Area, Write, put_over, written as over, synced as cleaned}
 use Rattle.disk_image.specs.log_record.Spelling.{Fits, record_text}
 use Rattle.disk_image.specs.log_record.declared.record.Record.{Record}

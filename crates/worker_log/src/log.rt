@@ -14,8 +14,7 @@ ghost use Rattle.worker_log.specs.Accounts.{Account};
 
 use crate::ends::{drop_ends, new_ends, passed, push_end};
 use circular_buffer::HeapCircularBuffer;
-use disk_image::log_block::{BLOCK, PAYLOAD, block_bytes};
-use disk_image::log_record::{Record, record_bytes, record_size};
+use disk_image::{BLOCK, PAYLOAD, Record, block_bytes, record_bytes, record_size};
 use lean_disk::{Did, Part};
 use std::alloc::{AllocError, Global};
 use std::marker::Model;

@@ -7,12 +7,12 @@ use Rattle.map_model.specs.declared.call.Answer.TheVariants as answer
 use Rattle.map_model.specs.declared.call.Call.{Call}
 use Rattle.map_model.specs.declared.call.Call.TheVariants as call
 use Rattle.map_model.specs.declared.call.Refusal.{Refusal}
-use Rattle.rows_trait.specs.core_state.Openings.{Opening}
-use Rattle.core_calls.specs.Fronts.{Done}
-use Rattle.core_calls.specs.Steps.{hindered_in}
-use Rattle.rows_trait.specs.row_words.declared.event.Event.{Event}
-use Rattle.rows_trait.specs.row_words.declared.event.Event.TheVariants as told
-use Rattle.rows_trait.specs.declared.view.View.{View}
+use Rattle.paged_scans.specs.core_state.Openings.{Opening}
+use Rattle.paged_scans.specs.core_calls.Fronts.{Done}
+use Rattle.paged_scans.specs.core_calls.Steps.{hindered_in}
+use Rattle.paged_scans.specs.row_words.declared.event.Event.{Event}
+use Rattle.paged_scans.specs.row_words.declared.event.Event.TheVariants as told
+use Rattle.paged_scans.specs.rows_trait.declared.view.View.{View}
 use Rattle.engine_front.specs.Turns.{behind_answer}
 use Rattle.engine_front.specs.declared.calls.Durable.{Durable}
 use Rattle.engine_front.specs.declared.calls.Next.{Next}
@@ -20,9 +20,9 @@ use Rattle.group_commit.specs.Queues.{pushed}
 use Rattle.group_commit.specs.Ripeness.{flushed_of}
 use Rattle.group_commit.specs.declared.queue.End.{End}
 use Rattle.group_commit.specs.declared.receipts.Receipt.{Receipt}
-use Rattle.row_ends.specs.declared.ending.Ended.{Ended}
-use Rattle.disk_runs.specs.worker_log.Logs.{Log}
-use Rattle.paged_desks.specs.Calls.{OnLine}
+use Rattle.paged_scans.specs.row_ends.declared.ending.Ended.{Ended}
+use Rattle.paged_scans.specs.worker_log.Logs.{Log}
+use Rattle.paged_scans.specs.paged_desks.Calls.{OnLine}
 use Rattle.paged_ends.specs.Ends.{OnBegin}
 use Rattle.buffered_engine.specs.Receipts.{IsReceipt, flushed_in}
 

@@ -4,7 +4,7 @@ use Rattle.group_commit.specs.Queues.{Takes}
 use Rattle.group_commit.specs.Ripeness.{flushed_of}
 use Rattle.group_commit.specs.declared.queue.End.{End}
 use Rattle.group_commit.specs.declared.receipts.Receipt.{Receipt}
-use Rattle.disk_runs.specs.worker_log.Logs.{Log}
+use Rattle.paged_scans.specs.worker_log.Logs.{Log}
 use Rattle.buffered_engine.specs.Inside.Asks.{AreNumbers}
 
 -- so many numbers, the same as these

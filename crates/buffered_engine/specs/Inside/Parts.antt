@@ -4,16 +4,16 @@ use Rattle.page_model.specs.Limits.{most_sessions}
 use Rattle.map_model.specs.declared.call.Answer.TheVariants as answer
 use Rattle.map_model.specs.declared.call.Call.{Call}
 use Rattle.map_model.specs.declared.call.Refusal.TheVariants as refusal
-use Rattle.core_calls.specs.Fronts.{Done}
-use Rattle.rows_trait.specs.core_state.Openings.{Opening}
+use Rattle.paged_scans.specs.core_calls.Fronts.{Done}
+use Rattle.paged_scans.specs.core_state.Openings.{Opening}
 use Rattle.lean_disk.specs.Faults.{HasCause}
 use Rattle.lean_disk.specs.Story.{Story}
 use Rattle.engine_front.specs.declared.calls.Next.{Next}
 use Rattle.group_commit.specs.declared.queue.End.{End}
-use Rattle.session_desks.specs.Parts.{AreAsMany, HasTurned, SeatFits, Works, here}
-use Rattle.paged_desks.specs.Calls.{CallDoes}
-use Rattle.paged_desks.specs.Machines.{IsReady, view_of}
-use Rattle.paged_desks.specs.declared.machine.PagedMachine.{PagedMachine}
+use Rattle.paged_scans.specs.session_desks.Parts.{AreAsMany, HasTurned, SeatFits, Works, here}
+use Rattle.paged_scans.specs.paged_desks.Calls.{CallDoes}
+use Rattle.paged_scans.specs.paged_desks.Machines.{IsReady, view_of}
+use Rattle.paged_scans.specs.paged_desks.declared.machine.PagedMachine.{PagedMachine}
 use Rattle.paged_scans.specs.Calls.{IsIn}
 use Rattle.paged_scans.specs.declared.scans.Scan.{Scan}
 use Rattle.buffered_engine.specs.Calls.{IsTo, MayBe, is_stop}

@@ -1,31 +1,31 @@
 -- How a dump ends, from what recovery did and what was put.
 use Rattle.std.proofs.Common.{◌≡◌, inl, inr, ⊎_elim, ◌<◌, ◌+◌, ℕ, List, length, Some, Result, Err, refl, sym, ◌∙◌, ap, subst, arith}
 use Rattle.page_model.specs.Tree.{value}
-use Rattle.disk_runs.specs.image_model.Laws.{EveryUndone}
+use Rattle.buffered_engine.specs.image_model.Laws.{EveryUndone}
 use Rattle.lean_disk.specs.Area.{Area}
 use Rattle.lean_disk.specs.Faults.{HasCause, IsBlamed, Rose}
 use Rattle.lean_disk.specs.Moments.{LeavesOnly}
 use Rattle.lean_disk.specs.Story.{Crash, IsLawful, LeavesNow, Story, areas_of}
 use Rattle.lean_disk.specs.Told.{TellsOn}
-use Rattle.lean_edge.specs.Outside.{Held}
-use Rattle.lean_edge.specs.declared.sink.Put.{Put}
-use Rattle.lean_edge.specs.declared.sink.Put.TheVariants.{Done, Failed}
-use Rattle.disk_runs.specs.disk_slots.declared.master.Master.{Master}
-use Rattle.disk_runs.specs.disk_image.Formats.{format_of}
-use Rattle.disk_runs.specs.disk_image.MasterSlots.{master_on}
-use Rattle.disk_runs.specs.disk_image.Shown.{Areas, IsCleanDisk}
+use Rattle.buffered_engine.specs.lean_edge.Outside.{Held}
+use Rattle.buffered_engine.specs.lean_edge.declared.sink.Put.{Put}
+use Rattle.buffered_engine.specs.lean_edge.declared.sink.Put.TheVariants.{Done, Failed}
+use Rattle.buffered_engine.specs.disk_slots.declared.master.Master.{Master}
+use Rattle.buffered_engine.specs.disk_image.Formats.{format_of}
+use Rattle.buffered_engine.specs.disk_image.MasterSlots.{master_on}
+use Rattle.buffered_engine.specs.disk_image.Shown.{Areas, IsCleanDisk}
 use Rattle.node_tree.specs.Nodes.{nodes_of}
 use Rattle.pair_walk.specs.Laws.{ListingLaws}
-use Rattle.recovery.specs.Crashes.{RecoveryLeaves}
-use Rattle.recovery.specs.Installed.{HasInstalled}
-use Rattle.recovery.specs.Masters.{IsOpenable}
-use Rattle.recovery.specs.Opened.{IsOpened, IsRecovered, IsRefusal, IsUntouched, IsWhole, Keeps}
-use Rattle.recovery.specs.Own.{EveryOwn}
-use Rattle.recovery.specs.Telling.{TellsAll}
-use Rattle.recovery.specs.declared.opening.Recovered.{Recovered}
-use Rattle.recovery.specs.declared.opening.Unrecovered.{Unrecovered}
-use Rattle.recovery.specs.declared.opening.Unrecovered.TheVariants as why
-use Rattle.paged_engine.specs.Openings.{Shows}
+use Rattle.buffered_engine.specs.recovery.Crashes.{RecoveryLeaves}
+use Rattle.buffered_engine.specs.recovery.Installed.{HasInstalled}
+use Rattle.buffered_engine.specs.recovery.Masters.{IsOpenable}
+use Rattle.buffered_engine.specs.recovery.Opened.{IsOpened, IsRecovered, IsRefusal, IsUntouched, IsWhole, Keeps}
+use Rattle.buffered_engine.specs.recovery.Own.{EveryOwn}
+use Rattle.buffered_engine.specs.recovery.Telling.{TellsAll}
+use Rattle.buffered_engine.specs.recovery.declared.opening.Recovered.{Recovered}
+use Rattle.buffered_engine.specs.recovery.declared.opening.Unrecovered.{Unrecovered}
+use Rattle.buffered_engine.specs.recovery.declared.opening.Unrecovered.TheVariants as why
+use Rattle.buffered_engine.specs.paged_engine.Openings.{Shows}
 use Rattle.lean_shell.specs.Dumps.{DumpEnds, DumpLeaves, IsAsOpened, PutOrCut, dump_text}
 use Rattle.lean_shell.specs.Endings.{finished}
 use Rattle.lean_shell.specs.Inside.Puts.{OnlyPuts, PutsDump, counts_of}

@@ -7,9 +7,9 @@ use Rattle.pair_walk.specs.Laws.{ListingLaws}
 use Rattle.pair_walk.specs.Listings.{Lists, live}
 use Rattle.lean_disk.specs.Faults.{HasCause}
 use Rattle.lean_disk.specs.Story.{Story}
-use Rattle.lean_edge.specs.Outside.{Held}
-use Rattle.lean_edge.specs.declared.sink.Put.{Put}
-use Rattle.lean_edge.specs.declared.sink.Put.TheVariants.{Done, Failed}
+use Rattle.buffered_engine.specs.lean_edge.Outside.{Held}
+use Rattle.buffered_engine.specs.lean_edge.declared.sink.Put.{Put}
+use Rattle.buffered_engine.specs.lean_edge.declared.sink.Put.TheVariants.{Done, Failed}
 use Rattle.script_lang.specs.Notices.{Notice}
 use Rattle.lean_shell.specs.Lines.{IsPut, line_of}
 use Rattle.lean_shell.specs.Dumps.{map_text, pair_lines}

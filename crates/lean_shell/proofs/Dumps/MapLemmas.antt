@@ -7,21 +7,21 @@ use Rattle.page_model.specs.Nodes.{Node}
 use Rattle.page_model.specs.Pairs.{Pair}
 use Rattle.page_model.specs.Tree.{IsTree, value, value_of}
 use Rattle.page_model.proofs.Same.{entry_same}
-use Rattle.disk_runs.specs.image_model.Entries.{Contents}
-use Rattle.disk_runs.specs.image_model.Images.{Image, map_of, recovered_page}
-use Rattle.disk_runs.specs.image_model.Laws.{EveryUndone, UndoneLaws}
-use Rattle.disk_runs.proofs.image_model_lemmas.WordLemmas.{words}
+use Rattle.buffered_engine.specs.image_model.Entries.{Contents}
+use Rattle.buffered_engine.specs.image_model.Images.{Image, map_of, recovered_page}
+use Rattle.buffered_engine.specs.image_model.Laws.{EveryUndone, UndoneLaws}
+use Rattle.buffered_engine.proofs.image_model.WordLemmas.{words}
 use Rattle.lean_disk.specs.Story.{Story, areas_of}
-use Rattle.disk_runs.specs.disk_slots.declared.master.Master.{Master}
-use Rattle.disk_runs.specs.disk_image.Formats.{format_of}
-use Rattle.disk_runs.specs.disk_image.Shown.{Areas, image_by}
+use Rattle.buffered_engine.specs.disk_slots.declared.master.Master.{Master}
+use Rattle.buffered_engine.specs.disk_image.Formats.{format_of}
+use Rattle.buffered_engine.specs.disk_image.Shown.{Areas, image_by}
 use Rattle.node_tree.specs.Nodes.{node_or, nodes_of}
 use Rattle.pair_walk.specs.Laws.{ListingLaws}
 use Rattle.pair_walk.specs.Listings.{ArePairsOf, Lists}
-use Rattle.recovery.specs.Masters.{IsOpenable}
-use Rattle.recovery.specs.Opened.{IsRecovered, IsWhole}
-use Rattle.recovery.specs.Own.{EveryOwn}
-use Rattle.recovery.specs.declared.opening.Recovered.{Recovered}
+use Rattle.buffered_engine.specs.recovery.Masters.{IsOpenable}
+use Rattle.buffered_engine.specs.recovery.Opened.{IsRecovered, IsWhole}
+use Rattle.buffered_engine.specs.recovery.Own.{EveryOwn}
+use Rattle.buffered_engine.specs.recovery.declared.opening.Recovered.{Recovered}
 use Rattle.lean_shell.specs.Dumps.{AreOfDisk}
 use Rattle.lean_shell.specs.Inside.Puts.{counts_of}
 

@@ -5,9 +5,9 @@ use Rattle.lean_disk.specs.Area.{Area, Leaves}
 use Rattle.lean_disk.specs.Faults.{HasCause}
 use Rattle.lean_disk.specs.Story.{Crash, LeavesNow, Story}
 use Rattle.lean_disk.specs.Told.{OnlyNotes}
-use Rattle.lean_edge.specs.Outside.{Held, Puts}
-use Rattle.lean_edge.specs.declared.sink.Put.{Put}
-use Rattle.lean_edge.specs.declared.sink.Put.TheVariants.{Done, Failed}
+use Rattle.buffered_engine.specs.lean_edge.Outside.{Held, Puts}
+use Rattle.buffered_engine.specs.lean_edge.declared.sink.Put.{Put}
+use Rattle.buffered_engine.specs.lean_edge.declared.sink.Put.TheVariants.{Done, Failed}
 use Rattle.lean_shell.specs.Lines.{IsPut}
 use Rattle.lean_shell.specs.Inside.Puts.{ArePut, IsStillToPut, OnlyPuts}
 use Rattle.lean_shell.proofs.Runs.NoteLemmas.{put_notes}

@@ -2,12 +2,12 @@
 use Rattle.std.proofs.Common.{◌≡◌, ◌⊎◌, inl, inr, ◌≤◌, ◌<◌, ℕ, suc, length, Some, ◌∙◌, ap, arith}
 use Rattle.std.proofs.lemmas.List.{length-replicate}
 use Rattle.map_model.specs.Lists.{Has}
-use Rattle.disk_runs.specs.image_model.Entries.{Entry}
-use Rattle.disk_runs.specs.image_model.Images.{Image, bases, sorted}
-use Rattle.disk_runs.specs.disk_slots.declared.master.Master.{Master}
-use Rattle.disk_runs.specs.disk_image.Masters.{IsOfRun}
-use Rattle.recovery.specs.Masters.{next_master}
-use Rattle.recovery.specs.Opened.{IsGreatest}
+use Rattle.buffered_engine.specs.image_model.Entries.{Entry}
+use Rattle.buffered_engine.specs.image_model.Images.{Image, bases, sorted}
+use Rattle.buffered_engine.specs.disk_slots.declared.master.Master.{Master}
+use Rattle.buffered_engine.specs.disk_image.Masters.{IsOfRun}
+use Rattle.buffered_engine.specs.recovery.Masters.{next_master}
+use Rattle.buffered_engine.specs.recovery.Opened.{IsGreatest}
 
 no_greater : (i : Image) (n k : ℕ) → IsGreatest i n → IsGreatest i k → n ≤ k
 no_greater i n k a b = go a.met

@@ -3,24 +3,24 @@ use Rattle.std.proofs.Common.{◌≡◌, ◌≤◌, ◌<◌, ◌&&◌, ℕ, suc,
 use Rattle.std.proofs.lemmas.Bool.{and_parts}
 use Rattle.map_model.specs.Lists.{Has, any}
 use Rattle.map_model.specs.Maps.{MapAnswer}
-use Rattle.disk_runs.specs.image_model.Entries.{Entry}
-use Rattle.disk_runs.specs.core_state.Openings.{Opening}
-use Rattle.disk_runs.specs.core_state.States.{State, start, flushed_by_all}
-use Rattle.disk_runs.specs.core_state.Events.{Event}
-use Rattle.disk_runs.specs.core_state.Local.{is_of}
-use Rattle.disk_runs.specs.core_state.Needs.{are_hot, may, needs, pages_of}
-use Rattle.disk_runs.specs.core_state.Steps.{happens, run, state_after, step}
-use Rattle.disk_runs.proofs.core_state_lemmas.Runs.{run_more}
-use Rattle.disk_runs.specs.core_commit.Rises.{EveryRise}
-use Rattle.disk_runs.proofs.core_commit_lemmas.Invariants.{Inv}
-use Rattle.disk_runs.proofs.core_commit_lemmas.Lists.{Within, least_le}
-use Rattle.disk_runs.proofs.core_commit_lemmas.Runs.{good_run, good_start}
-use Rattle.core_calls.specs.Deeds.{Committed, Deed, marks_for, marks_of}
-use Rattle.core_calls.specs.Fronts.{Done, front}
-use Rattle.core_calls.specs.LogEvents.{Flushes, LogsGo, is_log}
-use Rattle.core_calls.specs.Marks.{Ended, Mark, back_in, mark, marks, onto}
-use Rattle.core_calls.specs.Runs.{Tells}
-use Rattle.engine_trait.specs.Limits.{limits}
+use Rattle.buffered_engine.specs.image_model.Entries.{Entry}
+use Rattle.buffered_engine.specs.core_state.Openings.{Opening}
+use Rattle.buffered_engine.specs.core_state.States.{State, start, flushed_by_all}
+use Rattle.buffered_engine.specs.core_state.Events.{Event}
+use Rattle.buffered_engine.specs.core_state.Local.{is_of}
+use Rattle.buffered_engine.specs.core_state.Needs.{are_hot, may, needs, pages_of}
+use Rattle.buffered_engine.specs.core_state.Steps.{happens, run, state_after, step}
+use Rattle.buffered_engine.proofs.core_state.Runs.{run_more}
+use Rattle.buffered_engine.specs.core_commit.Rises.{EveryRise}
+use Rattle.buffered_engine.proofs.core_commit.Invariants.{Inv}
+use Rattle.buffered_engine.proofs.core_commit.Lists.{Within, least_le}
+use Rattle.buffered_engine.proofs.core_commit.Runs.{good_run, good_start}
+use Rattle.buffered_engine.specs.core_calls.Deeds.{Committed, Deed, marks_for, marks_of}
+use Rattle.buffered_engine.specs.core_calls.Fronts.{Done, front}
+use Rattle.buffered_engine.specs.core_calls.LogEvents.{Flushes, LogsGo, is_log}
+use Rattle.buffered_engine.specs.core_calls.Marks.{Ended, Mark, back_in, mark, marks, onto}
+use Rattle.buffered_engine.specs.core_calls.Runs.{Tells}
+use Rattle.buffered_engine.specs.engine_trait.Limits.{limits}
 
 -- ## Floors and clocks
 
@@ -37,7 +37,7 @@ floor_same g s (Event.Next w p k (MapAnswer.Pair at v)) q = refl
 floor_same g s (Event.Next w p k _) q = refl
 floor_same g s (Event.Put_back w p) q = back (s.worker w).changes
   where
-    back : (cs : List Entry) → (Rattle.disk_runs.specs.core_state.Steps.put_back g s w p cs).floor ≡ s.floor
+    back : (cs : List Entry) → (Rattle.buffered_engine.specs.core_state.Steps.put_back g s w p cs).floor ≡ s.floor
     back [] = refl
     back (c ∷ cs) = refl
 floor_same g s _ q = refl
@@ -118,7 +118,7 @@ module _ (rises : EveryRise) (g : Opening) where
       go : (e : Event) → may g s e ≡ true → (m : Mark) → mark g s e ≡ Some m → IsAbove floor m
       go (Event.End w commit f) met m q =
           let needed = (and_parts (are_hot s (pages_of (Event.End w commit f))) (needs g s (Event.End w commit f)) met).1 in
-          let is_open = (and_parts (s.worker w).is_open (leb (s.worker w).floor f && (leb f (flushed_by_all g s) && Rattle.std.proofs.Common.◌||◌ commit (Rattle.disk_runs.specs.core_state.Lists.is_empty (s.worker w).changes))) needed).0 in
+          let is_open = (and_parts (s.worker w).is_open (leb (s.worker w).floor f && (leb f (flushed_by_all g s) && Rattle.std.proofs.Common.◌||◌ commit (Rattle.buffered_engine.specs.core_state.Lists.is_empty (s.worker w).changes))) needed).0 in
           let within = ((inv_of g before).workers w).is_log is_open in
           let b = below before w within in
           subst (IsAbove floor) (some_is (Ended commit (s.worker w).txn (suc (s.worker w).clock)) m q) (omega arith)
@@ -180,7 +180,7 @@ module _ (rises : EveryRise) (g : Opening) where
 
       has : Has (Ended true n at) (marks g s x.events x.outcome.session [])
       has = subst (Has (Ended true n at)) (sym (t.told x.outcome.session ∙ Rattle.std.proofs.lemmas.Bool.cond-true (Rattle.std.proofs.Common.◌==◌ x.outcome.session x.outcome.session) (marks_for x.outcome) [] (Rattle.std.proofs.lemmas.Bool.eq-eqb x.outcome.session x.outcome.session refl)))
-          (subst (λ (d : Deed). Has (Ended true n at) (marks_of d ++ Rattle.core_calls.specs.Deeds.reads_of x.outcome.unsaid)) (sym deed) (inl refl))
+          (subst (λ (d : Deed). Has (Ended true n at) (marks_of d ++ Rattle.buffered_engine.specs.core_calls.Deeds.reads_of x.outcome.unsaid)) (sym deed) (inl refl))
 
       above : s.floor < at
       above = marks_above x.events (front heard) x.outcome.session s.floor [] (omega arith) (λ m h. absurd h) (Ended true n at) has
@@ -199,8 +199,8 @@ module _ (rises : EveryRise) (g : Opening) where
       whole : (run g s x.events).floor ≡ s.floor
       whole =
           ap (λ (es : List Event). (run g s es).floor) flushes.is
-          ∙ (ap (λ (r : State). r.floor) (run_more g s flushes.before (cond (leb group (Rattle.core_calls.specs.LogEvents.behind (run g s flushes.before) x.outcome.session)) (Event.Flush x.outcome.session at ∷ []) []))
-          ∙ (last (leb group (Rattle.core_calls.specs.LogEvents.behind (run g s flushes.before) x.outcome.session)) (run g s flushes.before) ∙ floor_run flushes.before s flushes.else_none))
+          ∙ (ap (λ (r : State). r.floor) (run_more g s flushes.before (cond (leb group (Rattle.buffered_engine.specs.core_calls.LogEvents.behind (run g s flushes.before) x.outcome.session)) (Event.Flush x.outcome.session at ∷ []) []))
+          ∙ (last (leb group (Rattle.buffered_engine.specs.core_calls.LogEvents.behind (run g s flushes.before) x.outcome.session)) (run g s flushes.before) ∙ floor_run flushes.before s flushes.else_none))
 
       rises_in : (state_after g (front heard ++ behind)).floor ≤ (run g s x.events).floor
       rises_in =

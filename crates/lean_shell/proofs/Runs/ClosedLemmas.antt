@@ -3,12 +3,12 @@ use Rattle.std.proofs.Common.{◌≡◌, ◌++◌, Bool, true, false, cond, List
 use Rattle.std.proofs.lemmas.List.{append-nil}
 use Rattle.map_model.specs.Journals.{Name}
 use Rattle.map_model.specs.Pairings.{is_open_line}
-use Rattle.disk_runs.specs.core_state.Openings.{Opening}
-use Rattle.core_calls.specs.Fronts.{Done, outcomes}
-use Rattle.engine_calls.specs.Clauses.{IsNewLine}
-use Rattle.engine_front.specs.Turns.{IsNext}
-use Rattle.engine_front.specs.declared.calls.Next.{Next}
-use Rattle.engine_front.specs.declared.calls.Next.TheVariants.{Line}
+use Rattle.buffered_engine.specs.core_state.Openings.{Opening}
+use Rattle.buffered_engine.specs.core_calls.Fronts.{Done, outcomes}
+use Rattle.buffered_engine.specs.engine_calls.Clauses.{IsNewLine}
+use Rattle.buffered_engine.specs.engine_front.Turns.{IsNext}
+use Rattle.buffered_engine.specs.engine_front.declared.calls.Next.{Next}
+use Rattle.buffered_engine.specs.engine_front.declared.calls.Next.TheVariants.{Line}
 use Rattle.script_run.specs.Runs.{EngineStands, calls_of, works_on}
 use Rattle.script_run.specs.declared.stop.Stop.{Stop}
 use Rattle.script_run.specs.declared.stop.Stop.TheVariants as stops

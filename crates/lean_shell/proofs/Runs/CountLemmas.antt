@@ -5,17 +5,17 @@ use Rattle.map_model.specs.declared.call.Call.{Call}
 use Rattle.map_model.specs.declared.call.Call.TheVariants as call
 use Rattle.map_model.specs.Lists.{keep}
 use Rattle.map_model.specs.Pairings.{script_of}
-use Rattle.disk_runs.specs.core_state.Events.{Event}
-use Rattle.disk_runs.specs.core_state.Openings.{Opening}
-use Rattle.core_calls.specs.Deeds.{asked}
-use Rattle.core_calls.specs.Fronts.{Done, front}
-use Rattle.core_calls.specs.LineCounts.{EveryLineCount, asks_no_scan, is_scan_call}
-use Rattle.core_calls.specs.Runs.{EachTells, Tells}
-use Rattle.disk_runs.specs.Masters.{masters}
-use Rattle.disk_runs.proofs.LineLemmas.{every_master_count}
-use Rattle.call_parts.specs.Memory.{Memory}
-use Rattle.call_parts.specs.Rooms.{most_of}
-use Rattle.engine_trait.specs.Limits.{limits}
+use Rattle.buffered_engine.specs.core_state.Events.{Event}
+use Rattle.buffered_engine.specs.core_state.Openings.{Opening}
+use Rattle.buffered_engine.specs.core_calls.Deeds.{asked}
+use Rattle.buffered_engine.specs.core_calls.Fronts.{Done, front}
+use Rattle.buffered_engine.specs.core_calls.LineCounts.{EveryLineCount, asks_no_scan, is_scan_call}
+use Rattle.buffered_engine.specs.core_calls.Runs.{EachTells, Tells}
+use Rattle.buffered_engine.specs.disk_runs.Masters.{masters}
+use Rattle.buffered_engine.proofs.disk_runs.LineLemmas.{every_master_count}
+use Rattle.buffered_engine.specs.call_parts.Memory.{Memory}
+use Rattle.buffered_engine.specs.call_parts.Rooms.{most_of}
+use Rattle.buffered_engine.specs.engine_trait.Limits.{limits}
 use Rattle.event_counts.specs.Draws.{EveryDraw, draws}
 use Rattle.event_counts.specs.Scans.{EveryScanCount}
 use Rattle.script_run.specs.Runs.{Executes, calls_of}

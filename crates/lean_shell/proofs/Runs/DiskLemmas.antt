@@ -10,28 +10,28 @@ use Rattle.map_model.specs.Pairings.{is_last, is_open_line, script_of}
 use Rattle.lean_disk.specs.Moments.{LeavesOnly}
 use Rattle.lean_disk.specs.Story.{Crash, Story}
 use Rattle.lean_disk.proofs.MomentLemmas.{weaker}
-use Rattle.lean_edge.specs.Outside.{Feed}
+use Rattle.buffered_engine.specs.lean_edge.Outside.{Feed}
 use Rattle.script_lang.specs.Reading.{Unread}
-use Rattle.disk_runs.specs.disk_slots.declared.master.Master.{Master}
-use Rattle.disk_runs.specs.disk_image.Laws.{EveryAgreement}
-use Rattle.disk_runs.specs.core_state.Events.{Event}
-use Rattle.disk_runs.specs.core_state.Openings.{Opening}
-use Rattle.core_calls.specs.Crashes.{EveryRunCrash}
-use Rattle.core_calls.specs.Deeds.{Deed, Refused, answered, asked}
-use Rattle.core_calls.specs.Fronts.{Done, front}
-use Rattle.core_calls.specs.Printed.{due_lines, durable_lines, printed}
-use Rattle.core_calls.specs.Runs.{EachTells, Tells}
-use Rattle.core_calls.specs.Steps.{hindered_in, is_conflict}
-use Rattle.core_calls.proofs.PrintedLemmas.{due_are}
-use Rattle.disk_runs.specs.core_disk.Held.{HoldsRun}
-use Rattle.disk_runs.specs.core_disk.Shows.{EveryShown}
-use Rattle.disk_runs.specs.Masters.{IsNoEarlier, IsOfRunBy}
-use Rattle.disk_runs.specs.Stands.{Known, Stands}
-use Rattle.call_parts.specs.Memory.{IsOf, Memory}
-use Rattle.call_parts.specs.Rooms.{most_of}
-use Rattle.engine_trait.specs.Limits.{limits}
-use Rattle.run_crashes.specs.Lines.{NoneStopped, Recovers, RunLeft, next_of}
-use Rattle.run_crashes.proofs.ReopenLemmas.{every_reopened_for}
+use Rattle.buffered_engine.specs.disk_slots.declared.master.Master.{Master}
+use Rattle.buffered_engine.specs.disk_image.Laws.{EveryAgreement}
+use Rattle.buffered_engine.specs.core_state.Events.{Event}
+use Rattle.buffered_engine.specs.core_state.Openings.{Opening}
+use Rattle.buffered_engine.specs.core_calls.Crashes.{EveryRunCrash}
+use Rattle.buffered_engine.specs.core_calls.Deeds.{Deed, Refused, answered, asked}
+use Rattle.buffered_engine.specs.core_calls.Fronts.{Done, front}
+use Rattle.buffered_engine.specs.core_calls.Printed.{due_lines, durable_lines, printed}
+use Rattle.buffered_engine.specs.core_calls.Runs.{EachTells, Tells}
+use Rattle.buffered_engine.specs.core_calls.Steps.{hindered_in, is_conflict}
+use Rattle.buffered_engine.proofs.core_calls.PrintedLemmas.{due_are}
+use Rattle.buffered_engine.specs.core_disk.Held.{HoldsRun}
+use Rattle.buffered_engine.specs.core_disk.Shows.{EveryShown}
+use Rattle.buffered_engine.specs.disk_runs.Masters.{IsNoEarlier, IsOfRunBy}
+use Rattle.buffered_engine.specs.disk_runs.Stands.{Known, Stands}
+use Rattle.buffered_engine.specs.call_parts.Memory.{IsOf, Memory}
+use Rattle.buffered_engine.specs.call_parts.Rooms.{most_of}
+use Rattle.buffered_engine.specs.engine_trait.Limits.{limits}
+use Rattle.buffered_engine.specs.run_crashes.Lines.{NoneStopped, Recovers, RunLeft, next_of}
+use Rattle.buffered_engine.proofs.run_crashes.ReopenLemmas.{every_reopened_for}
 use Rattle.script_run.specs.Runs.{CallMissing, DiskTo, Hand, InHand, ReadsTo, StoppedIn, calls_of}
 use Rattle.script_run.specs.Runs.CallMissing.{Nothing, Part}
 use Rattle.script_run.specs.Runs.InHand.{OfAbort, OfLine, OfScan}

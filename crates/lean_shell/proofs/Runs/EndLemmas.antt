@@ -4,27 +4,27 @@ use Rattle.lean_disk.specs.Area.{Area}
 use Rattle.lean_disk.specs.Faults.{Rose}
 use Rattle.lean_disk.specs.Moments.{LeavesOnly}
 use Rattle.lean_disk.specs.Story.{IsLawful, Story, areas_of}
-use Rattle.lean_edge.specs.Outside.{Feed, Held, added}
+use Rattle.buffered_engine.specs.lean_edge.Outside.{Feed, Held, added}
 use Rattle.lean_disk.specs.Told.{TellsOn, OnlyNotes}
 use Rattle.lean_disk.proofs.MomentLemmas.{weaker}
 use Rattle.std.proofs.Math.Seq.{drop-append_seam}
 use Rattle.map_model.specs.Journals.{Journal, Serial}
 use Rattle.map_model.specs.Transcripts.{journal}
-use Rattle.lean_edge.specs.declared.sink.Put.{Put}
+use Rattle.buffered_engine.specs.lean_edge.declared.sink.Put.{Put}
 use Rattle.script_lang.specs.Notices.{Notice, NoticeFits}
-use Rattle.disk_runs.specs.disk_slots.declared.master.Master.{Master}
-use Rattle.disk_runs.specs.disk_image.Shown.{IsCleanDisk}
-use Rattle.recovery.specs.Crashes.{RecoveryLeaves}
-use Rattle.recovery.specs.Opened.{IsRefusal, IsUntouched, Keeps}
-use Rattle.recovery.specs.Telling.{TellsAll}
-use Rattle.recovery.specs.declared.opening.Unrecovered.{Unrecovered}
-use Rattle.core_calls.specs.Fronts.{Done}
-use Rattle.disk_runs.specs.core_state.Openings.{Opening}
+use Rattle.buffered_engine.specs.disk_slots.declared.master.Master.{Master}
+use Rattle.buffered_engine.specs.disk_image.Shown.{IsCleanDisk}
+use Rattle.buffered_engine.specs.recovery.Crashes.{RecoveryLeaves}
+use Rattle.buffered_engine.specs.recovery.Opened.{IsRefusal, IsUntouched, Keeps}
+use Rattle.buffered_engine.specs.recovery.Telling.{TellsAll}
+use Rattle.buffered_engine.specs.recovery.declared.opening.Unrecovered.{Unrecovered}
+use Rattle.buffered_engine.specs.core_calls.Fronts.{Done}
+use Rattle.buffered_engine.specs.core_state.Openings.{Opening}
 use Rattle.transcripts.specs.Laws.{EveryNotice, EveryTail}
 use Rattle.transcripts.specs.Told.{IsTail}
 use Rattle.transcripts.specs.Transcripts.{first_lines, IsQuiet}
-use Rattle.paged_engine.specs.Openings.{Shows}
-use Rattle.paged_engine.specs.declared.opening.Size.{Size}
+use Rattle.buffered_engine.specs.paged_engine.Openings.{Shows}
+use Rattle.buffered_engine.specs.paged_engine.declared.opening.Size.{Size}
 use Rattle.lean_shell.specs.Crashes.{IsYoung, MasterLeaves, TellsCrashes}
 use Rattle.lean_shell.specs.Headline.{Headline, RunLeaves}
 use Rattle.lean_shell.specs.Ends.{RunEnds}

@@ -1,14 +1,14 @@
 -- The numbers of records that are read from a log are within their bounds.
 use Rattle.std.proofs.Common.{◌≡◌, inl, inr, ◌<◌, ◌%◌, ◌^◌, ℕ, List, [], ◌∷◌, Option, sym, ap, subst, arith}
 use Rattle.map_model.specs.Lists.{Has}
-use Rattle.disk_runs.specs.image_model.Entries.{Entry}
-use Rattle.disk_runs.specs.log_record.Spelling.{Fits}
-use Rattle.disk_runs.specs.log_record.declared.record.Record.{Record}
-use Rattle.disk_runs.specs.log_block.Block.{AllFit}
-use Rattle.disk_runs.specs.disk_image.Blocks.{block_in}
-use Rattle.disk_runs.specs.disk_image.Laws.{EveryBlockIn}
-use Rattle.disk_runs.specs.disk_image.Records.{entry_of}
-use Rattle.disk_runs.specs.disk_image.Runs.{AreReadable, Block, Logged, entries_in, logged_onto, records_onto, records_or}
+use Rattle.buffered_engine.specs.image_model.Entries.{Entry}
+use Rattle.buffered_engine.specs.log_record.Spelling.{Fits}
+use Rattle.buffered_engine.specs.log_record.declared.record.Record.{Record}
+use Rattle.buffered_engine.specs.log_block.Block.{AllFit}
+use Rattle.buffered_engine.specs.disk_image.Blocks.{block_in}
+use Rattle.buffered_engine.specs.disk_image.Laws.{EveryBlockIn}
+use Rattle.buffered_engine.specs.disk_image.Records.{entry_of}
+use Rattle.buffered_engine.specs.disk_image.Runs.{AreReadable, Block, Logged, entries_in, logged_onto, records_onto, records_or}
 
 pub record IsBounded (log : ℕ) (e : Entry) : Type 0 where
   pub log_is : e.log ≡ log

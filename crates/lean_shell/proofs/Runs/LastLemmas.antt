@@ -5,9 +5,9 @@ use Rattle.std.proofs.Math.Seq.{take-length}
 use Rattle.lean_disk.specs.Faults.{HasCause, IsBlamed, Rose}
 use Rattle.lean_disk.specs.Story.{Crash, LeavesNow, Story}
 use Rattle.lean_disk.specs.Told.{TellsSame, OnlyNotes}
-use Rattle.lean_edge.specs.Outside.{Held, Puts}
-use Rattle.lean_edge.specs.declared.sink.Put.{Put}
-use Rattle.lean_edge.specs.declared.sink.Put.TheVariants.{Done, Failed}
+use Rattle.buffered_engine.specs.lean_edge.Outside.{Held, Puts}
+use Rattle.buffered_engine.specs.lean_edge.declared.sink.Put.{Put}
+use Rattle.buffered_engine.specs.lean_edge.declared.sink.Put.TheVariants.{Done, Failed}
 use Rattle.script_lang.specs.Notices.{Notice, NoticeFits}
 use Rattle.transcripts.specs.Told.{IsTail}
 use Rattle.script_run.specs.declared.stop.Stop.{Stop}

@@ -15,36 +15,36 @@ use Rattle.map_model.specs.Outputs.{Reply, answers_told, names}
 use Rattle.map_model.specs.Pairings.{EachGoesOn, EachIsAnswered, answers_in, counted, in_turn, is_open_line, script_of}
 use Rattle.map_model.specs.Transcripts as model
 use Rattle.map_model.specs.Transcripts.{Line, Told, journal, lines_in, lines_of, told_onto, txn_of}
-use Rattle.disk_runs.specs.image_model.Ends.{reach, wins}
-use Rattle.disk_runs.specs.image_model.Entries.{Entry, is_commit, is_record}
-use Rattle.disk_runs.specs.image_model.Fair.{IsFair}
-use Rattle.disk_runs.specs.image_model.Images.{Image, found, map_of, page_or, won_by}
-use Rattle.disk_runs.specs.image_model.Slots.{base_of}
+use Rattle.buffered_engine.specs.image_model.Ends.{reach, wins}
+use Rattle.buffered_engine.specs.image_model.Entries.{Entry, is_commit, is_record}
+use Rattle.buffered_engine.specs.image_model.Fair.{IsFair}
+use Rattle.buffered_engine.specs.image_model.Images.{Image, found, map_of, page_or, won_by}
+use Rattle.buffered_engine.specs.image_model.Slots.{base_of}
 use Rattle.lean_disk.specs.Story.{Crash, Story, areas_of}
-use Rattle.disk_runs.specs.disk_slots.declared.master.Master.{Master}
-use Rattle.disk_runs.specs.disk_slots.Slots as slots
-use Rattle.disk_runs.specs.log_block.Block as blocks
-use Rattle.disk_runs.specs.disk_image.Fair.{IsFairCrash}
-use Rattle.disk_runs.specs.disk_image.Masters.{IsOfRun}
-use Rattle.disk_runs.specs.disk_image.MasterSlots.{master_on}
-use Rattle.disk_runs.specs.disk_image.Shown.{Areas, DiskStandsFor, image_by, run_of, shown_by}
-use Rattle.disk_runs.specs.core_state.Events.{Event}
-use Rattle.disk_runs.specs.core_state.Openings.{Opening, first_map}
-use Rattle.core_calls.specs.Crashes.{HasOneInHand}
-use Rattle.core_calls.specs.Deeds.{Committed, Deed, Outcome, answered, asked, in_words}
-use Rattle.core_calls.specs.Deeds as deeds
-use Rattle.core_calls.specs.Fronts.{Done, front, outcomes}
-use Rattle.core_calls.specs.Runs.{EachTells}
-use Rattle.disk_runs.proofs.core_crash_lemmas.Images.{gathered_has}
-use Rattle.disk_runs.specs.core_disk.Held.{HoldsLog}
-use Rattle.disk_runs.specs.core_state.Steps.{state_after}
-use Rattle.disk_runs.specs.Fair.{EveryFair, IsAsRead, IsFairFrom}
-use Rattle.disk_runs.specs.Masters.{IsNoEarlier, masters}
-use Rattle.disk_runs.proofs.LineLemmas.{every_master_count}
-use Rattle.run_crashes.specs.Lines.{FellIn, Between, InCall, Stopped, Recovers, RunLeft, next_of, outcome_of}
-use Rattle.call_parts.specs.Memory.{Memory}
-use Rattle.engine_trait.specs.Limits.{limits}
-use Rattle.paged_engine.specs.declared.opening.Size.{Size}
+use Rattle.buffered_engine.specs.disk_slots.declared.master.Master.{Master}
+use Rattle.buffered_engine.specs.disk_slots.Slots as slots
+use Rattle.buffered_engine.specs.log_block.Block as blocks
+use Rattle.buffered_engine.specs.disk_image.Fair.{IsFairCrash}
+use Rattle.buffered_engine.specs.disk_image.Masters.{IsOfRun}
+use Rattle.buffered_engine.specs.disk_image.MasterSlots.{master_on}
+use Rattle.buffered_engine.specs.disk_image.Shown.{Areas, DiskStandsFor, image_by, run_of, shown_by}
+use Rattle.buffered_engine.specs.core_state.Events.{Event}
+use Rattle.buffered_engine.specs.core_state.Openings.{Opening, first_map}
+use Rattle.buffered_engine.specs.core_calls.Crashes.{HasOneInHand}
+use Rattle.buffered_engine.specs.core_calls.Deeds.{Committed, Deed, Outcome, answered, asked, in_words}
+use Rattle.buffered_engine.specs.core_calls.Deeds as deeds
+use Rattle.buffered_engine.specs.core_calls.Fronts.{Done, front, outcomes}
+use Rattle.buffered_engine.specs.core_calls.Runs.{EachTells}
+use Rattle.buffered_engine.proofs.core_crash.Images.{gathered_has}
+use Rattle.buffered_engine.specs.core_disk.Held.{HoldsLog}
+use Rattle.buffered_engine.specs.core_state.Steps.{state_after}
+use Rattle.buffered_engine.specs.disk_runs.Fair.{EveryFair, IsAsRead, IsFairFrom}
+use Rattle.buffered_engine.specs.disk_runs.Masters.{IsNoEarlier, masters}
+use Rattle.buffered_engine.proofs.disk_runs.LineLemmas.{every_master_count}
+use Rattle.buffered_engine.specs.run_crashes.Lines.{FellIn, Between, InCall, Stopped, Recovers, RunLeft, next_of, outcome_of}
+use Rattle.buffered_engine.specs.call_parts.Memory.{Memory}
+use Rattle.buffered_engine.specs.engine_trait.Limits.{limits}
+use Rattle.buffered_engine.specs.paged_engine.declared.opening.Size.{Size}
 use Rattle.script_lang.specs.Replies.{reply_line}
 use Rattle.script_lang.specs.Text.{script_lines}
 use Rattle.transcripts.specs.Told.{EachLineFits, IsOutput, asked_lines}

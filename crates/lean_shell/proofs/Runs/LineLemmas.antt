@@ -1,6 +1,6 @@
 -- The program's own lines are one line each.
 use Rattle.std.proofs.Common.{◌≡◌, ℕ, List, None}
-use Rattle.lean_edge.specs.Outside.{IsLine, IsWholeLine}
+use Rattle.buffered_engine.specs.lean_edge.Outside.{IsLine, IsWholeLine}
 use Rattle.script_lang.specs.Notices.{Notice, notice_text, NoticeFits}
 use Rattle.script_lang.specs.Replies.{reply_of}
 use Rattle.lean_shell.specs.Lines.{line_of}

@@ -6,15 +6,15 @@ use Rattle.lean_disk.specs.Moments.{LeavesOnly}
 use Rattle.lean_disk.specs.Story.{Crash, IsLawful, LeavesNow, Story, areas_of}
 use Rattle.lean_disk.specs.Told.{TellsSame, OnlyNotes}
 use Rattle.lean_disk.proofs.MomentLemmas.{goes_on_by, weaker, started}
-use Rattle.lean_edge.specs.declared.sink.Put.{Put}
-use Rattle.lean_edge.specs.declared.sink.Put.TheVariants.{Done, Failed}
-use Rattle.disk_runs.specs.disk_slots.declared.master.Master.{Master}
-use Rattle.core_calls.specs.Fronts.{Done as DoneCall}
-use Rattle.disk_runs.specs.core_state.Openings.{Opening}
-use Rattle.disk_runs.specs.disk_image.Shown.{IsCleanDisk}
-use Rattle.recovery.specs.Crashes.{RecoveryLeaves}
+use Rattle.buffered_engine.specs.lean_edge.declared.sink.Put.{Put}
+use Rattle.buffered_engine.specs.lean_edge.declared.sink.Put.TheVariants.{Done, Failed}
+use Rattle.buffered_engine.specs.disk_slots.declared.master.Master.{Master}
+use Rattle.buffered_engine.specs.core_calls.Fronts.{Done as DoneCall}
+use Rattle.buffered_engine.specs.core_state.Openings.{Opening}
+use Rattle.buffered_engine.specs.disk_image.Shown.{IsCleanDisk}
+use Rattle.buffered_engine.specs.recovery.Crashes.{RecoveryLeaves}
 use Rattle.transcripts.specs.Transcripts.{first_lines, IsQuiet}
-use Rattle.paged_engine.specs.declared.opening.Size.{Size}
+use Rattle.buffered_engine.specs.paged_engine.declared.opening.Size.{Size}
 use Rattle.lean_shell.proofs.Runs.NoteLemmas.{put_notes}
 use Rattle.lean_shell.specs.Inside.Lefts.{IsSameBut, LivesOn}
 use Rattle.lean_shell.proofs.Runs.QuietLemmas.{quiet_leaves}

@@ -2,19 +2,19 @@
 use Rattle.std.proofs.Common.{◌≡◌, ◌⊎◌, inl, inr, ⊎_elim, ◌≤◌, ◌<◌, ◌+◌, ◌++◌, ℕ, suc, List, [], ◌∷◌, length, refl, sym, ◌∙◌, ap, subst, arith}
 use Rattle.map_model.proofs.ListLemmas.{order_has}
 use Rattle.map_model.specs.Lists.{Has}
-use Rattle.disk_runs.specs.image_model.Entries.{Entry, earlier}
-use Rattle.disk_runs.specs.image_model.Images.{Image, bases, found, gathered, page_or, sorted}
+use Rattle.buffered_engine.specs.image_model.Entries.{Entry, earlier}
+use Rattle.buffered_engine.specs.image_model.Images.{Image, bases, found, gathered, page_or, sorted}
 use Rattle.lean_disk.specs.Story.{Crash, Story, areas_of}
-use Rattle.disk_runs.specs.disk_slots.declared.master.Master.{Master}
-use Rattle.disk_runs.specs.disk_image.Laws.{Agree}
-use Rattle.disk_runs.specs.disk_image.Shown.{image_by}
-use Rattle.recovery.specs.Crashes.{ShowsRecovered, ShowsStill}
-use Rattle.recovery.specs.Masters.{IsSameOrNext}
-use Rattle.recovery.specs.Opened.{IsGreatest}
-use Rattle.disk_runs.specs.core_state.Events.{Event}
-use Rattle.core_calls.specs.Fronts.{Done, front}
-use Rattle.disk_runs.proofs.core_disk_lemmas.HeldLemmas.{gathered_same}
-use Rattle.run_crashes.specs.Lines.{Between, FellIn, InCall, Stopped, next_of}
+use Rattle.buffered_engine.specs.disk_slots.declared.master.Master.{Master}
+use Rattle.buffered_engine.specs.disk_image.Laws.{Agree}
+use Rattle.buffered_engine.specs.disk_image.Shown.{image_by}
+use Rattle.buffered_engine.specs.recovery.Crashes.{ShowsRecovered, ShowsStill}
+use Rattle.buffered_engine.specs.recovery.Masters.{IsSameOrNext}
+use Rattle.buffered_engine.specs.recovery.Opened.{IsGreatest}
+use Rattle.buffered_engine.specs.core_state.Events.{Event}
+use Rattle.buffered_engine.specs.core_calls.Fronts.{Done, front}
+use Rattle.buffered_engine.proofs.core_disk.HeldLemmas.{gathered_same}
+use Rattle.buffered_engine.specs.run_crashes.Lines.{Between, FellIn, InCall, Stopped, next_of}
 use Rattle.lean_shell.specs.Crashes.{IsNear}
 use Rattle.lean_shell.proofs.Runs.BeginLemmas.{one_greatest}
 use Rattle.lean_shell.proofs.Runs.PrintedLemmas.{next_behind, next_is}

@@ -3,8 +3,8 @@ use Rattle.std.proofs.Common.{◌≡◌, inl, refl, sym, subst, arith}
 use Rattle.lean_disk.specs.Calls.{Noted}
 use Rattle.lean_disk.specs.Story.{Story}
 use Rattle.lean_disk.specs.Told.{TellsSame, OnlyNotes}
-use Rattle.lean_edge.specs.declared.sink.Put.{Put}
-use Rattle.lean_edge.specs.declared.sink.Put.TheVariants.{Done, Failed}
+use Rattle.buffered_engine.specs.lean_edge.declared.sink.Put.{Put}
+use Rattle.buffered_engine.specs.lean_edge.declared.sink.Put.TheVariants.{Done, Failed}
 
 pub tells_same : (s : Story) → TellsSame s s
 tells_same s = record { counts = refl; tells = λ a. refl; areas = refl; area = λ a. refl; notes = refl; moment = refl; past = λ m c left. left; keeps = λ m c left. left }

@@ -1,18 +1,18 @@
 -- Where a run begins, from what the engine says of the opening.
 use Rattle.std.proofs.Common.{◌≡◌, ◌<◌, ◌≤◌, ℕ, Some, refl, sym, ◌∙◌, ap, subst, arith}
 use Rattle.lean_disk.specs.Story.{Story, areas_of}
-use Rattle.disk_runs.specs.disk_slots.declared.master.Master.{Master}
-use Rattle.disk_runs.specs.disk_image.MasterSlots.{master_on}
-use Rattle.disk_runs.specs.disk_image.Shown.{image_by, IsCleanDisk}
-use Rattle.recovery.specs.Masters.{next_master}
-use Rattle.recovery.specs.Opened.{IsGreatest, IsRecovered}
-use Rattle.recovery.specs.Telling.{TellsAll}
+use Rattle.buffered_engine.specs.disk_slots.declared.master.Master.{Master}
+use Rattle.buffered_engine.specs.disk_image.MasterSlots.{master_on}
+use Rattle.buffered_engine.specs.disk_image.Shown.{image_by, IsCleanDisk}
+use Rattle.buffered_engine.specs.recovery.Masters.{next_master}
+use Rattle.buffered_engine.specs.recovery.Opened.{IsGreatest, IsRecovered}
+use Rattle.buffered_engine.specs.recovery.Telling.{TellsAll}
 use Rattle.run_opening.specs.Starts.{empty_log}
-use Rattle.paged_engine.specs.Openings as engine
-use Rattle.paged_engine.specs.Openings.{BeginsOn}
+use Rattle.buffered_engine.specs.paged_engine.Openings as engine
+use Rattle.buffered_engine.specs.paged_engine.Openings.{BeginsOn}
 use Rattle.buffered_engine.specs.Openings.{HasOpened}
 use Rattle.buffered_engine.specs.States.{State, memory_in}
-use Rattle.paged_engine.specs.declared.opening.Size.{Size}
+use Rattle.buffered_engine.specs.paged_engine.declared.opening.Size.{Size}
 use Rattle.lean_shell.specs.Inside.Begins.{Begins, HasStarted, began}
 use Rattle.lean_shell.specs.Runs.{Counts, IsFrom, first_log}
 use Rattle.lean_shell.specs.Starts.{IsOfSize}

@@ -7,13 +7,13 @@ use Rattle.map_model.specs.declared.call.Answered.{Answered}
 use Rattle.map_model.specs.Journals.{Name}
 use Rattle.map_model.specs.Outputs.{Reply, answers_told}
 use Rattle.map_model.specs.Pairings.{EachGoesOn, answers_in, in_turn}
-use Rattle.disk_runs.specs.core_state.Openings.{Opening}
-use Rattle.core_calls.specs.Deeds.{Outcome, answered, in_words}
-use Rattle.core_calls.specs.Fronts.{Done}
-use Rattle.core_calls.specs.Printed.{EveryPrinted, due_lines, durable_lines, printed}
-use Rattle.core_calls.specs.Runs.{EachTells}
-use Rattle.engine_trait.specs.Limits.{limits}
-use Rattle.run_crashes.specs.Lines.{next_of, outcome_of}
+use Rattle.buffered_engine.specs.core_state.Openings.{Opening}
+use Rattle.buffered_engine.specs.core_calls.Deeds.{Outcome, answered, in_words}
+use Rattle.buffered_engine.specs.core_calls.Fronts.{Done}
+use Rattle.buffered_engine.specs.core_calls.Printed.{EveryPrinted, due_lines, durable_lines, printed}
+use Rattle.buffered_engine.specs.core_calls.Runs.{EachTells}
+use Rattle.buffered_engine.specs.engine_trait.Limits.{limits}
+use Rattle.buffered_engine.specs.run_crashes.Lines.{next_of, outcome_of}
 use Rattle.script_run.specs.Runs.{calls_of}
 
 -- ## The lines of a run

@@ -3,25 +3,25 @@ use Rattle.std.proofs.Common.{◌≡◌, ◌⊎◌, inl, inr, ⊎_elim, ◌+◌,
 use mathlib.Core.Path.{fun_ext}
 use Rattle.map_model.specs.Lists.{Has}
 use Rattle.map_model.specs.Transcripts as model
-use Rattle.disk_runs.specs.image_model.Fair.{IsFair}
-use Rattle.disk_runs.specs.image_model.Images.{map_of, won_by}
+use Rattle.buffered_engine.specs.image_model.Fair.{IsFair}
+use Rattle.buffered_engine.specs.image_model.Images.{map_of, won_by}
 use Rattle.lean_disk.specs.Area.{Leaves}
 use Rattle.lean_disk.specs.Moments.{AsAt}
 use Rattle.lean_disk.specs.Story.{Crash, Story, areas_of}
-use Rattle.disk_runs.specs.disk_slots.declared.master.Master.{Master}
-use Rattle.core_calls.specs.Fronts.{Done}
-use Rattle.disk_runs.specs.core_state.Openings.{Opening}
-use Rattle.disk_runs.specs.disk_image.Fair.{IsFairCrash}
-use Rattle.disk_runs.specs.disk_image.Masters.{IsOfRun}
-use Rattle.disk_runs.specs.disk_image.MasterSlots.{master_on}
-use Rattle.disk_runs.specs.disk_image.Shown.{Areas, DiskStandsFor, IsCleanDisk, image_by}
-use Rattle.recovery.specs.Crashes.{Lasts, RecoveryLeaves, ShowsStill, StandsStill}
-use Rattle.recovery.specs.Masters.{IsSameOrNext}
+use Rattle.buffered_engine.specs.disk_slots.declared.master.Master.{Master}
+use Rattle.buffered_engine.specs.core_calls.Fronts.{Done}
+use Rattle.buffered_engine.specs.core_state.Openings.{Opening}
+use Rattle.buffered_engine.specs.disk_image.Fair.{IsFairCrash}
+use Rattle.buffered_engine.specs.disk_image.Masters.{IsOfRun}
+use Rattle.buffered_engine.specs.disk_image.MasterSlots.{master_on}
+use Rattle.buffered_engine.specs.disk_image.Shown.{Areas, DiskStandsFor, IsCleanDisk, image_by}
+use Rattle.buffered_engine.specs.recovery.Crashes.{Lasts, RecoveryLeaves, ShowsStill, StandsStill}
+use Rattle.buffered_engine.specs.recovery.Masters.{IsSameOrNext}
 use Rattle.transcripts.specs.Transcripts.{first_lines, transcript, IsQuiet}
 use Rattle.lean_shell.specs.Crashes.{IsUnwritten, MasterLeaves}
 use Rattle.lean_shell.specs.Headline.{RunLeaves}
 use Rattle.lean_shell.specs.Starts.{IsOfOpening}
-use Rattle.paged_engine.specs.declared.opening.Size.{Size}
+use Rattle.buffered_engine.specs.paged_engine.declared.opening.Size.{Size}
 use Rattle.lean_shell.specs.Inside.Lefts.{IsSameBut, Lives, LivesOn}
 use Rattle.lean_shell.proofs.Runs.NearLemmas.{near_still}
 
@@ -59,8 +59,8 @@ module _ (size : Size) (AreIts : Opening → List Done → Option Done → Type 
   lasts c d same notes l fair =
       let masters = fair.masters l.masters (same.writes 0 ∙ l.masters_are) in
       let pages = fair.pages l.pages (same.writes 1 ∙ l.pages_are) in
-      let still : StandsStill m (areas_of s) c.image = l.stands (subst (λ (b : List ℕ). IsFair 1024 (Rattle.disk_runs.specs.disk_slots.Slots.IsSealed (codes "LEANMAST")) (s.area 0).bytes l.masters b) (same.image 0) masters)
-      (subst (λ (b : List ℕ). IsFair 1024 (Rattle.disk_runs.specs.disk_slots.Slots.IsSealed (codes "LEANPAGE")) (s.area 1).bytes l.pages b) (same.image 1) pages) in
+      let still : StandsStill m (areas_of s) c.image = l.stands (subst (λ (b : List ℕ). IsFair 1024 (Rattle.buffered_engine.specs.disk_slots.Slots.IsSealed (codes "LEANMAST")) (s.area 0).bytes l.masters b) (same.image 0) masters)
+      (subst (λ (b : List ℕ). IsFair 1024 (Rattle.buffered_engine.specs.disk_slots.Slots.IsSealed (codes "LEANPAGE")) (s.area 1).bytes l.pages b) (same.image 1) pages) in
       let images : d.image ≡ c.image = fun_ext same.image in
       let none : model.journal (transcript (length m.heads) input (first_lines lines put)) ≡ [] = ap model.journal quiet.transcript_is in
       record {

@@ -1,13 +1,13 @@
 -- Why a disk was not opened.
 use Rattle.std.proofs.Common.{◌≡◌, ℕ, Result, Err}
 use Rattle.lean_disk.specs.Story.{Story, areas_of}
-use Rattle.recovery.specs.Masters.{HasOpenable}
-use Rattle.disk_runs.specs.disk_image.Breaks.{IsDamaged}
-use Rattle.recovery.specs.Telling.{TellsAll}
-use Rattle.recovery.specs.declared.opening.Recovered.{Recovered}
-use Rattle.recovery.specs.declared.opening.Unrecovered.{Unrecovered}
-use Rattle.recovery.specs.declared.opening.Unrecovered.TheVariants as why
-use Rattle.paged_engine.specs.Openings.{Shows}
+use Rattle.buffered_engine.specs.recovery.Masters.{HasOpenable}
+use Rattle.buffered_engine.specs.disk_image.Breaks.{IsDamaged}
+use Rattle.buffered_engine.specs.recovery.Telling.{TellsAll}
+use Rattle.buffered_engine.specs.recovery.declared.opening.Recovered.{Recovered}
+use Rattle.buffered_engine.specs.recovery.declared.opening.Unrecovered.{Unrecovered}
+use Rattle.buffered_engine.specs.recovery.declared.opening.Unrecovered.TheVariants as why
+use Rattle.buffered_engine.specs.paged_engine.Openings.{Shows}
 
 -- the disk shows the reason
 pub shows : (s : Story) (result : Result Recovered Unrecovered) (reason : Unrecovered) → result ≡ Err reason

@@ -11,7 +11,7 @@ use Rattle.map_model.specs.Maps.{Map}
 use Rattle.map_model.specs.Outputs.{Reply, answers_told}
 use Rattle.map_model.specs.Pairings.{answers_in, counted, in_turn, script_of}
 use Rattle.map_model.specs.Transcripts as model
-use Rattle.disk_runs.specs.image_model.Images.{map_of}
+use Rattle.buffered_engine.specs.image_model.Images.{map_of}
 use Rattle.lean_disk.specs.Area.{Area}
 use Rattle.lean_disk.specs.Calls.{Noted}
 use Rattle.lean_disk.specs.Faults.{HasCause}
@@ -19,42 +19,42 @@ use Rattle.lean_disk.specs.Moments.{LeavesOnly}
 use Rattle.lean_disk.specs.Story.{Crash, IsLawful, LeavesNow, Story, areas_of}
 use Rattle.lean_disk.proofs.MomentLemmas as moments
 use Rattle.lean_disk.proofs.MomentLemmas.{weaker}
-use Rattle.lean_edge.specs.Outside.{Feed, Held, added}
-use Rattle.lean_edge.specs.declared.sink.Put.TheVariants.{Done as PutDone}
+use Rattle.buffered_engine.specs.lean_edge.Outside.{Feed, Held, added}
+use Rattle.buffered_engine.specs.lean_edge.declared.sink.Put.TheVariants.{Done as PutDone}
 use Rattle.script_lang.specs.Notices.{Notice, NoticeFits}
 use Rattle.script_lang.specs.Reading.{Unread}
-use Rattle.disk_runs.specs.disk_slots.declared.master.Master.{Master}
-use Rattle.disk_runs.specs.disk_image.Masters.{IsOfRun}
-use Rattle.disk_runs.specs.disk_image.Shown.{DiskStandsFor, IsCleanDisk, image_by}
-use Rattle.recovery.specs.Crashes.{RecoveryLeaves}
-use Rattle.recovery.specs.Opened.{IsUntouched, Keeps}
-use Rattle.recovery.specs.Telling.{TellsAll}
-use Rattle.disk_runs.specs.core_state.Events.{Event}
-use Rattle.disk_runs.specs.core_state.Openings.{Opening, first_map}
-use Rattle.disk_runs.specs.core_state.Steps.{state_after}
-use Rattle.core_calls.specs.Deeds.{answered, asked}
-use Rattle.core_calls.specs.Fronts.{Done, front, outcomes}
-use Rattle.core_calls.specs.Printed.{due_lines, durable_lines, printed}
-use Rattle.core_calls.specs.Runs.{EachTells}
-use Rattle.core_calls.specs.Steps.{call_behind}
-use Rattle.core_calls.proofs.PrintedLemmas.{due_are}
-use Rattle.core_calls.proofs.RunLemmas.{answers_all}
-use Rattle.disk_runs.specs.core_disk.Held.{HoldsRun}
-use Rattle.disk_runs.specs.Fair.{IsAsRead}
-use Rattle.disk_runs.specs.Masters.{IsOfRunBy, LineLaws, masters}
+use Rattle.buffered_engine.specs.disk_slots.declared.master.Master.{Master}
+use Rattle.buffered_engine.specs.disk_image.Masters.{IsOfRun}
+use Rattle.buffered_engine.specs.disk_image.Shown.{DiskStandsFor, IsCleanDisk, image_by}
+use Rattle.buffered_engine.specs.recovery.Crashes.{RecoveryLeaves}
+use Rattle.buffered_engine.specs.recovery.Opened.{IsUntouched, Keeps}
+use Rattle.buffered_engine.specs.recovery.Telling.{TellsAll}
+use Rattle.buffered_engine.specs.core_state.Events.{Event}
+use Rattle.buffered_engine.specs.core_state.Openings.{Opening, first_map}
+use Rattle.buffered_engine.specs.core_state.Steps.{state_after}
+use Rattle.buffered_engine.specs.core_calls.Deeds.{answered, asked}
+use Rattle.buffered_engine.specs.core_calls.Fronts.{Done, front, outcomes}
+use Rattle.buffered_engine.specs.core_calls.Printed.{due_lines, durable_lines, printed}
+use Rattle.buffered_engine.specs.core_calls.Runs.{EachTells}
+use Rattle.buffered_engine.specs.core_calls.Steps.{call_behind}
+use Rattle.buffered_engine.proofs.core_calls.PrintedLemmas.{due_are}
+use Rattle.buffered_engine.proofs.core_calls.RunLemmas.{answers_all}
+use Rattle.buffered_engine.specs.core_disk.Held.{HoldsRun}
+use Rattle.buffered_engine.specs.disk_runs.Fair.{IsAsRead}
+use Rattle.buffered_engine.specs.disk_runs.Masters.{IsOfRunBy, LineLaws, masters}
 use Rattle.event_counts.specs.Draws.{draws}
-use Rattle.disk_runs.specs.Stands.{Stands}
-use Rattle.disk_runs.proofs.LineLemmas.{every_fair, every_master_line}
-use Rattle.disk_runs.proofs.ReadLemmas.{every_read}
-use Rattle.disk_runs.proofs.StandLemmas.{every_same}
-use Rattle.engine_calls.specs.Clauses.{Between}
-use Rattle.call_parts.specs.Memory.{Memory}
-use Rattle.call_parts.specs.Rooms.{most_of}
+use Rattle.buffered_engine.specs.disk_runs.Stands.{Stands}
+use Rattle.buffered_engine.proofs.disk_runs.LineLemmas.{every_fair, every_master_line}
+use Rattle.buffered_engine.proofs.disk_runs.ReadLemmas.{every_read}
+use Rattle.buffered_engine.proofs.disk_runs.StandLemmas.{every_same}
+use Rattle.buffered_engine.specs.engine_calls.Clauses.{Between}
+use Rattle.buffered_engine.specs.call_parts.Memory.{Memory}
+use Rattle.buffered_engine.specs.call_parts.Rooms.{most_of}
 use Rattle.page_model.specs.Nodes.{Format}
-use Rattle.disk_runs.specs.worker_log.Logs.{Log}
-use Rattle.engine_trait.specs.Limits.{limits}
-use Rattle.paged_engine.specs.declared.opening.Size.{Size}
-use Rattle.run_crashes.specs.Lines.{NoneStopped, Recovers, RunLeft, next_of}
+use Rattle.buffered_engine.specs.worker_log.Logs.{Log}
+use Rattle.buffered_engine.specs.engine_trait.Limits.{limits}
+use Rattle.buffered_engine.specs.paged_engine.declared.opening.Size.{Size}
+use Rattle.buffered_engine.specs.run_crashes.Lines.{NoneStopped, Recovers, RunLeft, next_of}
 use Rattle.transcripts.specs.Laws.{NextLaws}
 use Rattle.transcripts.specs.Told.{opened_line, text_of, EachReplyFits, IsOutput}
 use Rattle.transcripts.specs.Transcripts.{asked as asked_by, first_lines, transcript, IsQuiet}
@@ -562,7 +562,7 @@ module _ (size : Size) (few : size.sessions ≤ 16) (frames : 32 ≤ size.frames
       abbrev q1 : RunLeft g NoneStopped r.newer c0 m c1
       q1 = record { unheard = now_heard.unheard; heard = now_heard.heard; calls = now_heard.are; missing = now_heard.missing; out = r.told; lines = now_heard.lines; notes = refl; recovers = λ fair. recovered }
 
-      at_first : (n : Master) × IsOfRun first.master n × (Rattle.disk_runs.specs.disk_image.MasterSlots.master_on (areas_of s1 0) ≡ Some n)
+      at_first : (n : Master) × IsOfRun first.master n × (Rattle.buffered_engine.specs.disk_image.MasterSlots.master_on (areas_of s1 0) ≡ Some n)
       at_first = (st.known.master, ((lines_law first.master b.known.master st.known.master).opened [] (front r.newer) of_first st.no_earlier).of_run, holds_now.master)
 
       abbrev was_now : (lines_out : ℕ) → s1.notes ≡ s0.notes + lines_out → IsOutput counts.generation counts.winners counts.undone r.told (first_lines lines_out put) → WasOut NoneStopped (AllAnswered g) (AreAllOf g stop r.newer) g r.newer c0 m first.master s0 sa input put counts.generation counts.winners counts.undone (as_read s1)
@@ -585,7 +585,7 @@ module _ (size : Size) (few : size.sessions ≤ 16) (frames : 32 ≤ size.frames
       now : LeavesNow s1 (as_read s1)
       now = record { counts = subst (λ (t : Rattle.std.proofs.Common.Bool). IsTrue t) (sym (l.notes.counts ∙ r.others.counts)) counts_b; notes = refl; writes = λ a told. refl; leaves = λ a told. law_1.reads_so a told }
 
-      at_end : (P : Type 0) → ((w : WasOut NoneStopped (AllAnswered g) (AreAllOf g stop r.newer) g r.newer c0 m first.master s0 sa input put counts.generation counts.winners counts.undone (as_read s1)) → Recovers g NoneStopped w.left.heard (next_of w.left.unheard) w.left.out m w.crash.image → ((n : Master) × IsOfRun first.master n × (Rattle.disk_runs.specs.disk_image.MasterSlots.master_on (w.crash.image 0) ≡ Some n)) → P) → P
+      at_end : (P : Type 0) → ((w : WasOut NoneStopped (AllAnswered g) (AreAllOf g stop r.newer) g r.newer c0 m first.master s0 sa input put counts.generation counts.winners counts.undone (as_read s1)) → Recovers g NoneStopped w.left.heard (next_of w.left.unheard) w.left.out m w.crash.image → ((n : Master) × IsOfRun first.master n × (Rattle.buffered_engine.specs.disk_image.MasterSlots.master_on (w.crash.image 0) ≡ Some n)) → P) → P
       at_end P so = ⊎_elim
           (λ (e : s1.notes ≡ sc.notes). so (was_now (suc (length r.told)) (let n = notes_c in let b = notes_b in omega arith) (first_output [] r.told refl)) recovered at_first)
           (λ (e : (s1.notes ≡ sc.notes + 1) × (stop ≡ stops.WriteFault → ⊥)). so (was_now (suc (suc (length r.told))) (let n = notes_c in let b = notes_b in let f = e.0 in omega arith) (last_output e.1)) recovered at_first)

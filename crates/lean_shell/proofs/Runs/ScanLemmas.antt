@@ -4,20 +4,20 @@ use Rattle.std.proofs.lemmas.Bool.{cond-true, eq-eqb}
 use Rattle.map_model.specs.declared.call.Answer.TheVariants as answer
 use Rattle.map_model.specs.Lists.{keep}
 use Rattle.map_model.specs.Maps.{MapAnswer, MapCall}
-use Rattle.disk_runs.specs.core_state.Events.{Event, Mode}
-use Rattle.disk_runs.specs.core_state.Local.{is_of}
-use Rattle.disk_runs.specs.core_state.Needs.{is_held_by, may, value_in}
-use Rattle.disk_runs.specs.core_state.Openings.{Opening}
-use Rattle.disk_runs.specs.core_state.States.{State}
-use Rattle.disk_runs.specs.core_state.Steps.{AllMet, state_after, step}
-use Rattle.core_calls.specs.Deeds.{Deed, Met, Unsaid, answered, marks_of, reads_of}
-use Rattle.core_calls.specs.Fronts.{Done, front, outcomes}
-use Rattle.core_calls.specs.Marks.{Called, Mark, found_in, marks}
-use Rattle.core_calls.specs.Runs.{EachTells, EveryMet, Tells}
-use Rattle.core_calls.specs.Scans.{is_scan}
-use Rattle.core_calls.specs.Steps.{Goes, Walks, is_step, scan_from}
-use Rattle.core_calls.proofs.RunLemmas.{marks_more}
-use Rattle.engine_trait.specs.Limits.{limits}
+use Rattle.buffered_engine.specs.core_state.Events.{Event, Mode}
+use Rattle.buffered_engine.specs.core_state.Local.{is_of}
+use Rattle.buffered_engine.specs.core_state.Needs.{is_held_by, may, value_in}
+use Rattle.buffered_engine.specs.core_state.Openings.{Opening}
+use Rattle.buffered_engine.specs.core_state.States.{State}
+use Rattle.buffered_engine.specs.core_state.Steps.{AllMet, state_after, step}
+use Rattle.buffered_engine.specs.core_calls.Deeds.{Deed, Met, Unsaid, answered, marks_of, reads_of}
+use Rattle.buffered_engine.specs.core_calls.Fronts.{Done, front, outcomes}
+use Rattle.buffered_engine.specs.core_calls.Marks.{Called, Mark, found_in, marks}
+use Rattle.buffered_engine.specs.core_calls.Runs.{EachTells, EveryMet, Tells}
+use Rattle.buffered_engine.specs.core_calls.Scans.{is_scan}
+use Rattle.buffered_engine.specs.core_calls.Steps.{Goes, Walks, is_step, scan_from}
+use Rattle.buffered_engine.proofs.core_calls.RunLemmas.{marks_more}
+use Rattle.buffered_engine.specs.engine_trait.Limits.{limits}
 use Rattle.lean_shell.specs.Runs.{ReadsPair, ScansLocked}
 use Rattle.lean_shell.proofs.Runs.PrintedLemmas.{tells_first}
 

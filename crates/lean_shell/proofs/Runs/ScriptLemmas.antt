@@ -9,13 +9,13 @@ use Rattle.map_model.specs.declared.call.Call.TheVariants as call
 use Rattle.map_model.specs.declared.call.Refusal.{Refusal}
 use Rattle.map_model.specs.declared.call.Refusal.TheVariants as refusal
 use Rattle.map_model.specs.Pairings.{EachIsAnswered, in_turn, is_last, is_last_refusal, is_open_line, script_of}
-use Rattle.disk_runs.specs.core_state.Openings.{Opening}
-use Rattle.core_calls.specs.Deeds.{Committed, Deed, Met, Refused, answered, asked}
-use Rattle.core_calls.specs.Fronts.{Done}
-use Rattle.core_calls.specs.Runs.{EachTells, Tells}
-use Rattle.core_calls.specs.Steps.{IsAbortOf, IsBehind, hindered_in, is_conflict}
-use Rattle.call_parts.specs.Memory.{Memory}
-use Rattle.engine_trait.specs.Limits.{limits}
+use Rattle.buffered_engine.specs.core_state.Openings.{Opening}
+use Rattle.buffered_engine.specs.core_calls.Deeds.{Committed, Deed, Met, Refused, answered, asked}
+use Rattle.buffered_engine.specs.core_calls.Fronts.{Done}
+use Rattle.buffered_engine.specs.core_calls.Runs.{EachTells, Tells}
+use Rattle.buffered_engine.specs.core_calls.Steps.{IsAbortOf, IsBehind, hindered_in, is_conflict}
+use Rattle.buffered_engine.specs.call_parts.Memory.{Memory}
+use Rattle.buffered_engine.specs.engine_trait.Limits.{limits}
 use Rattle.script_lang.specs.Text.{script_lines}
 use Rattle.script_run.specs.Runs.{Executes, calls_of}
 use Rattle.transcripts.proofs.AskedLemmas.{lines_append}

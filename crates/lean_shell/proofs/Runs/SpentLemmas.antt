@@ -6,16 +6,16 @@ use Rattle.map_model.specs.declared.call.Refusal.{Refusal}
 use Rattle.map_model.specs.declared.call.Refusal.TheVariants.{RowSpent}
 use Rattle.map_model.specs.Lists.{Has, keep}
 use Rattle.map_model.specs.Pairings.{script_of}
-use Rattle.disk_runs.specs.core_state.Events.{Event}
-use Rattle.disk_runs.specs.core_state.Openings.{Opening}
-use Rattle.core_calls.specs.Deeds.{Deed, Refused, answered, asked}
-use Rattle.core_calls.specs.Fronts.{Done, front}
-use Rattle.core_calls.specs.LineCounts.{EveryLineCount, asks_no_scan, is_scan_call}
-use Rattle.core_calls.specs.Runs.{EachTells, IsRefused, Tells}
-use Rattle.engine_trait.specs.Limits.{limits}
+use Rattle.buffered_engine.specs.core_state.Events.{Event}
+use Rattle.buffered_engine.specs.core_state.Openings.{Opening}
+use Rattle.buffered_engine.specs.core_calls.Deeds.{Deed, Refused, answered, asked}
+use Rattle.buffered_engine.specs.core_calls.Fronts.{Done, front}
+use Rattle.buffered_engine.specs.core_calls.LineCounts.{EveryLineCount, asks_no_scan, is_scan_call}
+use Rattle.buffered_engine.specs.core_calls.Runs.{EachTells, IsRefused, Tells}
+use Rattle.buffered_engine.specs.engine_trait.Limits.{limits}
 use Rattle.script_run.specs.Runs.{Executes, calls_of}
-use Rattle.call_parts.specs.Memory.{Memory}
-use Rattle.call_parts.specs.Rooms.{most_of}
+use Rattle.buffered_engine.specs.call_parts.Memory.{Memory}
+use Rattle.buffered_engine.specs.call_parts.Rooms.{most_of}
 use Rattle.lean_shell.specs.Runs.{asks_scan, steps_of_scans}
 use Rattle.lean_shell.proofs.Runs.CountLemmas.{most_any, most_other, others}
 

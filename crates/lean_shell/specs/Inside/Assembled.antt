@@ -3,21 +3,21 @@ use Rattle.std.specs.Prelude.{◌≡◌, ◌≤◌, ◌+◌, ◌<◌, ℕ, [], S
 use Rattle.lean_disk.specs.Faults.{HasCause}
 use Rattle.lean_disk.specs.Moments.{LeavesOnly}
 use Rattle.lean_disk.specs.Story.{IsLawful, Story, areas_of}
-use Rattle.lean_edge.specs.Outside.{Feed, Held, added}
-use Rattle.lean_edge.specs.declared.sink.Put.TheVariants as put
-use Rattle.disk_runs.specs.disk_slots.declared.master.Master.{Master}
-use Rattle.disk_runs.specs.disk_image.Shown.{IsCleanDisk}
-use Rattle.recovery.specs.Crashes.{RecoveryLeaves}
-use Rattle.recovery.specs.Opened.{Keeps}
-use Rattle.recovery.specs.Telling.{TellsAll}
-use Rattle.disk_runs.specs.core_state.Openings.{Opening}
+use Rattle.buffered_engine.specs.lean_edge.Outside.{Feed, Held, added}
+use Rattle.buffered_engine.specs.lean_edge.declared.sink.Put.TheVariants as put
+use Rattle.buffered_engine.specs.disk_slots.declared.master.Master.{Master}
+use Rattle.buffered_engine.specs.disk_image.Shown.{IsCleanDisk}
+use Rattle.buffered_engine.specs.recovery.Crashes.{RecoveryLeaves}
+use Rattle.buffered_engine.specs.recovery.Opened.{Keeps}
+use Rattle.buffered_engine.specs.recovery.Telling.{TellsAll}
+use Rattle.buffered_engine.specs.core_state.Openings.{Opening}
 use Rattle.script_lang.specs.Notices.{Notice, NoticeFits}
 use Rattle.script_lang.specs.Reading.{Unread}
 use Rattle.script_run.specs.Runs.{ScriptRuns}
 use Rattle.script_run.specs.declared.stop.Stop.{Stop}
 use Rattle.script_run.specs.declared.stop.Stop.TheVariants as stops
-use Rattle.call_parts.specs.Memory.{Memory}
-use Rattle.paged_engine.specs.declared.opening.Size.{Size}
+use Rattle.buffered_engine.specs.call_parts.Memory.{Memory}
+use Rattle.buffered_engine.specs.paged_engine.declared.opening.Size.{Size}
 use Rattle.lean_shell.specs.Ends.{RunEnds}
 use Rattle.lean_shell.specs.Headline.{Headline}
 use Rattle.lean_shell.specs.Inside.Begins.{HasStarted}

@@ -1,19 +1,19 @@
 -- Words of private functions: a run of the core begins on a disk that was opened.
 use Rattle.std.specs.Prelude.{◌≡◌, ◌<◌, ◌≤◌, ◌+◌, ℕ, suc, [], Some}
 use Rattle.lean_disk.specs.Story.{Crash, Story, areas_of}
-use Rattle.disk_runs.specs.disk_slots.declared.master.Master.{Master}
-use Rattle.disk_runs.specs.disk_image.Masters.{IsOfRun}
-use Rattle.disk_runs.specs.disk_image.MasterSlots.{master_on}
-use Rattle.disk_runs.specs.disk_image.Shown.{image_by, IsCleanDisk}
-use Rattle.disk_runs.specs.image_model.Images.{map_of}
-use Rattle.recovery.specs.Crashes.{IsNextOf}
-use Rattle.recovery.specs.Masters.{next_master}
-use Rattle.recovery.specs.Starts.{IsStartOf}
-use Rattle.recovery.specs.Telling.{TellsAll}
-use Rattle.disk_runs.specs.core_state.Openings.{Opening, first_map}
-use Rattle.disk_runs.specs.Stands.{Known, Stands}
-use Rattle.call_parts.specs.Memory.{IsOf, Memory}
-use Rattle.paged_engine.specs.declared.opening.Size.{Size}
+use Rattle.buffered_engine.specs.disk_slots.declared.master.Master.{Master}
+use Rattle.buffered_engine.specs.disk_image.Masters.{IsOfRun}
+use Rattle.buffered_engine.specs.disk_image.MasterSlots.{master_on}
+use Rattle.buffered_engine.specs.disk_image.Shown.{image_by, IsCleanDisk}
+use Rattle.buffered_engine.specs.image_model.Images.{map_of}
+use Rattle.buffered_engine.specs.recovery.Crashes.{IsNextOf}
+use Rattle.buffered_engine.specs.recovery.Masters.{next_master}
+use Rattle.buffered_engine.specs.recovery.Starts.{IsStartOf}
+use Rattle.buffered_engine.specs.recovery.Telling.{TellsAll}
+use Rattle.buffered_engine.specs.core_state.Openings.{Opening, first_map}
+use Rattle.buffered_engine.specs.disk_runs.Stands.{Known, Stands}
+use Rattle.buffered_engine.specs.call_parts.Memory.{IsOf, Memory}
+use Rattle.buffered_engine.specs.paged_engine.declared.opening.Size.{Size}
 use Rattle.lean_shell.specs.Runs.{Counts, IsFrom, first_log}
 use Rattle.lean_shell.specs.Starts.{IsOfSize}
 

@@ -3,7 +3,7 @@ use Rattle.std.specs.Prelude.{◌≡◌, ℕ, false, List, Some, Option, codes}
 use Rattle.clap.specs.Words.{App, Row, app_of}
 use Rattle.clap.specs.declared.builder.Command.TheViews.{out-Command as fields_of}
 use Rattle.clap.specs.declared.builder.Command.{Command as Line}
-use Rattle.disk_format.specs.declared.shape.Shape.{Shape}
+use Rattle.buffered_engine.specs.disk_format.declared.shape.Shape.{Shape}
 use Rattle.lean_shell.specs.Words.{Gives, GivesSize}
 use Rattle.lean_shell.specs.declared.words.Command.{Command}
 use Rattle.lean_shell.specs.declared.words.Command.TheVariants.{Dump, Format, Run}

@@ -2,16 +2,16 @@
 use Rattle.std.specs.Prelude.{◌≡◌, ℕ, List, IsTrue}
 use Rattle.lean_disk.specs.Faults.{HasCause, IsBlamed}
 use Rattle.lean_disk.specs.Story.{Story}
-use Rattle.lean_edge.specs.Outside.{Feed, Held, added}
-use Rattle.recovery.specs.Telling.{TellsAll}
+use Rattle.buffered_engine.specs.lean_edge.Outside.{Feed, Held, added}
+use Rattle.buffered_engine.specs.recovery.Telling.{TellsAll}
 use Rattle.lean_shell.specs.Dumps.{DumpEnds}
 use Rattle.lean_shell.specs.Ends.{RunEnds}
 use Rattle.lean_shell.specs.Endings.{FormatEnds, IsStatus, UsageEnds}
 use Rattle.lean_shell.specs.Headline.{Headline}
 use Rattle.lean_shell.specs.Words.{Asks, AsksNothing}
 use Rattle.lean_shell.specs.declared.words.Command.TheVariants.{Dump, Format, Run}
-use Rattle.disk_format.specs.declared.shape.Shape.{Shape}
-use Rattle.paged_engine.specs.declared.opening.Size.{Size}
+use Rattle.buffered_engine.specs.disk_format.declared.shape.Shape.{Shape}
+use Rattle.buffered_engine.specs.paged_engine.declared.opening.Size.{Size}
 
 -- how often source, sink and disk had failed
 pub record Counts : Type 0 where

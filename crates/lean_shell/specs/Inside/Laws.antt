@@ -1,15 +1,15 @@
 -- Words of private functions: the laws of other crates that a run stands on.
-use Rattle.disk_runs.specs.core_commit.Rises.{EveryRise}
-use Rattle.core_calls.specs.Crashes.{EveryRunCrash}
-use Rattle.core_calls.specs.LineCounts.{EveryLineCount}
-use Rattle.core_calls.specs.Printed.{EveryPrinted}
-use Rattle.core_calls.specs.Runs.{EveryMet}
-use Rattle.core_calls.specs.Told.{EveryTold}
-use Rattle.disk_runs.specs.core_disk.Shows.{EveryShown}
-use Rattle.disk_runs.specs.core_disk.Versions.{EveryVersion}
+use Rattle.buffered_engine.specs.core_commit.Rises.{EveryRise}
+use Rattle.buffered_engine.specs.core_calls.Crashes.{EveryRunCrash}
+use Rattle.buffered_engine.specs.core_calls.LineCounts.{EveryLineCount}
+use Rattle.buffered_engine.specs.core_calls.Printed.{EveryPrinted}
+use Rattle.buffered_engine.specs.core_calls.Runs.{EveryMet}
+use Rattle.buffered_engine.specs.core_calls.Told.{EveryTold}
+use Rattle.buffered_engine.specs.core_disk.Shows.{EveryShown}
+use Rattle.buffered_engine.specs.core_disk.Versions.{EveryVersion}
 use Rattle.event_counts.specs.Draws.{EveryDraw}
 use Rattle.event_counts.specs.Scans.{EveryScanCount}
-use Rattle.disk_runs.specs.disk_image.Laws.{EveryAgreement, EveryBlockIn, EverySealed}
+use Rattle.buffered_engine.specs.disk_image.Laws.{EveryAgreement, EveryBlockIn, EverySealed}
 use Rattle.script_run.specs.Texts.{EveryScript}
 use Rattle.std.specs.Prelude.{◌≡◌, Some, None}
 use Rattle.map_model.specs.Outputs.{Reply}
@@ -17,7 +17,7 @@ use Rattle.script_lang.specs.Notices.{Notice, NoticeFits, notice_text}
 use Rattle.script_lang.specs.Replies.{Fits, reply_of, reply_text}
 use Rattle.script_lang.specs.Text.{IsLine}
 use Rattle.transcripts.specs.Laws.{EveryEnd, EveryMoment, EveryNext, EveryNotice, EveryTail}
-use Rattle.disk_runs.specs.worker_log.Laws.{EveryKept, EveryPrefix}
+use Rattle.buffered_engine.specs.worker_log.Laws.{EveryKept, EveryPrefix}
 
 -- what holds of calls, their numbers and their crashes, of replies and transcripts, of images that agree, and of logs
 pub record Laws : Type 0 where

@@ -1,11 +1,11 @@
 -- Words of private functions: what a crash leaves in a run, from the opening of a clean disk on.
 use Rattle.std.specs.Prelude.{◌≡◌, ◌⊎◌, ℕ, List, length, Option}
 use Rattle.lean_disk.specs.Story.{Crash, Story}
-use Rattle.disk_runs.specs.disk_slots.declared.master.Master.{Master}
-use Rattle.disk_runs.specs.disk_image.Fair.{IsFairCrash}
-use Rattle.core_calls.specs.Fronts.{Done}
-use Rattle.disk_runs.specs.core_state.Openings.{Opening}
-use Rattle.paged_engine.specs.declared.opening.Size.{Size}
+use Rattle.buffered_engine.specs.disk_slots.declared.master.Master.{Master}
+use Rattle.buffered_engine.specs.disk_image.Fair.{IsFairCrash}
+use Rattle.buffered_engine.specs.core_calls.Fronts.{Done}
+use Rattle.buffered_engine.specs.core_state.Openings.{Opening}
+use Rattle.buffered_engine.specs.paged_engine.declared.opening.Size.{Size}
 use Rattle.lean_shell.specs.Crashes.{HasMasterOf, IsUnwritten}
 use Rattle.lean_shell.specs.Headline.{Survives}
 

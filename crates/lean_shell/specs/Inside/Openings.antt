@@ -3,10 +3,10 @@ use Rattle.std.specs.Prelude.{◌≡◌, ℕ}
 use Rattle.lean_disk.specs.Faults.{HasCause}
 use Rattle.lean_disk.specs.Story.{Story}
 use Rattle.lean_disk.specs.Told.{TellsSame}
-use Rattle.lean_edge.specs.Outside.{Held}
-use Rattle.lean_edge.specs.declared.sink.Put.{Put}
-use Rattle.lean_edge.specs.declared.sink.Put.TheVariants as put
-use Rattle.recovery.specs.declared.opening.Unrecovered.{Unrecovered}
+use Rattle.buffered_engine.specs.lean_edge.Outside.{Held}
+use Rattle.buffered_engine.specs.lean_edge.declared.sink.Put.{Put}
+use Rattle.buffered_engine.specs.lean_edge.declared.sink.Put.TheVariants as put
+use Rattle.buffered_engine.specs.recovery.declared.opening.Unrecovered.{Unrecovered}
 use Rattle.script_lang.specs.Notices.{Notice, NoticeFits}
 use Rattle.script_run.specs.declared.stop.Stop.{Stop}
 use Rattle.script_run.specs.declared.stop.Stop.TheVariants as stop

@@ -5,10 +5,10 @@ use Rattle.page_model.specs.Pairs.{Pair}
 use Rattle.pair_walk.specs.Listings.{Lists}
 use Rattle.lean_disk.specs.Faults.{HasCause}
 use Rattle.lean_disk.specs.Story.{Crash, LeavesNow, Story}
-use Rattle.lean_edge.specs.Outside.{Held, Puts}
-use Rattle.lean_edge.specs.declared.sink.Put.{Put}
-use Rattle.lean_edge.specs.declared.sink.Put.TheVariants as answers
-use Rattle.recovery.specs.declared.opening.Recovered.{Recovered}
+use Rattle.buffered_engine.specs.lean_edge.Outside.{Held, Puts}
+use Rattle.buffered_engine.specs.lean_edge.declared.sink.Put.{Put}
+use Rattle.buffered_engine.specs.lean_edge.declared.sink.Put.TheVariants as answers
+use Rattle.buffered_engine.specs.recovery.declared.opening.Recovered.{Recovered}
 use Rattle.lean_shell.specs.Dumps.{dump_text, map_text, pair_lines}
 use Rattle.lean_shell.specs.Runs.{Counts}
 

@@ -1,6 +1,6 @@
 use Rattle.std.specs.Prelude.{codes}
-use Rattle.disk_image.specs.disk_slots.Slots as slots
-use Rattle.disk_image.specs.log_block.Block as blocks
+use Rattle.lean_shell.specs.disk_slots.Slots as slots
+use Rattle.lean_shell.specs.log_block.Block as blocks
 use Rattle.run_tests.proofs.ReadLemmas as read
 use Rattle.run_tests.proofs.every_read_is_fair.Goals as goal
 

@@ -9,11 +9,11 @@ use Rattle.lean_proto.specs.row_words.declared.given.Given.{Given}
 use Rattle.lean_proto.specs.row_words.Moments.{format_of}
 use Rattle.lean_proto.specs.row_words.Openings.{opening}
 use Rattle.lean_proto.specs.row_words.Words.{framed_page}
-use Rattle.lean_proto.proofs.row_words_lemmas.Frames.{framed_high}
+use Rattle.lean_proto.proofs.row_words.Frames.{framed_high}
 use Rattle.lean_proto.specs.rows_trait.declared.view.View.{View}
 use Rattle.lean_proto.specs.rows_trait.Views.{after_all, may, state}
-use Rattle.lean_proto.proofs.rows_trait_lemmas.Runs.{ran_none}
-use Rattle.lean_proto.proofs.version_latch_lemmas.Keeping.{looked_ran}
+use Rattle.lean_proto.proofs.rows_trait.Runs.{ran_none}
+use Rattle.lean_proto.proofs.version_latch.Keeping.{looked_ran}
 use Rattle.lean_proto.specs.Kept.{OwnKept}
 use Rattle.lean_proto.proofs.Owns.{own_after}
 use Rattle.btree_descent.specs.Named.{next_at, met_or}

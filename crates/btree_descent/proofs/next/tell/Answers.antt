@@ -2,11 +2,11 @@ use Rattle.std.proofs.Common.{◌%◌, ◌/◌, ◌∙◌, refl, sym, subst, [],
 use Rattle.lean_proto.specs.row_words.declared.event.Event.TheVariants.{Miss}
 use Rattle.lean_proto.specs.row_words.declared.event.Met.TheVariants as met
 use Rattle.lean_proto.specs.rows_trait.Views.{Shape, may, state}
-use Rattle.lean_proto.proofs.rows_trait_lemmas.Causes.{found_after}
-use Rattle.lean_proto.proofs.rows_trait_lemmas.Runs.{ran_append}
+use Rattle.lean_proto.proofs.rows_trait.Causes.{found_after}
+use Rattle.lean_proto.proofs.rows_trait.Runs.{ran_append}
 use Rattle.lean_proto.specs.version_latch.Named.{checked}
-use Rattle.lean_proto.proofs.version_latch_lemmas.Naming.{checked_silent, checked_same, checked_other}
-use Rattle.lean_proto.proofs.version_latch_lemmas.Keeping.{kept_load, kept_same, kept_then, looked_after, may_ran, may_shape, ran_shape}
+use Rattle.lean_proto.proofs.version_latch.Naming.{checked_silent, checked_same, checked_other}
+use Rattle.lean_proto.proofs.version_latch.Keeping.{kept_load, kept_same, kept_then, looked_after, may_ran, may_shape, ran_shape}
 use Rattle.btree_descent.specs.Meets.{IsFollowed}
 use Rattle.btree_descent.proofs.Calls.{sound_after, frames_after}
 use Rattle.btree_descent.proofs.Nodes.{leaf_in}

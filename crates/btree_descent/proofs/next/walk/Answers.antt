@@ -1,7 +1,7 @@
 use Rattle.std.proofs.Common.{◌<◌, ◌+◌, ◌*◌, ◌∙◌, sym, subst, true≢false, arith}
 use Rattle.lean_proto.specs.rows_trait.Layout.{rows_of, width}
 use Rattle.lean_proto.specs.rows_trait.Views.{Shape}
-use Rattle.lean_proto.proofs.version_latch_lemmas.Keeping.{kept_load, kept_more}
+use Rattle.lean_proto.proofs.version_latch.Keeping.{kept_load, kept_more}
 use Rattle.btree_descent.proofs.Keeping.{seen_before}
 use Rattle.btree_descent.proofs.Walking.{passed_none, walk_free, walk_dead, walk_live, walk_end}
 use Rattle.btree_descent.proofs.next.walk.Goals as goal

@@ -2,7 +2,7 @@ use Rattle.std.proofs.Common.{◌∙◌, [], ◌∷◌, ap, refl, sym, subst}
 use Rattle.lean_proto.specs.row_words.declared.event.Event.TheVariants.{Miss}
 use Rattle.lean_proto.specs.rows_trait.Views.{Shape}
 use Rattle.lean_proto.specs.rows_trait.Turns.{Ran}
-use Rattle.lean_proto.proofs.rows_trait_lemmas.Runs.{ran_append}
+use Rattle.lean_proto.proofs.rows_trait.Runs.{ran_append}
 use Rattle.btree_descent.specs.declared.reach.Way.{Way}
 use Rattle.btree_descent.specs.declared.reach.Way.TheVariants.{Leaf, Moved}
 use Rattle.btree_descent.specs.Inside.{IsOn}

@@ -1,7 +1,7 @@
 use Rattle.std.proofs.Common.{[], refl, sym, subst, arith}
 use Rattle.btree_descent.specs.rows_trait.Views.{Shape}
 use Rattle.btree_descent.specs.row_words.declared.event.Event.TheVariants.{Drop}
-use Rattle.btree_descent.proofs.version_latch_lemmas.Keeping.{may_ran}
+use Rattle.btree_descent.proofs.version_latch.Keeping.{may_ran}
 use Rattle.btree_descent.proofs.Calls.{sound_given}
 use Rattle.btree_descent.proofs.Spots.{draws_after}
 use Rattle.btree_smo.specs.Outcomes.{MissedUpTo}

@@ -1,7 +1,7 @@
 use Rattle.std.proofs.Common.{◌<◌, ◌^◌, ◌∙◌, ℕ, ap, refl, sym, subst, arith}
 use Rattle.btree_descent.specs.core_state.States.{Worker}
 use Rattle.btree_descent.specs.rows_trait.Views.{Shape}
-use Rattle.btree_descent.proofs.lean_proto_lemmas.Owns.{own_after}
+use Rattle.btree_descent.proofs.lean_proto.Owns.{own_after}
 use Rattle.btree_descent.proofs.Calls.{frame_row, frames_after, sound_given}
 use Rattle.btree_descent.proofs.Spots.{draws_after}
 use Rattle.held_rows.specs.Rows.{HoldsTwo}

@@ -1,7 +1,7 @@
 use Rattle.std.proofs.Common.{◌^◌, true≢false, ◌∙◌, ◌<◌, ◌≤◌, ap, sym, subst, arith}
 use Rattle.btree_descent.specs.core_state.States.{Worker}
 use Rattle.btree_descent.specs.rows_trait.Views.{Shape, state}
-use Rattle.btree_descent.proofs.lean_proto_lemmas.Owns.{own_after}
+use Rattle.btree_descent.proofs.lean_proto.Owns.{own_after}
 use Rattle.btree_descent.proofs.Calls.{sound_given, sound_after}
 use Rattle.held_rows.specs.Rows.{IsFrame}
 use Rattle.btree_smo.specs.Inside.{StandsIn}

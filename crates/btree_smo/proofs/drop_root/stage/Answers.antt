@@ -1,5 +1,5 @@
 use Rattle.std.proofs.Common.{◌∙◌, ◌∷◌, refl, ap}
-use Rattle.disk_image.proofs.btree_node_lemmas.FlatLemmas.{words-whole, words-pairs_of}
+use Rattle.disk_image.proofs.btree_node.FlatLemmas.{words-whole, words-pairs_of}
 use Rattle.disk_image.specs.log_record.declared.record.Record.{Record}
 use Rattle.disk_image.specs.log_record.declared.record.Body.TheVariants as body
 use Rattle.btree_smo.proofs.drop_root.stage.Goals as goal

@@ -1,7 +1,7 @@
 use Rattle.std.proofs.Common.{◌∙◌, refl, sym, subst, length}
 use Rattle.btree_descent.specs.row_words.declared.event.Event.TheVariants.{Purge}
 use Rattle.btree_descent.specs.rows_trait.Views.{Shape}
-use Rattle.btree_descent.proofs.lean_proto_lemmas.Finishing.{may_publish_at}
+use Rattle.btree_descent.proofs.lean_proto.Finishing.{may_publish_at}
 use Rattle.btree_smo.specs.Outcomes.{MissedUpTo}
 use Rattle.btree_smo.specs.Inside.Purging.{KeepsPlaces}
 use Rattle.btree_smo.proofs.PublishingPurge.{published_as, may_purge, node_has, keeps_after, went_on}

@@ -3,7 +3,7 @@ use Rattle.btree_descent.specs.row_words.declared.given.Given.{Given}
 use Rattle.btree_descent.specs.row_words.declared.event.Event.TheVariants.{Purge}
 use Rattle.page_model.specs.Pairs.{Pair}
 use Rattle.btree_descent.specs.rows_trait.Views.{Shape, state, may}
-use Rattle.btree_descent.proofs.version_latch_lemmas.Keeping.{may_ran}
+use Rattle.btree_descent.proofs.version_latch.Keeping.{may_ran}
 use Rattle.btree_descent.proofs.Calls.{sound_given}
 use Rattle.btree_descent.proofs.Spots.{draws_after}
 use Rattle.btree_smo.specs.Outcomes.{MissedUpTo}

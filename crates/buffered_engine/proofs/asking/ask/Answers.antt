@@ -1,10 +1,10 @@
 use Rattle.std.proofs.Common.{◌≡◌, ℕ, List, sym, ap, ◌∙◌, subst, true≢false}
-use Rattle.core_calls.specs.Fronts.{Done}
-use Rattle.rows_trait.specs.core_state.Openings.{Opening}
-use Rattle.engine_trait.specs.Calls.{IsAsked}
+use Rattle.paged_scans.specs.core_calls.Fronts.{Done}
+use Rattle.paged_scans.specs.core_state.Openings.{Opening}
+use Rattle.paged_scans.specs.engine_trait.Calls.{IsAsked}
 use Rattle.map_model.specs.declared.call.Call.{Call}
 use Rattle.map_model.specs.declared.call.Call.TheVariants as calls
-use Rattle.paged_desks.specs.Calls.{OnLine}
+use Rattle.paged_scans.specs.paged_desks.Calls.{OnLine}
 use Rattle.paged_ends.specs.Ends.{OnBegin}
 use Rattle.paged_scans.specs.Calls.{IsIn, StandsAt}
 use Rattle.paged_scans.specs.declared.scans.Scan.{Scan}

@@ -1,7 +1,7 @@
 use Rattle.std.proofs.Common.{◌≡◌, ◌<◌, ℕ, length}
 use Rattle.group_commit.specs.Ripeness.{flushed_of}
-use Rattle.session_desks.specs.Parts.{here}
-use Rattle.session_desks.specs.Desks.{log_of}
+use Rattle.paged_scans.specs.session_desks.Parts.{here}
+use Rattle.paged_scans.specs.session_desks.Desks.{log_of}
 use Rattle.buffered_engine.proofs.durables.flushed_numbers.Given as goal
 
 abbrev pub invariant-loop-session : goal.invariant-loop-session

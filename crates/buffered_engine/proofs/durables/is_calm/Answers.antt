@@ -1,5 +1,5 @@
 use Rattle.std.proofs.Common.{sym, subst}
-use Rattle.session_desks.specs.Parts.{logs}
+use Rattle.paged_scans.specs.session_desks.Parts.{logs}
 use Rattle.buffered_engine.specs.Inside.Calm.{IsStill}
 use Rattle.buffered_engine.proofs.durables.is_calm.Goals as goal
 

@@ -1,6 +1,6 @@
 use Rattle.std.proofs.Common.{sym, subst}
 use Rattle.map_model.specs.declared.call.Call.TheVariants as call
-use Rattle.paged_desks.specs.Calls.{CallDoes, OnLine}
+use Rattle.paged_scans.specs.paged_desks.Calls.{CallDoes, OnLine}
 use Rattle.paged_aborts.specs.Aborts.{abort_answer}
 use Rattle.buffered_engine.specs.Inside.Asks.{IsDue, receipt_in}
 use Rattle.buffered_engine.specs.Inside.Parts.{MachineWent}

@@ -1,6 +1,6 @@
 use Rattle.std.proofs.Common.{None, sym, subst}
 use Rattle.map_model.specs.declared.call.Call.TheVariants as call
-use Rattle.paged_desks.specs.Machines.{view_of}
+use Rattle.paged_scans.specs.paged_desks.Machines.{view_of}
 use Rattle.paged_ends.specs.Ends.{OnBegin, begin_answer}
 use Rattle.buffered_engine.specs.Inside.Parts.{MachineWent}
 use Rattle.buffered_engine.specs.declared.ends.Response.{Response}

@@ -1,9 +1,9 @@
 use Rattle.std.proofs.Common.{◌≡◌, None, ℕ, refl}
 use Rattle.map_model.specs.declared.call.Call.{Call}
 use Rattle.map_model.specs.declared.call.Call.TheVariants as call
-use Rattle.paged_calls.specs.Calls.{del_answer, get_answer, put_answer}
-use Rattle.paged_desks.specs.Calls.{OnLine}
-use Rattle.paged_desks.specs.Machines.{view_of}
+use Rattle.paged_scans.specs.paged_calls.Calls.{del_answer, get_answer, put_answer}
+use Rattle.paged_scans.specs.paged_desks.Calls.{OnLine}
+use Rattle.paged_scans.specs.paged_desks.Machines.{view_of}
 use Rattle.paged_ends.specs.Ends.{commit_answer}
 use Rattle.buffered_engine.specs.Inside.Asks.{IsRowCall, receipt_in}
 use Rattle.buffered_engine.specs.Inside.Parts.{MachineWent}

@@ -1,6 +1,6 @@
 use Rattle.std.proofs.Common.{◌≡◌, None, sym, ap, ◌∙◌, subst}
 use Rattle.map_model.specs.declared.call.Call.TheVariants as call
-use Rattle.paged_desks.specs.Machines.{view_of}
+use Rattle.paged_scans.specs.paged_desks.Machines.{view_of}
 use Rattle.paged_scans.specs.Calls.{StandsAt, step_answer}
 use Rattle.buffered_engine.specs.Inside.Parts.{MachineWent}
 use Rattle.buffered_engine.specs.Inside.Scans.{scan_behind}

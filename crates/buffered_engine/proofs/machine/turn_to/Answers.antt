@@ -1,5 +1,5 @@
 use Rattle.std.proofs.Common.{refl}
-use Rattle.paged_desks.specs.declared.machine.PagedMachine.{PagedMachine}
+use Rattle.paged_scans.specs.paged_desks.declared.machine.PagedMachine.{PagedMachine}
 use Rattle.buffered_engine.specs.Inside.Parts.{IsTurned}
 use Rattle.buffered_engine.proofs.TurnLemmas.{ready_turned}
 use Rattle.buffered_engine.proofs.machine.turn_to.Goals as goal

@@ -1,5 +1,5 @@
 use Rattle.std.proofs.Common.{◌<◌, length, sym, ◌∙◌, arith}
-use Rattle.master_store.specs.disk_image.Formats.{format_of}
+use Rattle.buffered_engine.specs.disk_image.Formats.{format_of}
 use Rattle.node_tree.specs.Nodes.{nodes_of}
 use Rattle.engine_tests.proofs.trees.leaf_in.Goals as goal
 

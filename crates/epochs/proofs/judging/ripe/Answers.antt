@@ -2,7 +2,7 @@ use Rattle.std.proofs.Common.{◌≡◌, ◌∙◌, ◌^◌, ◌<◌, ◌+◌, �
 use Rattle.lean_proto.specs.rows_trait.declared.view.Act.TheVariants.{Hear}
 use Rattle.lean_proto.specs.rows_trait.Views.{Shape}
 use Rattle.lean_proto.specs.rows_trait.Turns.{Heard}
-use Rattle.lean_proto.proofs.rows_trait_lemmas.Runs.{ran_append}
+use Rattle.lean_proto.proofs.rows_trait.Runs.{ran_append}
 use Rattle.epochs.proofs.Entering.{heard_ran}
 use Rattle.epochs.proofs.Waits.{judging_none, judging_more, ripens_all, inside_with, not_held}
 use Rattle.epochs.proofs.judging.ripe.Goals as goal

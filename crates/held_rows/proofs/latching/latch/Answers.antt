@@ -5,8 +5,8 @@ use Rattle.rows_trait.specs.Turns.{Taken}
 use Rattle.lean_proto.specs.version_latch.Named.{missed, checked}
 use Rattle.lean_proto.specs.version_latch.Unheld.{NotHeld}
 use Rattle.lean_proto.specs.version_latch.declared.glimpse.Unheld.TheVariants.{Moved, RowSpent}
-use Rattle.lean_proto.proofs.version_latch_lemmas.Naming.{missed_silent, missed_even, checked_silent}
-use Rattle.lean_proto.proofs.version_latch_lemmas.Keeping.{looked_ran, may_ran, may_shape}
+use Rattle.lean_proto.proofs.version_latch.Naming.{missed_silent, missed_even, checked_silent}
+use Rattle.lean_proto.proofs.version_latch.Keeping.{looked_ran, may_ran, may_shape}
 use Rattle.held_rows.proofs.Taking.{latched_refused, latched_quiet, took_all, moved_refused, moved_quiet, spent_refused}
 use Rattle.held_rows.proofs.latching.latch.Goals as goal
 

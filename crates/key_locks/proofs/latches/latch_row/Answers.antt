@@ -4,12 +4,12 @@ use Rattle.lean_proto.specs.rows_trait.Views.{Shape, may, hold, holds}
 use Rattle.lean_proto.specs.rows_trait.Layout.{rows_of}
 use Rattle.lean_proto.specs.rows_trait.Causes.{HasFound}
 use Rattle.lean_proto.specs.rows_trait.Turns.{Taken, Ran}
-use Rattle.lean_proto.proofs.rows_trait_lemmas.Runs.{ran_append}
+use Rattle.lean_proto.proofs.rows_trait.Runs.{ran_append}
 use Rattle.lean_proto.specs.version_latch.declared.glimpse.Unheld.{Unheld}
 use Rattle.lean_proto.specs.version_latch.Unheld.{NotHeld}
 use Rattle.lean_proto.specs.version_latch.Named.{missed, checked}
-use Rattle.lean_proto.proofs.version_latch_lemmas.Naming.{missed_silent, checked_silent}
-use Rattle.lean_proto.proofs.version_latch_lemmas.Keeping.{may_ran, may_shape, looked_latest}
+use Rattle.lean_proto.proofs.version_latch.Naming.{missed_silent, checked_silent}
+use Rattle.lean_proto.proofs.version_latch.Keeping.{may_ran, may_shape, looked_latest}
 use Rattle.key_locks.proofs.Taking.{taken_by, looked_ran, checked_ran, moved_after}
 use Rattle.key_locks.proofs.latches.latch_row.Goals as goal
 

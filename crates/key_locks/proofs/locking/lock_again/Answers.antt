@@ -6,7 +6,7 @@ use Rattle.lean_proto.specs.rows_trait.Views.{Shape, may}
 use Rattle.lean_proto.specs.version_latch.declared.glimpse.Unheld.{Unheld}
 use Rattle.lean_proto.specs.version_latch.Named.{checked, missed}
 use Rattle.lean_proto.specs.version_latch.Unheld.{NotHeld}
-use Rattle.lean_proto.proofs.version_latch_lemmas.Naming.{checked_silent, missed_silent}
+use Rattle.lean_proto.proofs.version_latch.Naming.{checked_silent, missed_silent}
 use Rattle.key_locks.specs.Rows.{event_mode}
 use Rattle.key_locks.proofs.Again.{again_after, again_event, own, steady, taken_as}
 use Rattle.key_locks.proofs.locking.lock_again.Goals as goal

@@ -5,12 +5,12 @@ use Rattle.lean_proto.specs.rows_trait.declared.view.View.{View}
 use Rattle.lean_proto.specs.rows_trait.Views.{Shape, may}
 use Rattle.lean_proto.specs.rows_trait.Causes.{HasFound}
 use Rattle.lean_proto.specs.rows_trait.Turns.{Ran}
-use Rattle.lean_proto.proofs.rows_trait_lemmas.Causes.{found_after}
+use Rattle.lean_proto.proofs.rows_trait.Causes.{found_after}
 use Rattle.key_locks.specs.declared.locking.Stamp.{Stamp}
 use Rattle.key_locks.specs.declared.locking.Refusal.{Refusal}
 use Rattle.key_locks.specs.Rows.{IsWorker}
 use Rattle.key_locks.specs.Locking.{HasLock, Refuses}
-use Rattle.lean_proto.proofs.version_latch_lemmas.Naming.{missed_silent}
+use Rattle.lean_proto.proofs.version_latch.Naming.{missed_silent}
 use Rattle.key_locks.proofs.Calls.{workers_given}
 use Rattle.key_locks.proofs.Staying.{worker_ran}
 use Rattle.key_locks.proofs.Taking.{taken_by, kept_ran}

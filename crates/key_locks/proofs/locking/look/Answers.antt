@@ -1,5 +1,5 @@
 use Rattle.std.proofs.Common.{◌∙◌}
-use Rattle.lean_proto.proofs.version_latch_lemmas.Keeping.{kept_load, kept_more}
+use Rattle.lean_proto.proofs.version_latch.Keeping.{kept_load, kept_more}
 use Rattle.key_locks.proofs.locking.look.Goals as goal
 
 pub returns-clause-kept : goal.returns-clause-kept

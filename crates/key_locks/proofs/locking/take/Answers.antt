@@ -2,7 +2,7 @@ use Rattle.std.proofs.Common.{◌∙◌, ℕ, [], ap, subst, arith}
 use Rattle.lean_proto.specs.row_words.declared.event.Event.TheVariants.{Lock}
 use Rattle.lean_proto.specs.row_words.Openings.{opening}
 use Rattle.lean_proto.specs.rows_trait.Views.{Shape, state, may, without}
-use Rattle.lean_proto.proofs.rows_trait_lemmas.Runs.{ran_append}
+use Rattle.lean_proto.proofs.rows_trait.Runs.{ran_append}
 use Rattle.lean_proto.specs.version_latch.declared.glimpse.Unheld.{Unheld}
 use Rattle.lean_proto.specs.version_latch.Unheld.{NotHeld}
 use Rattle.lean_proto.specs.version_latch.Named.{checked}
@@ -10,7 +10,7 @@ use Rattle.lean_proto.specs.core_state.Steps.{locked}
 use Rattle.key_locks.specs.Rows.{IsRow, core_mode, event_mode}
 use Rattle.key_locks.specs.Inside.{IsSaid}
 use Rattle.key_locks.specs.Locking.{IsPublished}
-use Rattle.lean_proto.proofs.version_latch_lemmas.Naming.{checked_silent}
+use Rattle.lean_proto.proofs.version_latch.Naming.{checked_silent}
 use Rattle.key_locks.proofs.Calls.{published_before}
 use Rattle.key_locks.proofs.Holding.{held_at_row}
 use Rattle.key_locks.proofs.Staying.{worker_ran}

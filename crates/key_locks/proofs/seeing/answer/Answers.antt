@@ -3,10 +3,10 @@ use Rattle.lean_proto.specs.core_state.Needs.{holds_row}
 use Rattle.lean_proto.specs.row_words.declared.event.Event.TheVariants.{Miss}
 use Rattle.lean_proto.specs.row_words.Openings.{opening}
 use Rattle.lean_proto.specs.rows_trait.Views.{after_all, may}
-use Rattle.lean_proto.proofs.rows_trait_lemmas.Runs.{ran_append}
+use Rattle.lean_proto.proofs.rows_trait.Runs.{ran_append}
 use Rattle.lean_proto.specs.version_latch.Named.{checked}
-use Rattle.lean_proto.proofs.version_latch_lemmas.Naming.{checked_silent, checked_other}
-use Rattle.lean_proto.proofs.version_latch_lemmas.Keeping.{goes_ran}
+use Rattle.lean_proto.proofs.version_latch.Naming.{checked_silent, checked_other}
+use Rattle.lean_proto.proofs.version_latch.Keeping.{goes_ran}
 use Rattle.key_locks.proofs.Taking.{known_said, checked_ran}
 use Rattle.key_locks.proofs.seeing.answer.Goals as goal
 

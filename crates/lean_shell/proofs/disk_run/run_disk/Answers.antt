@@ -1,7 +1,7 @@
 use Rattle.std.proofs.Common.{◌≡◌, ◌≤◌, ℕ, IsTrue, [], Some, refl, sym, ap, ◌∙◌, subst, arith}
-use Rattle.lean_edge.specs.declared.sink.Put.{Put}
-use Rattle.lean_edge.specs.Outside.{added}
-use Rattle.recovery.specs.Telling.{TellsAll}
+use Rattle.buffered_engine.specs.lean_edge.declared.sink.Put.{Put}
+use Rattle.buffered_engine.specs.lean_edge.Outside.{added}
+use Rattle.buffered_engine.specs.recovery.Telling.{TellsAll}
 use Rattle.buffered_engine.specs.States.{InRun, memory_in}
 use Rattle.lean_shell.specs.Ends.{RunEnds}
 use Rattle.lean_shell.specs.Headline.{Headline}
@@ -16,7 +16,7 @@ use Rattle.lean_shell.proofs.Runs.MomentLemmas.{unmoved}
 use Rattle.lean_shell.proofs.Runs.OpeningLemmas.{counts, from, started}
 use Rattle.lean_shell.proofs.Runs.ClosedLemmas.{closed_by}
 use Rattle.lean_shell.proofs.Runs.RunLemmas.{every_run}
-use Rattle.recovery.specs.declared.opening.Unrecovered.TheVariants.{Memory}
+use Rattle.buffered_engine.specs.recovery.declared.opening.Unrecovered.TheVariants.{Memory}
 use Rattle.lean_shell.proofs.disk_run.run_disk.Given.{Over}
 use Rattle.lean_shell.proofs.disk_run.run_disk.Goals as goal
 

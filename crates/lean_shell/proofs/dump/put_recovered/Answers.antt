@@ -1,7 +1,7 @@
 use Rattle.std.proofs.Common.{List, length, subst}
 use Rattle.page_model.specs.Page.{Page}
 use Rattle.page_model.specs.Tree.{value}
-use Rattle.disk_runs.specs.disk_image.Formats.{format_of}
+use Rattle.buffered_engine.specs.disk_image.Formats.{format_of}
 use Rattle.node_tree.specs.Nodes.{nodes_of}
 use Rattle.lean_shell.specs.Inside.Puts.{PutsMap, counts_of}
 use Rattle.lean_shell.proofs.Dumps.LeafLemmas.{opened_cut, opened_then}

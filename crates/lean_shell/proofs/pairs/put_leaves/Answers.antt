@@ -2,7 +2,7 @@ use Rattle.std.proofs.Common.{◌≡◌, ◌≤◌, ℕ, inl, length, refl, sym,
 use Rattle.map_model.specs.Maps.{Map, key_end, value_end}
 use Rattle.page_model.specs.Nodes.{Node}
 use Rattle.page_model.specs.Tree.{value}
-use Rattle.disk_runs.specs.disk_image.Formats.{format_of}
+use Rattle.buffered_engine.specs.disk_image.Formats.{format_of}
 use Rattle.node_tree.specs.Nodes.{nodes_of}
 use Rattle.node_tree.proofs.PairLemmas.{node_at}
 use Rattle.pair_walk.specs.Fences.{IsFence}

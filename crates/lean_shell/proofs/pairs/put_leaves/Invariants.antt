@@ -1,7 +1,7 @@
 use Rattle.std.proofs.Common.{◌≡◌, ◌≤◌, ◌-◌, length}
 use Rattle.map_model.specs.Maps.{key_end}
 use Rattle.page_model.specs.Tree.{value}
-use Rattle.disk_runs.specs.disk_image.Formats.{format_of}
+use Rattle.buffered_engine.specs.disk_image.Formats.{format_of}
 use Rattle.node_tree.specs.Nodes.{nodes_of}
 use Rattle.pair_walk.specs.Fences.{IsFence}
 use Rattle.lean_shell.specs.Inside.Puts.{ArePutTo}

@@ -1,6 +1,6 @@
 use Rattle.std.proofs.Common.{length}
 use Rattle.page_model.specs.Tree.{value}
-use Rattle.disk_runs.specs.disk_image.Formats.{format_of}
+use Rattle.buffered_engine.specs.disk_image.Formats.{format_of}
 use Rattle.node_tree.specs.Nodes.{nodes_of}
 use Rattle.lean_shell.proofs.Dumps.LeafLemmas.{map_cut, map_end}
 use Rattle.lean_shell.proofs.pairs.put_map.Goals as goal

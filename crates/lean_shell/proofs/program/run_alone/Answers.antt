@@ -1,5 +1,5 @@
 use Rattle.std.proofs.Common.{ℕ, inl, refl, subst, sym}
-use Rattle.recovery.specs.Telling.{TellsAll}
+use Rattle.buffered_engine.specs.recovery.Telling.{TellsAll}
 use Rattle.lean_shell.specs.declared.failure.Failure.TheVariants.{Usage}
 use Rattle.lean_shell.proofs.CommandLemmas.{not_both, not_run, of_dump, of_format, of_none, of_run, of_unread, tells_on, usage_moments}
 use Rattle.lean_shell.specs.Words.{AsksRun, texts}

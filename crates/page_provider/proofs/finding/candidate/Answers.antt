@@ -1,7 +1,7 @@
 use Rattle.std.proofs.Common.{◌≡◌, ◌∙◌, [], Option, refl, subst}
 use Rattle.std.proofs.lemmas.Result.{err_from_is_err_and}
 use Rattle.btree_descent.specs.row_words.Moments.{pager}
-use Rattle.btree_descent.proofs.version_latch_lemmas.Keeping.{may_ran, may_shape}
+use Rattle.btree_descent.proofs.version_latch.Keeping.{may_ran, may_shape}
 use Rattle.btree_descent.proofs.Calls.{sized_after}
 use Rattle.row_image.specs.Sights.{HasSeen}
 use Rattle.row_image.specs.declared.sight.Sight.{Sight}

@@ -1,8 +1,8 @@
 use Rattle.btree_descent.specs.row_words.Moments.{pager}
 use Rattle.btree_descent.specs.rows_trait.Views.{may}
 use Rattle.btree_descent.specs.version_latch.Named.{checked}
-use Rattle.btree_descent.proofs.version_latch_lemmas.Naming.{checked_silent}
-use Rattle.btree_descent.proofs.version_latch_lemmas.Keeping.{looked_latest}
+use Rattle.btree_descent.proofs.version_latch.Naming.{checked_silent}
+use Rattle.btree_descent.proofs.version_latch.Keeping.{looked_latest}
 use Rattle.row_image.proofs.Watching.{watched_check, may_before}
 use Rattle.row_image.proofs.Refusals.{check_refused}
 use Rattle.page_provider.proofs.glancing.again.Goals as goal

@@ -4,11 +4,11 @@ use Rattle.btree_descent.specs.row_words.Sealed.{Shown}
 use Rattle.btree_descent.specs.rows_trait.Causes.{HasFound}
 use Rattle.btree_descent.specs.rows_trait.Turns.{Looked}
 use Rattle.btree_descent.specs.rows_trait.Views.{Shape, may, state}
-use Rattle.btree_descent.proofs.rows_trait_lemmas.Causes.{found_after}
-use Rattle.btree_descent.proofs.rows_trait_lemmas.Runs.{ran_append}
+use Rattle.btree_descent.proofs.rows_trait.Causes.{found_after}
+use Rattle.btree_descent.proofs.rows_trait.Runs.{ran_append}
 use Rattle.btree_descent.specs.version_latch.Named.{checked, missed}
-use Rattle.btree_descent.proofs.version_latch_lemmas.Keeping.{kept_load, kept_same, kept_then, looked_after, looked_latest, may_ran, may_shape}
-use Rattle.btree_descent.proofs.version_latch_lemmas.Naming.{checked_same, checked_silent, missed_silent}
+use Rattle.btree_descent.proofs.version_latch.Keeping.{kept_load, kept_same, kept_then, looked_after, looked_latest, may_ran, may_shape}
+use Rattle.btree_descent.proofs.version_latch.Naming.{checked_same, checked_silent, missed_silent}
 use Rattle.page_provider.proofs.Glances.{judges, look_moved, start_missed, start_ran}
 use Rattle.page_provider.proofs.looking.is_dirty.Goals as goal
 

@@ -3,7 +3,7 @@ use Rattle.map_model.specs.declared.call.Refusal.{Refusal}
 use Rattle.paged_desks.proofs.EndingLemmas.{Grounds}
 use Rattle.paged_desks.specs.Pages.{most_a_level}
 use Rattle.paged_desks.specs.declared.warming.Unwarmed.TheVariants as stopped
-use Rattle.session_state.specs.Undo.{newest_of}
+use Rattle.paged_desks.specs.session_state.Undo.{newest_of}
 use Rattle.paged_aborts.specs.Backs.{OneLess, PutsBack, most_a_back}
 use Rattle.paged_aborts.proofs.BackWarms.{come_refused, tried_err, tried_lost, tried_ok}
 use Rattle.paged_aborts.proofs.CauseLemmas.{cause_at, cause_lost, cause_ok, cause_try, cause_warm, cold_never, fits_unwarmed, lost_never, lost_works, newest_as, ok_err, ready_unwarmed, same_then, same_unwarmed, some_left, tried_works, warm_newest, works_unwarmed}

@@ -2,7 +2,7 @@ use Rattle.std.proofs.Common.{◌∙◌, ap, arith, refl, sym, true≢false}
 use Rattle.paged_desks.proofs.EndingLemmas.{Grounds}
 use Rattle.paged_aborts.proofs.BackWarms.{backs_on, tried_err, tried_lost, tried_ok, work_cold}
 use Rattle.paged_aborts.proofs.CauseLemmas.{calm_cold, cause_at, cause_lost, cause_ok, cause_try, lost_never, lost_works, newest_as, tried_works}
-use Rattle.session_state.specs.declared.work.Work.{Work}
+use Rattle.paged_desks.specs.session_state.declared.work.Work.{Work}
 use Rattle.paged_aborts.proofs.UndoneLemmas.{undone_self}
 use Rattle.paged_aborts.proofs.backs.put_back_newest.Goals as goal
 

@@ -1,7 +1,7 @@
 use Rattle.std.proofs.Common.{◌∙◌, [], ap, subst, sym}
-use Rattle.btree_descent.specs.Descents.{Sized}
-use Rattle.btree_descent.specs.rows_trait.Turns.{Ran}
-use Rattle.btree_descent.specs.rows_trait.Views.{Shape}
+use Rattle.paged_desks.specs.btree_descent.Descents.{Sized}
+use Rattle.paged_desks.specs.rows_trait.Turns.{Ran}
+use Rattle.paged_desks.specs.rows_trait.Views.{Shape}
 use Rattle.row_changes.proofs.SeenLemmas.{none_seen}
 use Rattle.paged_aborts.proofs.LoseLemmas.{leaf_place, loaded_seen}
 use Rattle.paged_aborts.proofs.leaves.last_page.Goals as goal

@@ -1,7 +1,7 @@
 use Rattle.std.proofs.Common.{refl, subst, sym}
-use Rattle.btree_descent.specs.Descents.{Sized}
-use Rattle.session_desks.specs.Parts.{shape}
-use Rattle.session_state.proofs.Moments.{acts}
+use Rattle.paged_desks.specs.btree_descent.Descents.{Sized}
+use Rattle.paged_desks.specs.session_desks.Parts.{shape}
+use Rattle.paged_desks.proofs.session_state.Moments.{acts}
 use Rattle.paged_desks.proofs.Warmth.{paged_is}
 use Rattle.paged_desks.specs.Machines.{view_of}
 use Rattle.paged_aborts.proofs.leaves.lose.Goals as goal

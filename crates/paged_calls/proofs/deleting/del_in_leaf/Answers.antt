@@ -1,6 +1,6 @@
 use Rattle.std.proofs.Common.{◌∙◌, refl}
-use Rattle.session_desks.proofs.SeatLemmas.{holds_of}
-use Rattle.session_desks.specs.Parts.{here, shape}
+use Rattle.paged_desks.proofs.session_desks.SeatLemmas.{holds_of}
+use Rattle.paged_desks.specs.session_desks.Parts.{here, shape}
 use Rattle.paged_desks.specs.declared.machine.PagedMachine.{PagedMachine}
 use Rattle.paged_calls.proofs.ChangeSteps.{del_ready}
 use Rattle.paged_calls.proofs.RoomLemmas.{may_change}

@@ -2,8 +2,8 @@ use Rattle.std.proofs.Common.{◌∙◌, ◌+◌, ◌*◌, Option, Ok, Err, ℕ,
 use Rattle.paged_desks.proofs.EndingLemmas.{Grounds}
 use Rattle.paged_desks.specs.Machines.{view_of}
 use Rattle.row_changes.proofs.TakesLemmas.{takes_most}
-use Rattle.btree_descent.specs.row_words.Openings.{opening}
-use Rattle.btree_descent.specs.rows_trait.Views.{state}
+use Rattle.paged_desks.specs.row_words.Openings.{opening}
+use Rattle.paged_desks.specs.rows_trait.Views.{state}
 use Rattle.paged_calls.specs.Rounds.{most_a_round, most_rounds}
 use Rattle.paged_calls.specs.declared.growing.Round.{Round}
 use Rattle.paged_calls.specs.declared.growing.Round.TheVariants as round

@@ -1,9 +1,9 @@
 use Rattle.std.proofs.Common.{◌≡◌, ◌≤◌, ◌<◌, ◌+◌, ◌*◌, ◌^◌, ℕ}
-use Rattle.core_calls.specs.Room.{room_takes}
+use Rattle.paged_desks.specs.core_calls.Room.{room_takes}
 use Rattle.paged_desks.specs.Machines.{IsReady, pages, view_of}
-use Rattle.paged_rows.specs.Paged.{IsWarm}
-use Rattle.btree_descent.specs.row_words.Openings.{opening}
-use Rattle.btree_descent.specs.rows_trait.Views.{state}
+use Rattle.paged_desks.specs.paged_rows.Paged.{IsWarm}
+use Rattle.paged_desks.specs.row_words.Openings.{opening}
+use Rattle.paged_desks.specs.rows_trait.Views.{state}
 use Rattle.paged_calls.specs.Growths.{HasMade, MayPut}
 use Rattle.paged_calls.specs.Rounds.{most_a_round}
 use Rattle.paged_calls.proofs.growing.put_hot.Given as goal

@@ -1,6 +1,6 @@
 use Rattle.std.proofs.Common.{◌∙◌, Option, ℕ, ap, refl, sym}
 use Rattle.paged_desks.specs.declared.warming.Unwarmed.TheVariants as stopped
-use Rattle.session_state.specs.declared.session.Session.{Session}
+use Rattle.paged_desks.specs.session_state.declared.session.Session.{Session}
 use Rattle.paged_desks.proofs.EndingLemmas.{Grounds}
 use Rattle.paged_calls.proofs.WarmLemmas.{cause_as, cause_at, cause_none, err_reads, err_to, holds_on, kept_own, ok_err, read_at_once, read_behind, still_of}
 use Rattle.paged_calls.proofs.reading.read_warm.Goals as goal

@@ -1,7 +1,7 @@
 use Rattle.std.proofs.Common.{◌∙◌, ap, refl, sym}
-use Rattle.session_desks.proofs.SeatLemmas.{holds_of}
-use Rattle.session_desks.specs.Parts.{here, shape}
-use Rattle.session_state.specs.declared.session.Session.{Session}
+use Rattle.paged_desks.proofs.session_desks.SeatLemmas.{holds_of}
+use Rattle.paged_desks.specs.session_desks.Parts.{here, shape}
+use Rattle.paged_desks.specs.session_state.declared.session.Session.{Session}
 use Rattle.paged_desks.specs.declared.machine.PagedMachine.{PagedMachine}
 use Rattle.row_ends.proofs.BeginLemmas.{free_of}
 use Rattle.paged_ends.proofs.BeginStands.{ready_begun}

@@ -1,5 +1,5 @@
 use Rattle.std.proofs.Common.{◌∙◌, Bool, ap, refl, sym, subst, true≢false}
-use Rattle.call_parts.specs.Rooms.{AreReady}
+use Rattle.paged_desks.specs.call_parts.Rooms.{AreReady}
 use Rattle.map_model.specs.declared.call.Call.TheVariants as call
 use Rattle.paged_desks.proofs.EndingLemmas.{Grounds}
 use Rattle.paged_ends.proofs.BeginLemmas.{behind_sync, begun_broken, begun_comes, begun_disk, begun_fault, begun_late, begun_many, begun_turn, begun_works, calm_from, shut}

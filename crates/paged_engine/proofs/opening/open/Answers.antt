@@ -1,5 +1,5 @@
 use Rattle.std.proofs.Common.{sym, subst}
-use Rattle.disk_runs.specs.master_store.Masters.{IsOfSlot}
+use Rattle.paged_desks.specs.master_store.Masters.{IsOfSlot}
 use Rattle.paged_engine.proofs.ReadyLemmas.{has_opened, ready}
 use Rattle.paged_engine.proofs.opening.open.Goals as goal
 

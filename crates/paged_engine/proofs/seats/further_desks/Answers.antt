@@ -1,7 +1,7 @@
 use Rattle.std.proofs.Common.{◌≡◌, ◌+◌, ◌++◌, ◌∷◌, [], ℕ, List, length, slice_get, Some, sym, ap, ◌∙◌, subst, arith}
 use Rattle.std.proofs.lemmas.List.{length-append}
 use Rattle.paged_engine.specs.Openings.{IsFurther}
-use Rattle.session_desks.specs.declared.desk.Desk.{Desk}
+use Rattle.paged_desks.specs.session_desks.declared.desk.Desk.{Desk}
 use Rattle.paged_engine.proofs.MadeLemmas.{more_made}
 use Rattle.paged_engine.proofs.seats.further_desks.Goals as goal
 

@@ -1,6 +1,6 @@
 use Rattle.std.proofs.Common.{◌≡◌, ◌≤◌, ◌+◌, ℕ, length, slice_get, Some, vec_capacity}
 use Rattle.paged_engine.specs.Openings.{IsFurther}
-use Rattle.session_desks.specs.declared.desk.Desk.{Desk}
+use Rattle.paged_desks.specs.session_desks.declared.desk.Desk.{Desk}
 use Rattle.paged_engine.proofs.seats.further_desks.Given as goal
 
 abbrev pub invariant-loop-number : goal.invariant-loop-number

@@ -1,6 +1,6 @@
 use Rattle.std.proofs.Common.{◌≡◌, ℕ, List, length, sym, ap, ◌∙◌, subst, arith}
 use Rattle.page_model.specs.Page.{Page}
-use Rattle.row_opening.specs.Opened.{page_or}
+use Rattle.session_state.specs.row_opening.Opened.{page_or}
 use Rattle.cold_pages.specs.declared.kept.Kept.{Kept}
 use Rattle.cold_pages.specs.Kept.{AreWithin, left}
 use Rattle.paged_opening.specs.Opened.{cold_to}

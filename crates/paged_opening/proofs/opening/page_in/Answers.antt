@@ -1,8 +1,8 @@
 use Rattle.std.proofs.Common.{◌<◌, ℕ, List, length, refl, subst, sym}
 use Rattle.page_model.specs.Page.{Page}
 use Rattle.cold_pages.specs.Kept.{AreWithin}
-use Rattle.row_opening.specs.Opened.{page_at}
-use Rattle.btree_descent.specs.row_words.Moments.{format_of}
+use Rattle.session_state.specs.row_opening.Opened.{page_at}
+use Rattle.session_state.specs.row_words.Moments.{format_of}
 use Rattle.paged_opening.proofs.BeginLemmas.{paged}
 use Rattle.paged_opening.proofs.ColdLemmas.{within}
 use Rattle.paged_opening.proofs.opening.page_in.Goals as goal

@@ -1,6 +1,6 @@
 use Rattle.std.proofs.Common.{◌∙◌, arith, refl}
 use Rattle.row_scans.specs.declared.meets.Met.TheVariants as met
-use Rattle.paged_desks.proofs.EndingLemmas.{Grounds}
+use Rattle.paged_calls.proofs.paged_desks.EndingLemmas.{Grounds}
 use Rattle.paged_scans.proofs.NextLemmas.{next_over, next_pair, next_refused, passed_gap, passed_none, warm_met}
 use Rattle.paged_scans.proofs.nexts.next.Goals as goal
 

@@ -1,5 +1,5 @@
 use Rattle.std.proofs.Common.{◌≡◌, ◌≤◌, ◌+◌, ◌-◌, true}
-use Rattle.paged_desks.specs.Machines.{IsReady}
+use Rattle.paged_calls.specs.paged_desks.Machines.{IsReady}
 use Rattle.paged_scans.specs.Steps.{HasPassed}
 use Rattle.paged_scans.proofs.nexts.next.Given as goal
 

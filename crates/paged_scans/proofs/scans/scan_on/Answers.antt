@@ -2,8 +2,8 @@ use Rattle.std.proofs.Common.{◌∙◌, inl, inr, Some, None, arith, refl, sym,
 use Rattle.map_model.specs.declared.call.Answer.TheVariants as answer
 use Rattle.map_model.specs.declared.call.Call.TheVariants as call
 use Rattle.map_model.specs.declared.call.Refusal.{Refusal}
-use Rattle.paged_desks.specs.Calls.{CallDoes}
-use Rattle.paged_desks.proofs.EndingLemmas.{Grounds}
+use Rattle.paged_calls.specs.paged_desks.Calls.{CallDoes}
+use Rattle.paged_calls.proofs.paged_desks.EndingLemmas.{Grounds}
 use Rattle.paged_calls.proofs.TakingLemmas.{call_closed, call_open, closed_broken, closed_come, closed_works}
 use Rattle.paged_scans.specs.Calls.{StandsAt}
 use Rattle.paged_scans.specs.declared.scans.Step.{Step}

@@ -1,7 +1,7 @@
 use Rattle.std.proofs.Common.{refl}
-use Rattle.session_desks.proofs.SeatLemmas.{holds_of}
-use Rattle.session_desks.specs.Parts.{here, shape}
-use Rattle.paged_desks.specs.declared.machine.PagedMachine.{PagedMachine}
+use Rattle.paged_calls.proofs.session_desks.SeatLemmas.{holds_of}
+use Rattle.paged_calls.specs.session_desks.Parts.{here, shape}
+use Rattle.paged_calls.specs.paged_desks.declared.machine.PagedMachine.{PagedMachine}
 use Rattle.paged_scans.proofs.LookLemmas.{walk_ready}
 use Rattle.paged_scans.proofs.walks.walk.Goals as goal
 

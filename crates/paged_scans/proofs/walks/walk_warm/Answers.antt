@@ -1,11 +1,11 @@
 use Rattle.std.proofs.Common.{◌≡◌, ◌∙◌, Ok, Err, ap, refl, sym, subst}
 use Rattle.map_model.specs.declared.call.Refusal.{Refusal}
-use Rattle.session_state.specs.declared.session.Session.{Session}
+use Rattle.paged_calls.specs.session_state.declared.session.Session.{Session}
 use Rattle.row_scans.specs.declared.meets.Met.{Met}
 use Rattle.row_scans.specs.declared.meets.Unmet.TheVariants as unmet
-use Rattle.paged_desks.specs.Machines.{view_of}
-use Rattle.paged_desks.specs.declared.warming.Unwarmed.TheVariants as stopped
-use Rattle.paged_desks.proofs.EndingLemmas.{Grounds}
+use Rattle.paged_calls.specs.paged_desks.Machines.{view_of}
+use Rattle.paged_calls.specs.paged_desks.declared.warming.Unwarmed.TheVariants as stopped
+use Rattle.paged_calls.proofs.paged_desks.EndingLemmas.{Grounds}
 use Rattle.paged_calls.proofs.ChangeWarms.{cause_warm}
 use Rattle.paged_calls.proofs.WarmLemmas.{cause_at, cause_none, come_from, come_none, err_reads, kept_own, ok_err, still_of}
 use Rattle.paged_scans.specs.Steps.{MeetsWarm}
@@ -30,7 +30,7 @@ returns-in-Err-Refused-clause-meets g c =
     (meets_why c.in-Err-Refused.field-0 (unmet.Refused c.in-Err-Refused.why) m.machine.work.session.own (view_of m) (view_of c.walk.new.machine) c.args.key _ c.in-Err-Refused.field-0-is c.in-Err-Refused.ensures.meets)
 
 pub returns-in-Err-clause-ready : goal.returns-in-Err-clause-ready
-returns-in-Err-clause-ready g c = subst (λ (why : Refusal). Rattle.paged_desks.specs.Calls.works_behind {A = Met} (Err why) ≡ Rattle.std.proofs.Common.true → Rattle.paged_desks.specs.Machines.IsReady g.D.Disk.story c.warm.new.self) (sym c.refusal_of.ensures)
+returns-in-Err-clause-ready g c = subst (λ (why : Refusal). Rattle.paged_calls.specs.paged_desks.Calls.works_behind {A = Met} (Err why) ≡ Rattle.std.proofs.Common.true → Rattle.paged_calls.specs.paged_desks.Machines.IsReady g.D.Disk.story c.warm.new.self) (sym c.refusal_of.ensures)
     (ready_as Met g.D.Disk.story c.warm.new.self c.in-Err.why c.in-Err.ensures.ready)
 
 pub returns-in-Err-clause-meets : goal.returns-in-Err-clause-meets

@@ -1,6 +1,6 @@
 use Rattle.std.proofs.Common.{inl, inr, ℕ, List, Err, length, ◌∙◌, ap, subst, arith}
 use Rattle.disk_image.specs.log_block.Block.{records_text}
-use Rattle.disk_image.proofs.log_block_lemmas.BlockLemmas.{block_lists, block_of_records, spells_belongs, spells_records}
+use Rattle.disk_image.proofs.log_block.BlockLemmas.{block_lists, block_of_records, spells_belongs, spells_records}
 use Rattle.log_index.specs.Items.{Item}
 use Rattle.disk_image.specs.Blocks.{block_in}
 use Rattle.disk_image.proofs.BlockInLemmas.{every_block_in}

@@ -1,5 +1,5 @@
 use Rattle.std.proofs.Common.{◌≡◌, ℕ, ◌∷◌, Option, Some, Err, ap, refl, subst, arith}
-use Rattle.btree_descent.specs.declared.descent.TheConstants.{TOMBSTONE}
+use Rattle.session_state.specs.btree_descent.declared.descent.TheConstants.{TOMBSTONE}
 use Rattle.row_changes.specs.Puts.{IsChanged}
 use Rattle.row_changes.proofs.DelLemmas.{holds_absent, is_absent, same_by_clock}
 use Rattle.row_changes.proofs.PutLemmas.{holds_as, holds_changed, holds_still, is_changed, is_spent, may_put, not_last, value_said}

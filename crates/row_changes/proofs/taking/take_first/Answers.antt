@@ -1,5 +1,5 @@
 use Rattle.std.proofs.Common.{◌≤◌, ◌+◌, length, refl, subst}
-use Rattle.key_locks.specs.Locking.{Refuses}
+use Rattle.session_state.specs.key_locks.Locking.{Refuses}
 use Rattle.row_changes.proofs.TakeLemmas.{hindered, holds_still, holds_taken, session_taken, spent, takes}
 use Rattle.session_state.proofs.HoldLemmas.{holds_as}
 use Rattle.row_changes.proofs.taking.take_first.Goals as goal

@@ -1,6 +1,6 @@
 use Rattle.std.proofs.Common.{arith, ◌∙◌, [], ◌∷◌, min, refl, ap, subst}
-use Rattle.lean_proto.specs.row_words.declared.event.Event.TheVariants.{Begin}
-use Rattle.lean_proto.specs.rows_trait.Turns.{Heard}
+use Rattle.session_state.specs.row_words.declared.event.Event.TheVariants.{Begin}
+use Rattle.session_state.specs.rows_trait.Turns.{Heard}
 use Rattle.row_ends.specs.Begins.{begun_session}
 use Rattle.session_state.proofs.HoldLemmas.{holds_as}
 use Rattle.session_state.proofs.Moments.{acts}

@@ -1,5 +1,5 @@
 use Rattle.std.proofs.Common.{◌+◌, ◌∙◌, [], subst}
-use Rattle.lean_proto.specs.rows_trait.Turns.{Heard}
+use Rattle.session_state.specs.rows_trait.Turns.{Heard}
 use Rattle.row_ends.proofs.BeginLemmas.{least_more, looked_more}
 use Rattle.row_ends.proofs.begins.least_flushed.Goals as goal
 

@@ -1,5 +1,5 @@
 use Rattle.std.proofs.Common.{◌≡◌, true}
-use Rattle.lean_proto.specs.rows_trait.Views.{state}
+use Rattle.session_state.specs.rows_trait.Views.{state}
 use Rattle.row_ends.specs.Flushed.{Looked, flushed_to}
 use Rattle.row_ends.proofs.begins.least_flushed.Given as goal
 

@@ -1,5 +1,5 @@
 use Rattle.std.proofs.Common.{◌∙◌, ◌+◌, suc, true, refl, ap, subst, sym, arith, true≢false}
-use Rattle.disk_runs.specs.log_record.declared.record.Body.TheVariants as body
+use Rattle.session_state.specs.log_record.declared.record.Body.TheVariants as body
 use Rattle.session_state.proofs.StageLemmas.{staged_flushed}
 use Rattle.session_state.proofs.UndoLemmas.{hand_after}
 use Rattle.session_state.proofs.Frames.{frame_of}

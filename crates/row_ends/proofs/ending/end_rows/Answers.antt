@@ -1,5 +1,5 @@
 use Rattle.std.proofs.Common.{refl, ap, ◌∙◌, arith}
-use Rattle.lean_proto.specs.rows_trait.Views.{Shape}
+use Rattle.session_state.specs.rows_trait.Views.{Shape}
 use Rattle.row_ends.proofs.LatchLemmas.{sized_on}
 use Rattle.row_ends.proofs.EndLemmas.{closed, end_is, ended, held, may_turn, mine}
 use Rattle.session_state.proofs.SyncLemmas.{has_word}

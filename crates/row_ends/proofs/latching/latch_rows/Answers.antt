@@ -1,6 +1,6 @@
 use Rattle.std.proofs.Common.{refl, sym, ap, ◌∙◌, inr, subst, ◌<◌, ⊎_elim, arith}
 use Rattle.map_model.specs.Lists.{Has}
-use Rattle.lean_proto.specs.rows_trait.Views.{Shape}
+use Rattle.session_state.specs.rows_trait.Views.{Shape}
 use Rattle.row_ends.proofs.LatchLemmas.{Stopped, has_at, has_none, latched_less, latched_more, place, sized_on, start_latching, stopped}
 use Rattle.session_state.proofs.Moments.{acts}
 use Rattle.row_ends.proofs.latching.latch_rows.Goals as goal

@@ -1,5 +1,5 @@
 use Rattle.std.proofs.Common.{refl, sym, ap, ◌∙◌, subst, ◌<◌, arith}
-use Rattle.lean_proto.specs.rows_trait.Views.{Shape}
+use Rattle.session_state.specs.rows_trait.Views.{Shape}
 use Rattle.row_ends.proofs.LatchLemmas.{all_missed, missed_more, place, spans_on, start_missing, unmarked}
 use Rattle.row_ends.proofs.latching.unlatch_rows.Goals as goal
 

@@ -1,5 +1,5 @@
 use Rattle.std.proofs.Common.{refl, sym, ap, ◌∙◌, subst, ◌<◌, arith}
-use Rattle.lean_proto.specs.rows_trait.Views.{Shape}
+use Rattle.session_state.specs.rows_trait.Views.{Shape}
 use Rattle.row_ends.proofs.LatchLemmas.{all_gave, closed_on, end_on, gave_more, place, sized_on, start_giving, unmarked}
 use Rattle.session_state.proofs.Moments.{acts}
 use Rattle.row_ends.proofs.latching.unlock_rows.Goals as goal

@@ -2,7 +2,7 @@ use Rattle.std.proofs.lemmas.Result.{IfOk-weaker, IfErr-weaker}
 use Rattle.std.proofs.lemmas.Bool.{cond-true, lt-ltb}
 use Rattle.std.proofs.Common.{ltb}
 use Rattle.btree_descent.specs.rows_trait.Views.{may}
-use Rattle.btree_descent.proofs.version_latch_lemmas.Naming.{checked_silent}
+use Rattle.btree_descent.proofs.version_latch.Naming.{checked_silent}
 use Rattle.row_image.proofs.Sighting.{unheld, never_moved, has_taken}
 use Rattle.row_image.proofs.frame.take.Goals as goal
 

@@ -1,7 +1,7 @@
 use Rattle.btree_descent.specs.rows_trait.Views.{may}
 use Rattle.btree_descent.specs.version_latch.Named.{checked}
-use Rattle.btree_descent.proofs.version_latch_lemmas.Naming.{checked_silent}
-use Rattle.btree_descent.proofs.version_latch_lemmas.Keeping.{looked_latest}
+use Rattle.btree_descent.proofs.version_latch.Naming.{checked_silent}
+use Rattle.btree_descent.proofs.version_latch.Keeping.{looked_latest}
 use Rattle.row_image.proofs.Watching.{watched_check, may_before}
 use Rattle.row_image.proofs.Refusals.{check_refused}
 use Rattle.row_image.proofs.look.again.Goals as goal

@@ -1,7 +1,7 @@
 use Rattle.btree_descent.specs.rows_trait.Views.{may}
 use Rattle.btree_descent.specs.version_latch.Named.{missed}
-use Rattle.btree_descent.proofs.version_latch_lemmas.Naming.{missed_silent}
-use Rattle.btree_descent.proofs.version_latch_lemmas.Keeping.{looked_latest}
+use Rattle.btree_descent.proofs.version_latch.Naming.{missed_silent}
+use Rattle.btree_descent.proofs.version_latch.Keeping.{looked_latest}
 use Rattle.row_image.proofs.Watching.{watched_start}
 use Rattle.row_image.proofs.Refusals.{start_refused}
 use Rattle.row_image.proofs.look.begin.Goals as goal

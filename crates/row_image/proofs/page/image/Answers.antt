@@ -1,6 +1,6 @@
 use Rattle.std.proofs.Common.{◌∙◌, sym}
 use Rattle.btree_descent.specs.rows_trait.Views.{state}
-use Rattle.btree_descent.proofs.btree_node_lemmas.SpellingLemmas.{one-page}
+use Rattle.btree_descent.proofs.btree_node.SpellingLemmas.{one-page}
 use Rattle.row_image.specs.Images.{written}
 use Rattle.row_image.proofs.page.image.Goals as goal
 

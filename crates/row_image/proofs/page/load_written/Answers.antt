@@ -1,7 +1,7 @@
 use Rattle.std.proofs.Common.{◌≡◌, ◌∙◌, set, subst}
 use Rattle.std.proofs.lemmas.Result.{err_from_is_err_and, IfOk-weaker, IfErr-weaker}
 use Rattle.btree_descent.specs.rows_trait.Views.{Shape}
-use Rattle.btree_descent.proofs.rows_trait_lemmas.Causes.{found_after}
+use Rattle.btree_descent.proofs.rows_trait.Causes.{found_after}
 use Rattle.row_image.specs.declared.refusal.Unseen.{Unseen}
 use Rattle.row_image.specs.Images.{IsMissed}
 use Rattle.row_image.specs.Looks.{AreKnown}

@@ -1,5 +1,5 @@
 use Rattle.std.proofs.Common.{◌∷◌, sym, ap, ◌∙◌, true≢false}
-use Rattle.core_calls.specs.Durables.{durables, moments}
+use Rattle.call_parts.specs.core_calls.Durables.{durables, moments}
 use Rattle.engine_front.specs.Turns.{behind_durables}
 use Rattle.script_run.proofs.DueLemmas.{answer_failed, answer_open, answer_put}
 use Rattle.script_run.proofs.FitLemmas.{open_behind}

@@ -1,7 +1,7 @@
 use Rattle.std.proofs.Common.{◌≡◌, ◌++◌, ◌∷◌, refl, sym, ap, ◌∙◌}
-use Rattle.disk_runs.specs.core_state.Steps.{state_after}
-use Rattle.core_calls.specs.Durables.{due}
-use Rattle.core_calls.specs.Fronts.{front}
+use Rattle.call_parts.specs.core_state.Steps.{state_after}
+use Rattle.call_parts.specs.core_calls.Durables.{due}
+use Rattle.call_parts.specs.core_calls.Fronts.{front}
 use Rattle.lean_edge.specs.declared.sink.Put.TheVariants.{Done, Failed}
 use Rattle.engine_front.specs.Turns.{name_of}
 use Rattle.script_run.proofs.DueLemmas.{none_taken, one_taken, one_failed}

@@ -1,8 +1,8 @@
 use Rattle.std.proofs.Common.{◌≡◌, true, List}
-use Rattle.disk_runs.specs.core_state.Openings.{Opening}
-use Rattle.disk_runs.specs.core_state.Steps.{state_after}
-use Rattle.core_calls.specs.Durables.{due}
-use Rattle.core_calls.specs.Fronts.{Done, front}
+use Rattle.call_parts.specs.core_state.Openings.{Opening}
+use Rattle.call_parts.specs.core_state.Steps.{state_after}
+use Rattle.call_parts.specs.core_calls.Durables.{due}
+use Rattle.call_parts.specs.core_calls.Fronts.{Done, front}
 use Rattle.map_model.specs.Journals.{Name}
 use Rattle.script_run.specs.Inside.{Taking}
 use Rattle.script_run.proofs.replies.put_durables.Given as goal

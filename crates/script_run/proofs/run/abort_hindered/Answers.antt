@@ -1,6 +1,6 @@
 use Rattle.std.proofs.Common.{◌∷◌, ◌∙◌, refl, ap, arith}
-use Rattle.core_calls.specs.Durables.{durables, moments}
-use Rattle.core_calls.specs.Steps.{hindered_in}
+use Rattle.call_parts.specs.core_calls.Durables.{durables, moments}
+use Rattle.call_parts.specs.core_calls.Steps.{hindered_in}
 use Rattle.engine_front.specs.Turns.{behind_durables}
 use Rattle.script_run.specs.Inside.IsDueTo.{Abort}
 use Rattle.script_run.specs.declared.stop.Stop.TheVariants.{DiskFault}

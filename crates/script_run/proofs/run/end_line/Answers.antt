@@ -1,5 +1,5 @@
 use Rattle.std.proofs.Common.{◌∙◌, refl, sym, ap}
-use Rattle.core_calls.specs.Deeds.{asked}
+use Rattle.call_parts.specs.core_calls.Deeds.{asked}
 use Rattle.map_model.specs.Pairings.{is_last}
 use Rattle.script_run.proofs.FitLemmas.{behind_conflict, behind_end, end_last, met_conflict}
 use Rattle.script_run.proofs.StepLemmas.{none_follows}

@@ -1,6 +1,6 @@
 use Rattle.std.proofs.Common.{◌<◌, ◌∷◌, ◌∙◌, ℕ, suc, cond, List, Some, refl, sym, subst}
-use Rattle.core_calls.specs.Durables.{durables, moments}
-use Rattle.core_calls.specs.Fronts.{Done}
+use Rattle.call_parts.specs.core_calls.Durables.{durables, moments}
+use Rattle.call_parts.specs.core_calls.Fronts.{Done}
 use Rattle.script_run.specs.Inside.{AnsweredTo, AnswersRun, IsNewest, LineRuns, is_pair}
 use Rattle.script_run.specs.declared.stop.Stop.TheVariants.{DiskFault, WriteFault}
 use Rattle.script_run.proofs.FitLemmas.{behind_pair, fewer_pairs}

@@ -1,7 +1,7 @@
 use Rattle.std.proofs.Common.{◌≡◌, ◌∷◌, suc, true, cond, List}
-use Rattle.disk_runs.specs.core_state.Openings.{Opening}
-use Rattle.core_calls.specs.Durables.{durables, moments}
-use Rattle.core_calls.specs.Fronts.{Done}
+use Rattle.call_parts.specs.core_state.Openings.{Opening}
+use Rattle.call_parts.specs.core_calls.Durables.{durables, moments}
+use Rattle.call_parts.specs.core_calls.Fronts.{Done}
 use Rattle.engine_front.specs.Turns.{behind_answer, behind_durables}
 use Rattle.script_run.specs.Inside.{AnsweredTo, IsNewest, is_pair}
 use Rattle.script_run.proofs.run.finish_line.Given as goal

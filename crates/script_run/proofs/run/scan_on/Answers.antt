@@ -1,6 +1,6 @@
 use Rattle.std.proofs.Common.{◌≡◌, ◌∷◌, ◌∙◌, Some, None, sym, ap, arith}
-use Rattle.core_calls.specs.Deeds.{asked}
-use Rattle.core_calls.specs.Durables.{durables, moments}
+use Rattle.call_parts.specs.core_calls.Deeds.{asked}
+use Rattle.call_parts.specs.core_calls.Durables.{durables, moments}
 use Rattle.engine_front.specs.Turns.{behind_durables}
 use Rattle.script_run.specs.declared.stop.Stop.TheVariants.{DiskFault, WriteFault}
 use Rattle.script_run.proofs.FitLemmas.{behind_pair, open_behind, pair_open, scan_fits}

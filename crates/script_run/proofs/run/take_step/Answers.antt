@@ -1,5 +1,5 @@
 use Rattle.std.proofs.Common.{◌≡◌, ◌<◌, ◌-◌, ◌^◌, ◌∷◌, ◌∙◌, ℕ, Some, None, refl, sym, ap, subst, arith}
-use Rattle.core_calls.specs.Durables.{durables, moments}
+use Rattle.call_parts.specs.core_calls.Durables.{durables, moments}
 use Rattle.engine_front.specs.Turns.{behind_durables}
 use Rattle.script_run.specs.Inside.{LineRuns}
 use Rattle.script_run.specs.Runs.{ReadsTo}

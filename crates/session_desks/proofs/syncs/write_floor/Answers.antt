@@ -1,6 +1,6 @@
 use Rattle.std.proofs.Common.{subst}
-use Rattle.disk_runs.specs.disk_slots.declared.master.Master.{Master}
-use Rattle.log_calls.specs.Syncs.{SyncsOn}
+use Rattle.session_state.specs.disk_slots.declared.master.Master.{Master}
+use Rattle.session_state.specs.log_calls.Syncs.{SyncsOn}
 use Rattle.session_desks.specs.Syncs.{IsWriting}
 use Rattle.session_desks.proofs.syncs.write_floor.Goals as goal
 

@@ -1,4 +1,4 @@
-use Rattle.btree_descent.proofs.rows_trait_lemmas.Syncs.{may_sync}
+use Rattle.btree_descent.proofs.rows_trait.Syncs.{may_sync}
 use Rattle.session_state.proofs.SyncLemmas.{has_synced}
 use Rattle.session_state.proofs.syncs.store_synced.Goals as goal
 

@@ -1,5 +1,5 @@
 use Rattle.std.proofs.Common.{refl, sym, ap, ◌∙◌, subst, rules}
-use Rattle.engine_trait.specs.Calls.{IsAsked}
+use Rattle.paged_scans.specs.engine_trait.Calls.{IsAsked}
 use Rattle.buffered_engine.specs.Calls.{Asked}
 use Rattle.buffered_engine.specs.Inside.Parts.{state_by}
 use Rattle.buffered_engine.specs.States.{State}

@@ -1,7 +1,7 @@
 use Rattle.std.proofs.Common.{None, refl, sym, ap, ◌∙◌, subst, rules}
 use Rattle.buffered_engine.specs.Inside.Asks.{AreNumbers}
 use Rattle.buffered_engine.specs.States.{InRun, State, memory_in}
-use Rattle.session_desks.specs.Parts.{logs}
+use Rattle.paged_scans.specs.session_desks.Parts.{logs}
 use Rattle.buffered_engine.proofs.CalmLemmas.{finds_none}
 use Rattle.buffered_engine.proofs.DurableLemmas.{engine_none, seated_in, tells_none}
 use Rattle.buffered_engine.proofs.engine.Engine.next_durable.Goals as goal

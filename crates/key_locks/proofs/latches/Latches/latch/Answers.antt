@@ -2,7 +2,7 @@ use Rattle.std.proofs.Common.{◌%◌, ◌+◌, ◌∙◌, List, length, refl, a
 use Rattle.lean_proto.specs.rows_trait.declared.view.Hold.{Hold}
 use Rattle.lean_proto.specs.rows_trait.Views.{without}
 use Rattle.key_locks.specs.Latching.{AreLatched}
-use Rattle.lean_proto.proofs.rows_trait_lemmas.Runs.{ran_none}
+use Rattle.lean_proto.proofs.rows_trait.Runs.{ran_none}
 use Rattle.key_locks.proofs.Marking.{set_same, marked_at}
 use Rattle.key_locks.proofs.latches.Latches.latch.Goals as goal
 

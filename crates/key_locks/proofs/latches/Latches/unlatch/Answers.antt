@@ -3,7 +3,7 @@ use Rattle.std.proofs.lemmas.Bool.{cond-false}
 use Rattle.lean_proto.specs.row_words.declared.event.Event.TheVariants.{Miss}
 use Rattle.lean_proto.specs.rows_trait.Views.{held_at, without}
 use Rattle.key_locks.specs.Latching.{AreLatched}
-use Rattle.lean_proto.proofs.version_latch_lemmas.Keeping.{goes_ran, may_self}
+use Rattle.lean_proto.proofs.version_latch.Keeping.{goes_ran, may_self}
 use Rattle.key_locks.proofs.Marking.{marked_at, set_same, unmarking}
 use Rattle.key_locks.proofs.latches.Latches.unlatch.Goals as goal
 

@@ -15,7 +15,7 @@ use Rattle.page_provider.proofs.Parts.{keeps_shape}
 use Rattle.page_provider.proofs.Running.{disked_quiet, disked_then}
 use Rattle.page_provider.proofs.Savings.{if_err}
 use Rattle.page_provider.proofs.Mirrored.{mirrored_broken, mirrored_then}
-use Rattle.btree_descent.proofs.rows_trait_lemmas.Runs.{ran_none}
+use Rattle.btree_descent.proofs.rows_trait.Runs.{ran_none}
 use Rattle.page_provider.proofs.Framing.{framed_then, within_reads, within_then}
 use Rattle.page_provider.proofs.Unwritten.{reads_only, unsaved_then}
 use Rattle.page_provider.proofs.pager.Pager.bring.Goals as goal

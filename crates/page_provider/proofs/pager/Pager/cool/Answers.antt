@@ -13,7 +13,7 @@ use Rattle.page_provider.proofs.Keeping.{keeps_ran}
 use Rattle.page_provider.proofs.Parts.{keeps_shape}
 use Rattle.page_provider.proofs.Savings.{if_err}
 use Rattle.page_provider.proofs.Unlinks.{seen_sight}
-use Rattle.btree_descent.proofs.rows_trait_lemmas.Runs.{ran_none}
+use Rattle.btree_descent.proofs.rows_trait.Runs.{ran_none}
 use Rattle.page_provider.proofs.Mirrored.{cooled_saves, saves_after, saves_none, stopped_saves}
 use Rattle.page_provider.proofs.pager.Pager.cool.Goals as goal
 

@@ -1,7 +1,7 @@
 use Rattle.std.proofs.Common.{◌∙◌, sym, ap, subst}
 use Rattle.std.specs.Prelude.{IfOk}
 use Rattle.std.proofs.lemmas.Result.{IfErr-weaker}
-use Rattle.btree_descent.proofs.rows_trait_lemmas.Runs.{ran_none}
+use Rattle.btree_descent.proofs.rows_trait.Runs.{ran_none}
 use Rattle.page_provider.specs.Faults.{ColdCause, Faulted, IsAstray}
 use Rattle.page_provider.specs.Providers.{Provider}
 use Rattle.page_provider.specs.Refusals.{IsOfRow}

@@ -2,7 +2,7 @@ use Rattle.std.proofs.Common.{◌∙◌, ◌-◌, [], ◌∷◌, take, ap, subst
 use Rattle.btree_descent.specs.row_words.declared.event.Event.TheVariants.{Load}
 use Rattle.btree_descent.specs.rows_trait.Turns.{Ran}
 use Rattle.btree_descent.specs.rows_trait.Views.{Shape}
-use Rattle.btree_descent.proofs.rows_trait_lemmas.Runs.{ran_append}
+use Rattle.btree_descent.proofs.rows_trait.Runs.{ran_append}
 use Rattle.page_provider.specs.Providers.{Provider}
 use Rattle.page_provider.proofs.Coming.{can_fill_free, comes_within, empty_is, filled_free}
 use Rattle.page_provider.proofs.pager.Pager.fill_free_page.Goals as goal

@@ -4,7 +4,7 @@ use Rattle.page_model.specs.Page.{Page}
 use Rattle.btree_descent.specs.row_words.declared.event.Event.TheVariants.{Evict}
 use Rattle.btree_descent.specs.rows_trait.Turns.{Ran}
 use Rattle.btree_descent.specs.rows_trait.Views.{Shape}
-use Rattle.btree_descent.proofs.rows_trait_lemmas.Runs.{ran_append, ran_none}
+use Rattle.btree_descent.proofs.rows_trait.Runs.{ran_append, ran_none}
 use Rattle.page_moves.specs.Moves.{contents_of}
 use Rattle.page_provider.specs.Evicts.{HasStayed}
 use Rattle.page_provider.specs.Inside.{Missed}

@@ -2,7 +2,7 @@ use Rattle.std.proofs.Common.{[], ◌∷◌, length, ap, subst, arith}
 use Rattle.btree_descent.specs.row_words.declared.event.Event.TheVariants.{Rescue}
 use Rattle.btree_descent.specs.rows_trait.Turns.{Ran}
 use Rattle.btree_descent.specs.rows_trait.Views.{Shape}
-use Rattle.btree_descent.proofs.rows_trait_lemmas.Runs.{ran_append}
+use Rattle.btree_descent.proofs.rows_trait.Runs.{ran_append}
 use Rattle.page_provider.specs.Providers.{Provider}
 use Rattle.page_provider.proofs.Coming.{can_revive, entry_is, revived}
 use Rattle.page_provider.proofs.pager.Pager.rescue_free.Goals as goal

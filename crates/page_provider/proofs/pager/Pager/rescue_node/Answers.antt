@@ -3,7 +3,7 @@ use Rattle.std.proofs.lemmas.Result.{err_from_is_err_and}
 use Rattle.btree_descent.specs.row_words.declared.event.Event.TheVariants.{Rescue}
 use Rattle.btree_descent.specs.rows_trait.Turns.{Ran}
 use Rattle.btree_descent.specs.rows_trait.Views.{Shape, state}
-use Rattle.btree_descent.proofs.rows_trait_lemmas.Runs.{ran_append}
+use Rattle.btree_descent.proofs.rows_trait.Runs.{ran_append}
 use Rattle.page_provider.specs.Finds.{Halts, IsSeen, Naming}
 use Rattle.page_provider.specs.Providers.{Provider}
 use Rattle.page_provider.specs.declared.refusal.Refusal.{Refusal}

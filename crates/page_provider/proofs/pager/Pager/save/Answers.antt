@@ -3,7 +3,7 @@ use Rattle.std.proofs.lemmas.Result.{err_from_is_err_and}
 use Rattle.btree_descent.specs.row_words.declared.event.Event.TheVariants.{Save}
 use Rattle.btree_descent.specs.rows_trait.Turns.{Ran}
 use Rattle.btree_descent.specs.rows_trait.Views.{Shape}
-use Rattle.btree_descent.proofs.rows_trait_lemmas.Runs.{ran_append, ran_none}
+use Rattle.btree_descent.proofs.rows_trait.Runs.{ran_append, ran_none}
 use Rattle.held_rows.specs.Steps.{MissedUpTo}
 use Rattle.page_provider.specs.Evicts.{HasStayed}
 use Rattle.page_provider.specs.Inside.{Missed}

@@ -1,12 +1,12 @@
 use Rattle.std.proofs.Common.{◌≡◌, ◌∙◌, ◌*◌, ◌≤◌, IfErr, arith, ap, length, refl, subst, sym, true}
 use Rattle.lean_disk.specs.Moments.{Framed}
-use Rattle.page_calls.specs.Calls.{KeepsWithin}
-use Rattle.page_provider.specs.Disks.{Disked}
+use Rattle.desk_parts.specs.page_calls.Calls.{KeepsWithin}
+use Rattle.desk_parts.specs.page_provider.Disks.{Disked}
 use Rattle.paged_rows.specs.Paged.{paged}
 use Rattle.paged_rows.specs.Warms.{LostTo, ReadsUnlessSaved}
-use Rattle.btree_descent.specs.row_words.declared.given.Given.{Given}
-use Rattle.btree_descent.specs.row_words.Openings.{opening}
-use Rattle.session_state.specs.Opened.{plain_shape}
+use Rattle.desk_parts.specs.row_words.declared.given.Given.{Given}
+use Rattle.desk_parts.specs.row_words.Openings.{opening}
+use Rattle.desk_parts.specs.session_state.Opened.{plain_shape}
 use Rattle.paged_desks.specs.Machines.{pages, view_of}
 use Rattle.paged_desks.specs.declared.machine.PagedMachine.{PagedMachine}
 use Rattle.paged_desks.proofs.Breaking.{broken_by, broken_up}

@@ -1,6 +1,6 @@
 use Rattle.std.proofs.Common.{refl, inl, ◌∙◌, ◌+◌, ◌≤◌, arith, ap, sym, suc, ℕ, Option}
 use Rattle.lean_disk.specs.Story.{IsLawful}
-use Rattle.session_state.specs.declared.session.Session.{Session}
+use Rattle.desk_parts.specs.session_state.declared.session.Session.{Session}
 use Rattle.paged_desks.specs.Inside.{HasDone}
 use Rattle.paged_desks.specs.Parts.{IsLate}
 use Rattle.paged_desks.specs.declared.warming.Unwarmed.TheVariants as refused

@@ -1,6 +1,6 @@
 use Rattle.std.proofs.Common.{refl, subst, ℕ, ◌<◌, ◌≤◌, sym}
-use Rattle.session_desks.specs.Parts.{here, shape}
-use Rattle.session_desks.proofs.SeatLemmas.{turn_high, turn_low}
+use Rattle.desk_parts.specs.session_desks.Parts.{here, shape}
+use Rattle.desk_parts.proofs.session_desks.SeatLemmas.{turn_high, turn_low}
 use Rattle.paged_desks.specs.Machines.{view_of}
 use Rattle.paged_desks.proofs.Breaking.{not_synced}
 use Rattle.paged_desks.proofs.Syncing.{ready_synced, synced_is}

@@ -1,5 +1,5 @@
 use Rattle.std.proofs.Common.{arith}
-use Rattle.btree_descent.proofs.log_record_lemmas.SizeLemmas.{counted, size_range}
+use Rattle.btree_descent.proofs.log_record.SizeLemmas.{counted, size_range}
 use Rattle.row_sessions.proofs.drawing.DrawingDraw.stage.Goals as goal
 
 pub record_bytes-requires-clause-counted : goal.record_bytes-requires-clause-counted

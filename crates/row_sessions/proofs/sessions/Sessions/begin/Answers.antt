@@ -3,7 +3,7 @@ use Rattle.btree_descent.specs.rows_trait.Views.{state}
 use Rattle.row_sessions.specs.Standing.{AreSessions, IsOf}
 use Rattle.row_sessions.proofs.Standings.{shape_of, stands_then}
 use Rattle.row_sessions.proofs.Calls.{begin_after}
-use Rattle.btree_descent.proofs.lean_proto_lemmas.Turning.{every_begin}
+use Rattle.btree_descent.proofs.lean_proto.Turning.{every_begin}
 use Rattle.row_sessions.proofs.sessions.Sessions.begin.Goals as goal
 
 pub load_control-requires-clause-event : goal.load_control-requires-clause-event

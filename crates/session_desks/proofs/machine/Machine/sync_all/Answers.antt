@@ -1,6 +1,6 @@
 use Rattle.std.proofs.Common.{ℕ, refl, sym, ◌∙◌, subst}
 use Rattle.lean_disk.specs.Story.{IsLawful}
-use Rattle.disk_runs.specs.disk_slots.declared.master.Master.{Master}
+use Rattle.session_state.specs.disk_slots.declared.master.Master.{Master}
 use Rattle.session_desks.specs.Parts.{here, memory, shape}
 use Rattle.session_desks.specs.Runs.{memory_with}
 use Rattle.session_desks.specs.Desks.{log_of}

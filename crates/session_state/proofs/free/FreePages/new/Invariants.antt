@@ -1,6 +1,6 @@
 use Rattle.std.proofs.Common.{◌≡◌, ◌≤◌, ◌-◌, length, vec_capacity, vec_len}
 use Rattle.std.specs.Prelude.{reverse}
-use Rattle.core_calls.specs.Room.{frees_from}
+use Rattle.engine_calls.specs.core_calls.Room.{frees_from}
 use Rattle.session_state.specs.Free.{nodes_in}
 use Rattle.session_state.proofs.free.FreePages.new.Given as goal
 
