@@ -1,5 +1,5 @@
 -- Behind a call the engine stands in each run with one outcome more.
-use Rattle.std.proofs.Common.{◌≡◌, ◌⊎◌, inl, inr, ◌≤◌, ◌<◌, ◌-◌, ◌++◌, ℕ, suc, Bool, true, false, leb, eqb, List, [], ◌∷◌, length, set, Option, Some, None, refl, sym, ap, ◌∙◌, subst, arith, true≢false}
+use Rattle.std.proofs.Common.{◌≡◌, ◌⊎◌, inl, inr, ◌≤◌, ◌<◌, ◌-◌, ◌++◌, ℕ, suc, Bool, true, false, leb, eqb, List, [], ◌∷◌, length, set, Option, Some, None, refl, sym, ap, ◌∙◌, subst, arith, true≢false, Result, Ok}
 use Rattle.std.proofs.lemmas.Bool.{cases_Bool, cases_eq, cond-true, eq-eqb, leb-false}
 use Rattle.std.proofs.lemmas.List.{append_assoc, append_cancel_left, length_push}
 use Rattle.map_model.specs.Journals.{Name}
@@ -49,7 +49,6 @@ use Rattle.paged_scans.specs.paged_desks.Machines.{IsReady, memory, view_of}
 use Rattle.paged_scans.specs.paged_desks.declared.machine.PagedMachine.{PagedMachine}
 use Rattle.paged_scans.specs.Calls.{StandsAt}
 use Rattle.paged_scans.specs.declared.scans.Scan.{Scan}
-use Rattle.buffered_engine.specs.Calls.{MayBe}
 use Rattle.buffered_engine.specs.Inside.Asks.{FindsFlushed, IsEndOf, IsEnding, WasFlushed, ends_in, is_commit_in, put_ends}
 use Rattle.buffered_engine.specs.Inside.Parts.{state_by}
 use Rattle.buffered_engine.specs.Inside.Scans.{scan_behind}
@@ -61,6 +60,8 @@ use Rattle.buffered_engine.proofs.DeedLemmas.{Begins, Ends, Neither, Sort, confl
 use Rattle.buffered_engine.proofs.OpenMarks.{open_after, open_other, open_own}
 use Rattle.buffered_engine.proofs.ScanLemmas.{goes_on}
 use Rattle.buffered_engine.proofs.SeenLemmas.{all_seen, core_is, events_seen}
+use Rattle.paged_scans.specs.engine_trait.declared.unserved.Unanswered.{Unanswered}
+use Rattle.paged_scans.specs.engine_trait.Calls.{HasCome}
 
 -- ## Sessions that are open
 
@@ -105,14 +106,14 @@ begun_room a k b q waits e m h = subst (λ (p : Answer). HasRoom (behind_answer 
 
 -- ## Queues
 
-other_queue : (o : Option Receipt) (a : Answer) (qs : List (List End)) (own w : ℕ) → ((r : Receipt) → o ≡ Some r → r.log ≡ own) → 0 < own → 0 < w → (w ≡ own → ⊥) → queue_of (put_ends o a qs) w ≡ queue_of qs w
+other_queue : (o : Option Receipt) (a : Result Answer Unanswered) (qs : List (List End)) (own w : ℕ) → ((r : Receipt) → o ≡ Some r → r.log ≡ own) → 0 < own → 0 < w → (w ≡ own → ⊥) → queue_of (put_ends o a qs) w ≡ queue_of qs w
 other_queue None a qs own w l z y n = refl
 other_queue (Some r) a qs own w l z y n = let e = l r refl in queue_set_other qs r.log w _ (omega arith) y (λ q. n (q ∙ e))
 
-same_queue : (o : Option Receipt) (a : Answer) (qs : List (List End)) (w : ℕ) → o ≡ None → queue_of (put_ends o a qs) w ≡ queue_of qs w
+same_queue : (o : Option Receipt) (a : Result Answer Unanswered) (qs : List (List End)) (w : ℕ) → o ≡ None → queue_of (put_ends o a qs) w ≡ queue_of qs w
 same_queue o a qs w e = ap (λ (p : Option Receipt). queue_of (put_ends p a qs) w) e
 
-longer_queue : (o : Option Receipt) (a : Answer) (qs : List (List End)) (w : ℕ) (r : Receipt) → o ≡ Some r → r.log ≡ w → 0 < w → w ≤ length qs → length (queue_of (put_ends o a qs) w) ≡ suc (length (queue_of qs w))
+longer_queue : (o : Option Receipt) (a : Result Answer Unanswered) (qs : List (List End)) (w : ℕ) (r : Receipt) → o ≡ Some r → r.log ≡ w → 0 < w → w ≤ length qs → length (queue_of (put_ends o a qs) w) ≡ suc (length (queue_of qs w))
 longer_queue o a qs w r e l z h =
     let x : End = record { txn = r.txn; gsn = r.gsn; need = r.need; is_commit = is_commit_in a } in
     ap (λ (p : Option Receipt). length (queue_of (put_ends p a qs) w)) e
@@ -134,21 +135,21 @@ has_event own f [] h = h
 has_event own f (e ∷ es) (inl q) = inl (ap event_of q)
 has_event own f (e ∷ es) (inr h) = inr (has_event own f es h)
 
-pub commit_flushed : (a : Answer) (own : ℕ) (v w : View) (f : ℕ) → is_commit_in a ≡ true → WasFlushed a own v w f → f ≡ flushed_in v
-commit_flushed (answer.Committed n at) own v w f k h = h
+pub commit_flushed : (a : Result Answer Unanswered) (own : ℕ) (v w : View) (f : ℕ) → is_commit_in a ≡ true → WasFlushed a own v w f → f ≡ flushed_in v
+commit_flushed (Ok (answer.Committed n at)) own v w f k h = h
 commit_flushed _ own v w f k h = absurd (true≢false (sym k))
 
-abort_flushed : (a : Answer) (own : ℕ) (v w : View) (f : ℕ) → ends_in a ≡ true → is_commit_in a ≡ false → WasFlushed a own v w f → FindsFlushed own f v w
-abort_flushed (answer.Committed n at) own v w f k l h = absurd (true≢false l)
-abort_flushed (answer.Aborted n) own v w f k l h = h
+abort_flushed : (a : Result Answer Unanswered) (own : ℕ) (v w : View) (f : ℕ) → ends_in a ≡ true → is_commit_in a ≡ false → WasFlushed a own v w f → FindsFlushed own f v w
+abort_flushed (Ok (answer.Committed n at)) own v w f k l h = absurd (true≢false l)
+abort_flushed (Ok (answer.Aborted n)) own v w f k l h = h
 abort_flushed _ own v w f k l h = absurd (true≢false (sym k))
 
 -- ## An outcome more
 
 module _ {D : Type 0} (reached : EveryReached) (outcome : EveryOutcome) (rises : EveryRise) (m n : PagedMachine D) (next next_new : Next) (scan scan_new : Scan) (ends ends_new : List (List End)) (own : ℕ) (c : Call) (a : Answer) (receipt : Option Receipt) (old new : Story)
-    (same : AreAsMany m.machine n.machine) (may : MayBe m.machine.work.session.workers a) (ended_is : IsEndOf own (view_of m) (view_of n) a receipt)
-    (ends_are : ends_new ≡ put_ends receipt a ends) (next_is : next_new ≡ behind_answer a) (turn : is_last a ≡ false → n.machine.work.session.own ≡ own)
-    (scan_first : Scan) (scan_is : scan_new ≡ scan_behind a scan_first) (of_scan : (key value : ℕ) → a ≡ answer.Pair key value → c ≡ call.Scan scan_first.from scan_first.to) where
+    (same : AreAsMany m.machine n.machine) (may : HasCome m.machine.work.session.workers a) (ended_is : IsEndOf own (view_of m) (view_of n) (Ok a) receipt)
+    (ends_are : ends_new ≡ put_ends receipt (Ok a) ends) (next_is : next_new ≡ behind_answer a) (turn : is_last a ≡ false → n.machine.work.session.own ≡ own)
+    (scan_first : Scan) (scan_is : scan_new ≡ scan_behind (Ok a) scan_first) (of_scan : (key value : ℕ) → a ≡ answer.Pair key value → c ≡ call.Scan scan_first.from scan_first.to) where
   abbrev was : State D
   was = state_by m next scan ends
 
@@ -178,15 +179,15 @@ module _ {D : Type 0} (reached : EveryReached) (outcome : EveryOutcome) (rises :
     worker f = ap (λ (s : core.State). f (s.worker own)) (core_is g was.group (x ∷ xs) w (memory n) d.tied reached) ∙ ap (λ (k : ℕ). f (now.worker k)) (sym d.does.session)
 
     module _ (r : Receipt) (e : receipt ≡ Some r) where
-      abbrev i : IsEnding own v w a r
+      abbrev i : IsEnding own v w (Ok a) r
       i = ended_is.ended r e
 
-      commits : is_commit_in a ≡ true → IsOfOutcome g xs x r
+      commits : is_commit_in (Ok a) ≡ true → IsOfOutcome g xs x r
       commits k = record {
         txn = i.is.txn ∙ worker (λ (b : core.Worker). b.txn);
         log = i.is.log ∙ sym d.does.session;
         gsn = i.is.gsn ∙ worker (λ (b : core.Worker). b.end);
-        need = i.is.need ∙ (ap (λ (f : ℕ). need_of ((state w).core.worker own).debt f) (commit_flushed a own v w i.flushed k i.was ∙ all_seen g was.group xs v (memory m) run.tied reached)
+        need = i.is.need ∙ (ap (λ (f : ℕ). need_of ((state w).core.worker own).debt f) (commit_flushed (Ok a) own v w i.flushed k i.was ∙ all_seen g was.group xs v (memory m) run.tied reached)
             ∙ ap (λ (b : ℕ). need_of b (core.flushed_by_all g (state_after g (front xs)))) (worker (λ (b : core.Worker). b.debt)));
       }
 
@@ -211,23 +212,23 @@ module _ {D : Type 0} (reached : EveryReached) (outcome : EveryOutcome) (rises :
       has_end : FindsFlushed own i.flushed v w → Has (Event.End x.outcome.session false i.flushed) x.events
       has_end f = subst (λ (k : ℕ). Has (Event.End k false i.flushed) x.events) (sym d.does.session) (subst (λ (es : List Event). Has (Event.End own false i.flushed) es) (own_events f) (has_event own i.flushed f.events f.has))
 
-      by : ends_by x.outcome.deed ≡ Some (is_commit_in a)
+      by : ends_by x.outcome.deed ≡ Some (is_commit_in (Ok a))
       by = ended x a d.does.answer_is (ended_is.some r e)
 
-      pushed_is : (b : Bool) → is_commit_in a ≡ b → Tracks g now names (pushed r b ends)
+      pushed_is : (b : Bool) → is_commit_in (Ok a) ≡ b → Tracks g now names (pushed r b ends)
       pushed_is true k = laws.ends true (by ∙ ap Some k) (λ q. absurd (true≢false q)) r (commits k)
-      pushed_is false k = abort_tracks rises limits g was.group xs x names ends told.1 run.tracks (by ∙ ap Some k) i.flushed (has_end (abort_flushed a own v w i.flushed (ended_is.some r e) k i.was)) r aborts
+      pushed_is false k = abort_tracks rises limits g was.group xs x names ends told.1 run.tracks (by ∙ ap Some k) i.flushed (has_end (abort_flushed (Ok a) own v w i.flushed (ended_is.some r e) k i.was)) r aborts
 
-    tracks : Tracks g now names (put_ends receipt a ends)
+    tracks : Tracks g now names (put_ends receipt (Ok a) ends)
     tracks = go (came receipt)
       where
-        go : Came receipt → Tracks g now names (put_ends receipt a ends)
-        go (Nothing e) = subst (λ (o : Option Receipt). Tracks g now names (put_ends o a ends)) (sym e) (laws.others (unended x a d.does.answer_is (ended_is.none e)))
-        go (Receipt_is r e) = subst (λ (o : Option Receipt). Tracks g now names (put_ends o a ends)) (sym e) (pushed_is r e (is_commit_in a) refl)
+        go : Came receipt → Tracks g now names (put_ends receipt (Ok a) ends)
+        go (Nothing e) = subst (λ (o : Option Receipt). Tracks g now names (put_ends o (Ok a) ends)) (sym e) (laws.others (unended x a d.does.answer_is (ended_is.none e)))
+        go (Receipt_is r e) = subst (λ (o : Option Receipt). Tracks g now names (put_ends o (Ok a) ends)) (sym e) (pushed_is r e (is_commit_in (Ok a)) refl)
 
     -- a scan goes on behind the pair that it told
     scanning : ((key value : ℕ) → a ≡ answer.Pair key value → StandsAt own scan_first g xs) → (key value : ℕ) → a ≡ answer.Pair key value → GoesOnAt is.turn scan_new g (x ∷ xs)
-    scanning stands key value e = subst (λ (q : ℕ × Scan). GoesOnAt q.0 q.1 g (x ∷ xs)) (λ i. (sym (turn (ap is_last e)) i, sym (scan_is ∙ ap (λ (b : Answer). scan_behind b scan_first) e) i))
+    scanning stands key value e = subst (λ (q : ℕ × Scan). GoesOnAt q.0 q.1 g (x ∷ xs)) (λ i. (sym (turn (ap is_last e)) i, sym (scan_is ∙ ap (λ (b : Answer). scan_behind (Ok b) scan_first) e) i))
         (goes_on own scan_first g xs x key value (stands key value e) d.does.session (d.does.asked_is ∙ of_scan key value e) (d.does.answer_is ∙ e))
 
     pub in_run_behind : ((key value : ℕ) → a ≡ answer.Pair key value → StandsAt own scan_first g xs) → InRun is g (x ∷ xs) names
@@ -247,7 +248,7 @@ module _ {D : Type 0} (reached : EveryReached) (outcome : EveryOutcome) (rises :
   module _ (story : D → Story) (ready : IsReady story m) (ready_new : IsReady story n)
       (stood : HasRun was) (d : DoesTied stood.opening was.group stood.done own c a (memory m) n old new)
       (stands : (key value : ℕ) → a ≡ answer.Pair key value → StandsAt own scan_first stood.opening stood.done)
-      (some : ends_in a ≡ true → 0 < own)
+      (some : ends_in (Ok a) ≡ true → 0 < own)
       (room : (u : ℕ) → 0 < u → u ≤ stood.opening.workers → Room (desk_of was.work was.desks u).session.is_open (length (queue_of ends u)))
       (settled : (k : ℕ) → a ≡ answer.Begun k → length (queue_of ends own) ≡ waiting stood.opening (state_after stood.opening (front stood.done)) own) where
     abbrev g : Opening
@@ -288,73 +289,73 @@ module _ {D : Type 0} (reached : EveryReached) (outcome : EveryOutcome) (rises :
     told_of = (d.tied.ties 0).told
 
     -- an end was open before
-    open_before : ends_in a ≡ true → (s.worker own).is_open ≡ true
+    open_before : ends_in (Ok a) ≡ true → (s.worker own).is_open ≡ true
     open_before e = ap (λ (k : ℕ). (s.worker k).is_open) (sym d.does.session)
-        ∙ end_open g stood.done y ((memory m).log y.outcome.session) d.does.happens.how told_of.1.hindered (subst (λ (b : Answer). ends_in b ≡ true) (sym d.does.answer_is) e)
+        ∙ end_open g stood.done y ((memory m).log y.outcome.session) d.does.happens.how told_of.1.hindered (subst (λ (b : Answer). ends_in (Ok b) ≡ true) (sym d.does.answer_is) e)
 
-    unended_queue : ends_in a ≡ false → (u : ℕ) → queue_of (put_ends receipt a ends) u ≡ queue_of ends u
+    unended_queue : ends_in (Ok a) ≡ false → (u : ℕ) → queue_of (put_ends receipt (Ok a) ends) u ≡ queue_of ends u
     unended_queue e u = go (came receipt)
       where
-        go : Came receipt → queue_of (put_ends receipt a ends) u ≡ queue_of ends u
-        go (Nothing q) = same_queue receipt a ends u q
+        go : Came receipt → queue_of (put_ends receipt (Ok a) ends) u ≡ queue_of ends u
+        go (Nothing q) = same_queue receipt (Ok a) ends u q
         go (Receipt_is r q) = absurd (true≢false (sym (ended_is.some r q) ∙ e))
 
     -- a desk of another session is as open as before, and its queue is as long
-    other_length : (u : ℕ) → 0 < u → (u ≡ own → ⊥) → length (queue_of (put_ends receipt a ends) u) ≡ length (queue_of ends u)
-    other_length u low k = elim (cases_Bool (ends_in a)) [
-      | inl e ↦ ap length (other_queue receipt a ends own u of_own (some e) low k)
+    other_length : (u : ℕ) → 0 < u → (u ≡ own → ⊥) → length (queue_of (put_ends receipt (Ok a) ends) u) ≡ length (queue_of ends u)
+    other_length u low k = elim (cases_Bool (ends_in (Ok a))) [
+      | inl e ↦ ap length (other_queue receipt (Ok a) ends own u of_own (some e) low k)
       | inr e ↦ ap length (unended_queue e u)
     ]
 
-    other_room : (u : ℕ) → 0 < u → u ≤ g.workers → (u ≡ own → ⊥) → HasRoom (behind_answer a) (second u).session.is_open (length (queue_of (put_ends receipt a ends) u)) (waiting g t u)
+    other_room : (u : ℕ) → 0 < u → u ≤ g.workers → (u ≡ own → ⊥) → HasRoom (behind_answer a) (second u).session.is_open (length (queue_of (put_ends receipt (Ok a) ends) u)) (waiting g t u)
     other_room u low high k =
         let r = room u low high in
         let q = other_length u low k in
         let o = is_open u low high ∙ (open_other limits g was.group stood.done y told_of.1 u (λ e. k (e ∙ d.does.session)) ∙ sym (was_open u low high)) in
-        has_room (behind_answer a) (second u).session.is_open (length (queue_of (put_ends receipt a ends) u)) (waiting g t u) (let l = r.most in omega arith)
+        has_room (behind_answer a) (second u).session.is_open (length (queue_of (put_ends receipt (Ok a) ends) u)) (waiting g t u) (let l = r.most in omega arith)
         (λ e. let l = r.more (sym o ∙ e) in omega arith)
 
-    ended_queue : ends_in a ≡ true → 0 < own → own ≤ g.workers → length (queue_of (put_ends receipt a ends) own) ≡ suc (length (queue_of ends own))
+    ended_queue : ends_in (Ok a) ≡ true → 0 < own → own ≤ g.workers → length (queue_of (put_ends receipt (Ok a) ends) own) ≡ suc (length (queue_of ends own))
     ended_queue e low high = go (came receipt)
       where
-        go : Came receipt → length (queue_of (put_ends receipt a ends) own) ≡ suc (length (queue_of ends own))
+        go : Came receipt → length (queue_of (put_ends receipt (Ok a) ends) own) ≡ suc (length (queue_of ends own))
         go (Nothing q) = absurd (true≢false (sym e ∙ ended_is.none q))
-        go (Receipt_is r q) = longer_queue receipt a ends own r q (of_own r q) low (subst (λ (k : ℕ). own ≤ k) (sym queues) high)
+        go (Receipt_is r q) = longer_queue receipt (Ok a) ends own r q (of_own r q) low (subst (λ (k : ℕ). own ≤ k) (sym queues) high)
 
     own_open : 0 < own → own ≤ g.workers → (second own).session.is_open ≡ open_after y.outcome.deed (first own).session.is_open
     own_open low high = is_open own low high ∙ (open_own limits g was.group stood.done y told_of.1 own (sym d.does.session) ∙ sym (ap (open_after y.outcome.deed) (was_open own low high)))
 
-    own_room : 0 < own → own ≤ g.workers → HasRoom (behind_answer a) (second own).session.is_open (length (queue_of (put_ends receipt a ends) own)) (waiting g t own)
+    own_room : 0 < own → own ≤ g.workers → HasRoom (behind_answer a) (second own).session.is_open (length (queue_of (put_ends receipt (Ok a) ends) own)) (waiting g t own)
     own_room low high = go (sort y.outcome.deed)
       where
         r : Room (first own).session.is_open (length (queue_of ends own))
         r = room own low high
 
-        go : Sort y.outcome.deed → HasRoom (behind_answer a) (second own).session.is_open (length (queue_of (put_ends receipt a ends) own)) (waiting g t own)
+        go : Sort y.outcome.deed → HasRoom (behind_answer a) (second own).session.is_open (length (queue_of (put_ends receipt (Ok a) ends) own)) (waiting g t own)
         go (Begins k e) =
             let begun = sym d.does.answer_is ∙ ap answered e in
-            let q = ap length (unended_queue (ap ends_in begun) own) in
+            let q = ap length (unended_queue (ap (λ (b : Answer). ends_in (Ok b)) begun) own) in
             let l = r.most in
-            begun_room a k (second own).session.is_open (length (queue_of (put_ends receipt a ends) own)) (waiting g t own) begun (omega arith)
+            begun_room a k (second own).session.is_open (length (queue_of (put_ends receipt (Ok a) ends) own)) (waiting g t own) begun (omega arith)
             (λ o. elim (cases_Bool (leb 256 (waiting g s own))) [
               | inl long ↦ inr ((omega arith), none_wait_behind g was.group stood.done y k told_of.1 e (subst (λ (j : ℕ). leb 256 (waiting g s j) ≡ true) (sym d.does.session) long) own)
               | inr short ↦ inl (let f = leb-false 256 (waiting g s own) short in let z = settled k begun in omega arith)
             ])
         go (Ends e b) =
-            let k = subst (λ (p : Answer). ends_in p ≡ true) d.does.answer_is e in
+            let k = subst (λ (p : Answer). ends_in (Ok p) ≡ true) d.does.answer_is e in
             let q = ended_queue k low high in
             let l = r.more (was_open own low high ∙ open_before k) in
-            has_room (behind_answer a) (second own).session.is_open (length (queue_of (put_ends receipt a ends) own)) (waiting g t own) (omega arith)
+            has_room (behind_answer a) (second own).session.is_open (length (queue_of (put_ends receipt (Ok a) ends) own)) (waiting g t own) (omega arith)
             (λ o. absurd (true≢false (sym o ∙ (own_open low high ∙ b (first own).session.is_open))))
         go (Neither e b) =
-            let q = ap length (unended_queue (subst (λ (p : Answer). ends_in p ≡ false) d.does.answer_is e) own) in
+            let q = ap length (unended_queue (subst (λ (p : Answer). ends_in (Ok p) ≡ false) d.does.answer_is e) own) in
             let l = r.most in
-            has_room (behind_answer a) (second own).session.is_open (length (queue_of (put_ends receipt a ends) own)) (waiting g t own) (omega arith)
+            has_room (behind_answer a) (second own).session.is_open (length (queue_of (put_ends receipt (Ok a) ends) own)) (waiting g t own) (omega arith)
             (λ o. let f = r.more (sym (own_open low high ∙ b (first own).session.is_open) ∙ o) in omega arith)
 
-    each_room : (u : ℕ) → 0 < u → u ≤ g.workers → HasRoom (behind_answer a) (second u).session.is_open (length (queue_of (put_ends receipt a ends) u)) (waiting g t u)
+    each_room : (u : ℕ) → 0 < u → u ≤ g.workers → HasRoom (behind_answer a) (second u).session.is_open (length (queue_of (put_ends receipt (Ok a) ends) u)) (waiting g t u)
     each_room u low high = elim (cases_eq u own) [
-      | inl e ↦ subst (λ (k : ℕ). HasRoom (behind_answer a) (second k).session.is_open (length (queue_of (put_ends receipt a ends) k)) (waiting g t k)) (sym e) (own_room (omega arith) (omega arith))
+      | inl e ↦ subst (λ (k : ℕ). HasRoom (behind_answer a) (second k).session.is_open (length (queue_of (put_ends receipt (Ok a) ends) k)) (waiting g t k)) (sym e) (own_room (omega arith) (omega arith))
       | inr k ↦ other_room u low high k
     ]
 

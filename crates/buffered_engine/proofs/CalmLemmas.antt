@@ -1,5 +1,5 @@
 -- When a take finds none of the ends: behind a call, and behind a take.
-use Rattle.std.proofs.Common.{◌≡◌, ◌≤◌, ◌<◌, ◌-◌, ℕ, suc, List, length, get_or, take, Option, Some, None, refl, sym, ◌∙◌, subst, arith}
+use Rattle.std.proofs.Common.{◌≡◌, ◌≤◌, ◌<◌, ◌-◌, ℕ, suc, List, length, get_or, take, Option, Some, None, refl, sym, ◌∙◌, subst, arith, Result}
 use Rattle.std.proofs.lemmas.Grind.{same_number_lists}
 use Rattle.std.proofs.lemmas.List.{length-take-le}
 use Rattle.map_model.specs.declared.call.Answer.{Answer}
@@ -11,14 +11,15 @@ use Rattle.paged_scans.specs.worker_log.Logs.{Log}
 use Rattle.buffered_engine.specs.Inside.Asks.{AreNumbers, put_ends}
 use Rattle.buffered_engine.specs.Inside.Calm.{AreSame, IsCalm, IsStill, calm_behind}
 use Rattle.buffered_engine.proofs.TakeLemmas.{flushed_take}
+use Rattle.paged_scans.specs.engine_trait.declared.unserved.Unanswered.{Unanswered}
 
 -- behind a call
-calm_put : (calm : Option (List ℕ)) (receipt : Option Receipt) (a : Answer) (logs now : ℕ) (ends : List (List End)) → now ≡ logs → IsCalm calm logs ends → IsCalm (calm_behind calm receipt) now (put_ends receipt a ends)
+calm_put : (calm : Option (List ℕ)) (receipt : Option Receipt) (a : Result Answer Unanswered) (logs now : ℕ) (ends : List (List End)) → now ≡ logs → IsCalm calm logs ends → IsCalm (calm_behind calm receipt) now (put_ends receipt a ends)
 calm_put calm None a logs now ends e h = subst (λ (n : ℕ). IsCalm calm n ends) (sym e) h
 calm_put calm (Some r) a logs now ends e h = tt
 
 -- so behind it, by what is in memory then
-pub calm_behind_put : (calm calm_new : Option (List ℕ)) (receipt : Option Receipt) (a : Answer) (logs now : ℕ) (ends ends_new : List (List End)) → calm_new ≡ calm_behind calm receipt → ends_new ≡ put_ends receipt a ends → now ≡ logs → IsCalm calm logs ends → IsCalm calm_new now ends_new
+pub calm_behind_put : (calm calm_new : Option (List ℕ)) (receipt : Option Receipt) (a : Result Answer Unanswered) (logs now : ℕ) (ends ends_new : List (List End)) → calm_new ≡ calm_behind calm receipt → ends_new ≡ put_ends receipt a ends → now ≡ logs → IsCalm calm logs ends → IsCalm calm_new now ends_new
 calm_behind_put calm calm_new receipt a logs now ends ends_new is are e h =
     subst (λ (o : Option (List ℕ)). IsCalm o now ends_new) (sym is) (subst (λ (qs : List (List End)). IsCalm (calm_behind calm receipt) now qs) (sym are) (calm_put calm receipt a logs now ends e h))
 

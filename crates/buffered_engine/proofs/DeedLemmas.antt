@@ -1,5 +1,5 @@
 -- What the answer of an outcome says: what may be asked next, whether a transaction was open, and whether it ended.
-use Rattle.std.proofs.Common.{◌≡◌, ◌^◌, inl, inr, ℕ, Bool, true, false, cond, List, [], ◌∷◌, Option, Some, None, leb, refl, sym, ap, ◌∙◌, subst, true≢false}
+use Rattle.std.proofs.Common.{◌≡◌, ◌^◌, inl, inr, ℕ, Bool, true, false, cond, List, [], ◌∷◌, Option, Some, None, leb, refl, sym, ap, ◌∙◌, subst, true≢false, Ok}
 use Rattle.std.proofs.lemmas.Bool.{cases_Bool}
 use Rattle.map_model.specs.Pairings.{is_last}
 use Rattle.map_model.specs.declared.call.Answer.{Answer}
@@ -17,27 +17,26 @@ use Rattle.paged_scans.specs.core_calls.Runs.{Tells}
 use Rattle.paged_scans.specs.core_calls.Steps.{FollowsConflict, IsAnAbort, IsBehind, call_behind, due_call, hindered_in}
 use Rattle.paged_scans.specs.worker_log.Logs.{Log, limit, used}
 use Rattle.paged_scans.specs.call_parts.Deeds.{Answers}
-use Rattle.paged_scans.specs.engine_trait.Calls.{is_half_done}
+use Rattle.paged_scans.specs.engine_trait.Calls.{HasCome, is_half_done}
 use Rattle.paged_scans.specs.engine_trait.Limits.{limits}
 use Rattle.paged_scans.specs.engine_trait.Refusals.{IsMetOnWay, in_transaction, log_refusal, refusal_in}
 use Rattle.engine_front.specs.Turns.{IsNext, behind_answer, behind_last, is_conflict_in}
 use Rattle.group_commit.specs.Outcomes.{ends_by}
-use Rattle.buffered_engine.specs.Calls.{MayBe}
 use Rattle.buffered_engine.specs.Inside.Asks.{ends_in, is_commit_in}
 use Rattle.buffered_engine.specs.States.{IsSettled, WhereDue, WhereScanning}
 use Rattle.buffered_engine.proofs.OpenMarks.{open_after, open_own}
 
 -- ## What may be asked next
 
-next_of : (n : ℕ) (x : Done) (xs : List Done) (d : Deed) → x.outcome.deed ≡ d → MayBe n (answered d) → IsNext (behind_answer (answered d)) (x ∷ xs)
+next_of : (n : ℕ) (x : Done) (xs : List Done) (d : Deed) → x.outcome.deed ≡ d → HasCome n (answered d) → IsNext (behind_answer (answered d)) (x ∷ xs)
 next_of n x xs (Met from to k v alone) e m = record { newest = x; earlier = xs; are = refl; from = from; to = to; asked_is = ap asked e; more = ap (λ (d : Deed). is_last (answered d)) e; hindered = ap hindered_in e }
 next_of n x xs (Checkpointed at) e m = absurd m
 next_of n x xs (Refused c (refusal.Conflict h) backs) e m = record { newest = x; earlier = xs; are = refl; hindered = c; is = ap hindered_in e }
 next_of n x xs (Refused c why backs) e m = (ap hindered_in e, ap (λ (d : Deed). is_last (answered d)) e)
 next_of n x xs d e m = (ap hindered_in e, ap (λ (d : Deed). is_last (answered d)) e)
 
-pub next_behind : (n : ℕ) (x : Done) (xs : List Done) (a : Answer) → answered x.outcome.deed ≡ a → MayBe n a → IsNext (behind_answer a) (x ∷ xs)
-next_behind n x xs a e m = subst (λ (b : Answer). IsNext (behind_answer b) (x ∷ xs)) e (next_of n x xs x.outcome.deed refl (subst (MayBe n) (sym e) m))
+pub next_behind : (n : ℕ) (x : Done) (xs : List Done) (a : Answer) → answered x.outcome.deed ≡ a → HasCome n a → IsNext (behind_answer a) (x ∷ xs)
+next_behind n x xs a e m = subst (λ (b : Answer). IsNext (behind_answer b) (x ∷ xs)) e (next_of n x xs x.outcome.deed refl (subst (HasCome n) (sym e) m))
 
 pub due_behind : (a : Answer) (P : Type 0) → (is_conflict_in a ≡ true → P) → WhereDue (behind_answer a) P
 due_behind (answer.Pair key value) P h = tt
@@ -71,7 +70,7 @@ conflict_more a e = absurd (true≢false (sym e))
 
 -- ## Ends
 
-ended_of : (d : Deed) → ends_in (answered d) ≡ true → ends_by d ≡ Some (is_commit_in (answered d))
+ended_of : (d : Deed) → ends_in (Ok (answered d)) ≡ true → ends_by d ≡ Some (is_commit_in (Ok (answered d)))
 ended_of (Committed n at) e = refl
 ended_of (Aborted c n at backs) e = refl
 ended_of (Begun n) e = absurd (true≢false (sym e))
@@ -86,22 +85,22 @@ ended_of (Refused c why backs) e = absurd (true≢false (sym e))
 ended_of (Synced at) e = absurd (true≢false (sym e))
 ended_of (Checkpointed at) e = absurd (true≢false (sym e))
 
-pub ended : (x : Done) (a : Answer) → answered x.outcome.deed ≡ a → ends_in a ≡ true → ends_by x.outcome.deed ≡ Some (is_commit_in a)
-ended x a is e = subst (λ (b : Answer). ends_in b ≡ true → ends_by x.outcome.deed ≡ Some (is_commit_in b)) is (ended_of x.outcome.deed) e
+pub ended : (x : Done) (a : Answer) → answered x.outcome.deed ≡ a → ends_in (Ok a) ≡ true → ends_by x.outcome.deed ≡ Some (is_commit_in (Ok a))
+ended x a is e = subst (λ (b : Answer). ends_in (Ok b) ≡ true → ends_by x.outcome.deed ≡ Some (is_commit_in (Ok b))) is (ended_of x.outcome.deed) e
 
-unended_of : (d : Deed) → ends_in (answered d) ≡ false → ends_by d ≡ None
+unended_of : (d : Deed) → ends_in (Ok (answered d)) ≡ false → ends_by d ≡ None
 unended_of (Committed n at) e = absurd (true≢false e)
 unended_of (Aborted c n at backs) e = absurd (true≢false e)
 unended_of d e = refl
 
-pub unended : (x : Done) (a : Answer) → answered x.outcome.deed ≡ a → ends_in a ≡ false → ends_by x.outcome.deed ≡ None
-unended x a is e = subst (λ (b : Answer). ends_in b ≡ false → ends_by x.outcome.deed ≡ None) is (unended_of x.outcome.deed) e
+pub unended : (x : Done) (a : Answer) → answered x.outcome.deed ≡ a → ends_in (Ok a) ≡ false → ends_by x.outcome.deed ≡ None
+unended x a is e = subst (λ (b : Answer). ends_in (Ok b) ≡ false → ends_by x.outcome.deed ≡ None) is (unended_of x.outcome.deed) e
 
 -- a deed begins a transaction, ends one, or does neither
 pub data Sort (d : Deed) : Type 0 where
   Begins : (n : ℕ) → d ≡ Begun n → Sort d
-  Ends : ends_in (answered d) ≡ true → ((b : Bool) → open_after d b ≡ false) → Sort d
-  Neither : ends_in (answered d) ≡ false → ((b : Bool) → open_after d b ≡ b) → Sort d
+  Ends : ends_in (Ok (answered d)) ≡ true → ((b : Bool) → open_after d b ≡ false) → Sort d
+  Neither : ends_in (Ok (answered d)) ≡ false → ((b : Bool) → open_after d b ≡ b) → Sort d
 
 pub sort : (d : Deed) → Sort d
 sort (Begun n) = Begins n refl
@@ -149,7 +148,7 @@ data IsEnding (c : Call) : Type 0 where
   Commits : c ≡ call.Commit → IsEnding c
   Aborts : c ≡ call.Abort → IsEnding c
 
-ending_of : (ys : List Outcome) (x : Outcome) (d : Deed) → x.deed ≡ d → FollowsConflict ys x → ends_in (answered d) ≡ true → IsEnding (call_behind ys (asked d))
+ending_of : (ys : List Outcome) (x : Outcome) (d : Deed) → x.deed ≡ d → FollowsConflict ys x → ends_in (Ok (answered d)) ≡ true → IsEnding (call_behind ys (asked d))
 ending_of [] x (Committed n at) e f k = Commits refl
 ending_of [] x (Aborted c n at backs) e f k = Aborts (subst (λ (d : Deed). IsAnAbort d) e f)
 ending_of (y ∷ earlier) x (Committed n at) e f k = go (hindered_in y.deed) f
@@ -179,14 +178,14 @@ refused_shut g s own is_half_aborted log c (Commits e) closed = ap (refusal_in g
 refused_shut g s own is_half_aborted log c (Aborts e) closed = ap (refusal_in g s own is_half_aborted log) e ∙ shut s own false closed
 
 -- so what ended was open
-pub end_open : (g : Opening) (xs : List Done) (x : Done) (was : Log) (h : Answers g xs x was) → FollowsConflict (outcomes xs) x.outcome → ends_in (answered x.outcome.deed) ≡ true → ((state_after g (front xs)).worker x.outcome.session).is_open ≡ true
+pub end_open : (g : Opening) (xs : List Done) (x : Done) (was : Log) (h : Answers g xs x was) → FollowsConflict (outcomes xs) x.outcome → ends_in (Ok (answered x.outcome.deed)) ≡ true → ((state_after g (front xs)).worker x.outcome.session).is_open ≡ true
 end_open g xs x was h f k = elim (cases_Bool ((state_after g (front xs)).worker x.outcome.session).is_open) [
   | inl e ↦ e
   | inr e ↦ absurd (elim (h.refuses refusal.NoTransaction tt (refused_shut g (state_after g (front xs)) x.outcome.session (is_half_done x.outcome.session xs) was (call_behind (outcomes xs) (asked x.outcome.deed)) (ending_of (outcomes xs) x.outcome x.outcome.deed refl f k) e)) [
-    | inl q ↦ true≢false (sym k ∙ ap ends_in q)
+    | inl q ↦ true≢false (sym k ∙ ap (λ (b : Answer). ends_in (Ok b)) q)
     | inr o ↦ elim o [
-      | inl q ↦ true≢false (sym k ∙ ap ends_in q)
-      | inr q ↦ true≢false (sym k ∙ ap ends_in q)
+      | inl q ↦ true≢false (sym k ∙ ap (λ (b : Answer). ends_in (Ok b)) q)
+      | inr q ↦ true≢false (sym k ∙ ap (λ (b : Answer). ends_in (Ok b)) q)
     ]
   ])
 ]

@@ -6,7 +6,7 @@ use Rattle.map_model.specs.declared.call.Answer.{Answer}
 use Rattle.map_model.specs.declared.call.Answer.TheVariants as answer
 use Rattle.map_model.specs.declared.call.Call.{Call}
 use Rattle.map_model.specs.declared.call.Call.TheVariants as call
-use Rattle.map_model.specs.declared.call.Refusal.{Refusal}
+use Rattle.paged_scans.specs.engine_trait.declared.unserved.Unserved.{Unserved}
 use Rattle.paged_scans.specs.core_state.Openings.{Opening}
 use Rattle.paged_scans.specs.core_calls.Deeds.{Deed, Met, Outcome, answered, asked}
 use Rattle.paged_scans.specs.core_calls.Fronts.{Done, outcomes}
@@ -20,6 +20,8 @@ use Rattle.buffered_engine.specs.Calls.{IsTo}
 use Rattle.buffered_engine.specs.Inside.Asks.{OnAsked}
 use Rattle.buffered_engine.specs.Inside.Scans.{scan_behind, scan_of}
 use Rattle.buffered_engine.specs.States.{GoesOnAt}
+use Rattle.paged_scans.specs.engine_trait.declared.unserved.Unanswered.{Unanswered}
+use Rattle.paged_scans.specs.engine_trait.declared.unserved.Unserved.TheVariants as unserved
 
 -- ## Behind a pair
 
@@ -72,31 +74,34 @@ new_in from to low high = record { from = low; to = high; at = omega arith; low 
 -- ## What is asked, and what is answered
 
 -- a pair is told to a scan alone
-pub pair_asked : (c : Call) (x : Scan) (key value : ℕ) → IsTo c (answer.Pair key value) → c ≡ call.Scan (scan_of c x).from (scan_of c x).to
+pub pair_asked : (c : Call) (x : Scan) (key value : ℕ) → IsTo c (Ok (answer.Pair key value)) → c ≡ call.Scan (scan_of c x).from (scan_of c x).to
 pair_asked (call.Scan from to) x key value t = refl
 pair_asked c x key value t = absurd t
 
-pub pair_stands : (own : ℕ) (c : Call) (is_long : Bool) (x : Scan) (g : Opening) (xs : List Done) (key value : ℕ) → IsTo c (answer.Pair key value) → OnAsked own c is_long g xs → StandsAt own (scan_of c x) g xs
+pub pair_stands : (own : ℕ) (c : Call) (is_long : Bool) (x : Scan) (g : Opening) (xs : List Done) (key value : ℕ) → IsTo c (Ok (answer.Pair key value)) → OnAsked own c is_long g xs → StandsAt own (scan_of c x) g xs
 pair_stands own (call.Scan from to) is_long x g xs key value t on = stands_new own from to g xs on
 pair_stands own c is_long x g xs key value t on = absurd t
 
 -- a call that is no scan leaves the engine's as it is
-pub scan_kept : (c : Call) (a : Answer) (x : Scan) → IsTo c a → ((from to : ℕ) → c ≡ call.Scan from to → ⊥) → x ≡ scan_behind a (scan_of c x)
+pub scan_kept : (c : Call) (a : Result Answer Unanswered) (x : Scan) → IsTo c a → ((from to : ℕ) → c ≡ call.Scan from to → ⊥) → x ≡ scan_behind a (scan_of c x)
 scan_kept (call.Scan from to) a x t n = absurd (n from to refl)
-scan_kept c (answer.Pair key value) x t n = absurd t
+scan_kept c (Ok (answer.Pair key value)) x t n = absurd t
+scan_kept c (Err why) x t n = refl
 scan_kept c a x t n = refl
 
-pub step_is : (r : Result Step Refusal) (x : Scan) → step_behind r x ≡ scan_behind (step_answer r) x
+pub step_is : (r : Result Step Unserved) (x : Scan) → step_behind r x ≡ scan_behind (step_answer r) x
 step_is (Ok (step.Pair key value)) x = refl
 step_is (Ok (step.More from)) x = refl
 step_is (Ok step.End) x = refl
-step_is (Err why) x = refl
+step_is (Err (unserved.Refused why)) x = refl
+step_is (Err (unserved.Unanswered why)) x = refl
 
-pub is_step : (from to : ℕ) (r : Result Step Refusal) → IsTo (call.Scan from to) (step_answer r)
+pub is_step : (from to : ℕ) (r : Result Step Unserved) → IsTo (call.Scan from to) (step_answer r)
 is_step from to (Ok (step.Pair key value)) = tt
 is_step from to (Ok (step.More at)) = tt
 is_step from to (Ok step.End) = tt
-is_step from to (Err why) = tt
+is_step from to (Err (unserved.Refused why)) = tt
+is_step from to (Err (unserved.Unanswered why)) = tt
 
 -- ## Fewer pairs are left
 

@@ -1,5 +1,5 @@
 -- An engine's call: what it says, and what holds of the engine behind it.
-use Rattle.std.proofs.Common.{◌≡◌, ◌≤◌, ◌<◌, ℕ, Bool, true, false, leb, List, length, IfSome, refl, sym, ap, ◌∙◌, subst}
+use Rattle.std.proofs.Common.{◌≡◌, ◌≤◌, ◌<◌, ℕ, Bool, true, false, leb, List, length, IfSome, refl, sym, ap, ◌∙◌, subst, Result, Ok, not}
 use Rattle.map_model.specs.Pairings.{is_last}
 use Rattle.map_model.specs.declared.call.Answer.{Answer}
 use Rattle.map_model.specs.declared.call.Answer.TheVariants as answer
@@ -29,29 +29,30 @@ use Rattle.paged_scans.specs.paged_desks.declared.machine.PagedMachine.{PagedMac
 use Rattle.paged_scans.specs.Calls.{IsIn, StandsAt}
 use Rattle.paged_scans.specs.declared.scans.Scan.{Scan}
 use Rattle.buffered_engine.specs.Calls.{AbortsInRuns, Asked, AskedAbort, AskedScan, DoesInRuns, IsTo, ScansInRuns, TellsFewer}
-use Rattle.buffered_engine.specs.Inside.Asks.{IsDue, OnAsked, next_behind, put_ends}
+use Rattle.buffered_engine.specs.Inside.Asks.{IsDue, OnAsked, next_behind, put_ends, ends_line}
 use Rattle.buffered_engine.specs.Inside.Parts.{IsEngine, MachineWent, state_by}
 use Rattle.buffered_engine.specs.Inside.Scans.{scan_behind, scan_of}
 use Rattle.buffered_engine.specs.States.{HasRun, State, pairs_left}
 use Rattle.buffered_engine.specs.declared.ends.Response.{Response}
-use Rattle.buffered_engine.proofs.AskingLemmas.{aborts_in, asked_of, begun_of, due_of, end_room, few, going_of, in_runs, open_due, room_on_abort, room_on_line, room_on_scan, run_behind, scans_in, some_session}
+use Rattle.buffered_engine.proofs.AskingLemmas.{aborts_in, asked_of, begun_of, due_of, end_room, few, going_of, in_runs, open_due, room_on_abort, room_on_line, room_on_scan, run_behind, scans_in, some_session, ok_of}
 use Rattle.buffered_engine.proofs.CallLemmas.{went}
 use Rattle.buffered_engine.proofs.ScanLemmas.{fewer_left, pair_asked, pair_stands, scan_kept}
 use Rattle.buffered_engine.proofs.WentLemmas.{went_more}
+use Rattle.paged_scans.specs.engine_trait.declared.unserved.Unanswered.{Unanswered}
 
 no_scan : (b : Bool) → following.Scan ≡ behind_last b → ⊥
 no_scan true e = absurd (cc)
 no_scan false e = absurd (cc)
 
 module _ {D : Type 0} (reached : EveryReached) (outcome : EveryOutcome) (rises : EveryRise) (story : D → Story) (faults : D → ℕ) (m n : PagedMachine D) (next next_new : Next) (scan scan_new : Scan) (ends ends_new : List (List End)) (works : Works m.machine) (e : IsEngine story m next scan ends) (r : Response)
-    (next_is : next_new ≡ next_behind n.machine.work.session.works next r.answer) (ends_are : ends_new ≡ put_ends r.receipt r.answer ends) (within : IsIn scan_new) where
+    (next_is : next_new ≡ next_behind next r.answer) (ends_are : ends_new ≡ put_ends r.receipt r.answer ends) (within : IsIn scan_new) where
   abbrev was : State D
   was = state_by m next scan ends
 
   abbrev is : State D
   is = state_by n next_new scan_new ends_new
 
-  abbrev a : Answer
+  abbrev a : Result Answer Unanswered
   a = r.answer
 
   abbrev sessions : ℕ
@@ -69,14 +70,14 @@ module _ {D : Type 0} (reached : EveryReached) (outcome : EveryOutcome) (rises :
   -- ## On a line
 
   module _ (own : ℕ) (c : Call) (is_long : Bool) (line : next ≡ Line) (asked : IsAsked sessions own c) (long : c ≡ call.Begin → is_long ≡ leb waiting_ends (length (queue_of ends own)))
-      (turn : Works n.machine → is_last a ≡ false → n.machine.work.session.own ≡ own) (scan_is : scan_new ≡ scan_behind a (scan_of c scan)) (w : MachineWent story faults (OnAsked own c is_long) sessions own c r m n) where
-    pair_to : (key value : ℕ) → a ≡ answer.Pair key value → IsTo c (answer.Pair key value)
+      (turn : Works n.machine → ends_line a ≡ false → n.machine.work.session.own ≡ own) (scan_is : scan_new ≡ scan_behind a (scan_of c scan)) (w : MachineWent story faults (OnAsked own c is_long) sessions own c r m n) where
+    pair_to : (key value : ℕ) → a ≡ Ok (answer.Pair key value) → IsTo c (Ok (answer.Pair key value))
     pair_to key value q = subst (IsTo c) q w.to
 
-    of_scan : (key value : ℕ) → a ≡ answer.Pair key value → c ≡ call.Scan (scan_of c scan).from (scan_of c scan).to
+    of_scan : (key value : ℕ) → a ≡ Ok (answer.Pair key value) → c ≡ call.Scan (scan_of c scan).from (scan_of c scan).to
     of_scan key value q = pair_asked c scan key value (pair_to key value q)
 
-    stands : (g : Opening) (xs : List Done) → OnAsked own c is_long g xs → (key value : ℕ) → a ≡ answer.Pair key value → StandsAt own (scan_of c scan) g xs
+    stands : (g : Opening) (xs : List Done) → OnAsked own c is_long g xs → (key value : ℕ) → a ≡ Ok (answer.Pair key value) → StandsAt own (scan_of c scan) g xs
     stands g xs on key value q = pair_stands own c is_long scan g xs key value (pair_to key value q) on
 
     pub asked_went : Asked story own c a was is
@@ -116,10 +117,10 @@ module _ {D : Type 0} (reached : EveryReached) (outcome : EveryOutcome) (rises :
     seated : (0 < own) × (own ≤ sessions)
     seated = (turn_low (shape m.machine) (view_of m) (here m.machine) m.machine.desks.items (e.ready works).sound.desks, turn_high (shape m.machine) (view_of m) (here m.machine) m.machine.desks.items (e.ready works).sound.desks)
 
-    no_begin : (k : ℕ) → a ≡ answer.Begun k → ⊥
+    no_begin : (k : ℕ) → a ≡ Ok (answer.Begun k) → ⊥
     no_begin k q = subst (IsTo call.Abort) q w.to
 
-    no_pair : (key value : ℕ) → a ≡ answer.Pair key value → ⊥
+    no_pair : (key value : ℕ) → a ≡ Ok (answer.Pair key value) → ⊥
     no_pair key value q = subst (IsTo call.Abort) q w.to
 
     kept : scan_new ≡ scan_behind a scan
@@ -154,7 +155,7 @@ module _ {D : Type 0} (reached : EveryReached) (outcome : EveryOutcome) (rises :
     asker_low : 0 < asker
     asker_low = turn_low (shape m.machine) (view_of m) (here m.machine) m.machine.desks.items (e.ready works).sound.desks
 
-    none_begun : (k : ℕ) → a ≡ answer.Begun k → ⊥
+    none_begun : (k : ℕ) → a ≡ Ok (answer.Begun k) → ⊥
     none_begun k q = subst (IsTo (call.Scan scan.from scan.to)) q w.to
 
     pub scan_went : AskedScan story a was is
@@ -176,9 +177,11 @@ module _ {D : Type 0} (reached : EveryReached) (outcome : EveryOutcome) (rises :
 
     -- behind a pair it has one pair less to tell
     pub scan_fewer : Works n.machine → TellsFewer was is
-    scan_fewer q goes = go a (sym goes ∙ (next_is ∙ ap (λ (b : Bool). next_behind b next a) q)) scan_is
+    scan_fewer q goes =
+        let k = ok_of a (sym w.works ∙ q) in
+        go k.0 (sym goes ∙ (next_is ∙ ap (λ (b : Result Answer Unanswered). next_behind next b) k.1)) (scan_is ∙ ap (λ (b : Result Answer Unanswered). scan_behind b scan) k.1)
       where
-        go : (b : Answer) → following.Scan ≡ behind_answer b → scan_new ≡ scan_behind b scan → pairs_left scan_new < pairs_left scan
+        go : (b : Answer) → following.Scan ≡ behind_answer b → scan_new ≡ scan_behind (Ok b) scan → pairs_left scan_new < pairs_left scan
         go (answer.Pair key value) g k = fewer_left scan.met scan_new.met (ap (λ (x : Scan). x.met) k) within.met
         go (answer.Refused why) g k = absurd (no_scan (is_conflict why) g)
         go b g k = absurd (cc)

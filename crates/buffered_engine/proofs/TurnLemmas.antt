@@ -1,10 +1,9 @@
 -- What a call did behind a turn, it did before it.
-use Rattle.std.proofs.Common.{◌≡◌, ◌≤◌, ◌<◌, ◌++◌, ℕ, Bool, List, Some, slice_get, refl, sym, ap, ◌∙◌, subst, arith}
+use Rattle.std.proofs.Common.{◌≡◌, ◌≤◌, ◌<◌, ◌++◌, ℕ, Bool, List, Some, slice_get, refl, sym, ap, ◌∙◌, subst, arith, Result, Err}
 use Rattle.map_model.specs.declared.call.Answer.{Answer}
-use Rattle.map_model.specs.declared.call.Answer.TheVariants as answer
 use Rattle.map_model.specs.declared.call.Call.{Call}
 use Rattle.map_model.specs.declared.call.Call.TheVariants as call
-use Rattle.map_model.specs.declared.call.Refusal.TheVariants as refusal
+use Rattle.paged_scans.specs.engine_trait.declared.unserved.Unanswered.TheVariants as unanswered
 use Rattle.paged_scans.specs.core_state.Openings.{Opening}
 use Rattle.paged_scans.specs.core_state.Steps.{state_after}
 use Rattle.paged_scans.specs.core_calls.Deeds.{asked}
@@ -44,6 +43,7 @@ use Rattle.buffered_engine.specs.Inside.Asks.{IsEndOf, OnAsked}
 use Rattle.buffered_engine.specs.Inside.Parts.{IsTurned, MachineWent}
 use Rattle.buffered_engine.specs.declared.ends.Response.{Response}
 use Rattle.buffered_engine.proofs.CallLemmas.{comes_as}
+use Rattle.paged_scans.specs.engine_trait.declared.unserved.Unanswered.{Unanswered}
 
 -- ## Memory that is the same for each session
 
@@ -114,17 +114,17 @@ module _ {D : Type 0} (story : D → Story) (session : ℕ) (m n : PagedMachine 
   half_turned g xs e h w low high = h w low high ∙ sym (ap (λ (x : Session). x.is_half_aborted) (t.turned.session_of w low (subst (λ (k : ℕ). w ≤ k) e high)))
 
   module _ (low : 0 < session) (high : session ≤ many) (To : Opening → List Done → Type 0) (May : ℕ → Opening → List Done → Type 0) (to : (g : Opening) (xs : List Done) → To g xs → May session g xs) (c : Call) where
-    call_turned : (a : Answer) (k : PagedMachine D) → CallDoes story (May n.machine.work.session.own) n.machine.work.session.own c a n k → CallDoes story To session c a m k
-    call_turned a k h g xs same tied half may =
-        comes_as a
-        (DoesTied g n.machine.work.session.group xs n.machine.work.session.own c a (memory n) k (story n.machine.work.disk) (story k.machine.work.disk)) (DoesTied g m.machine.work.session.group xs session c a (memory m) k (story m.machine.work.disk) (story k.machine.work.disk))
+    call_turned : (r : Result Answer Unanswered) (k : PagedMachine D) → CallDoes story (May n.machine.work.session.own) n.machine.work.session.own c r n k → CallDoes story To session c r m k
+    call_turned r k h g xs same tied half may =
+        comes_as r
+        (λ a. DoesTied g n.machine.work.session.group xs n.machine.work.session.own c a (memory n) k (story n.machine.work.disk) (story k.machine.work.disk)) (λ a. DoesTied g m.machine.work.session.group xs session c a (memory m) k (story m.machine.work.disk) (story k.machine.work.disk))
         (Fails g n.machine.work.session.group xs n.machine.work.session.own c (memory n) (story n.machine.work.disk) (story k.machine.work.disk)) (Fails g m.machine.work.session.group xs session c (memory m) (story m.machine.work.disk) (story k.machine.work.disk))
         (StandsNot g n.machine.work.session.group xs (memory n) (story n.machine.work.disk)) (StandsNot g m.machine.work.session.group xs (memory m) (story m.machine.work.disk))
         does fails never
         (h g xs (same ∙ sym t.turned.workers) (tied_turned g xs same tied) (half_turned g xs same half) (subst (λ (w : ℕ). May w g xs) (sym t.turned.own) (to g xs may)))
       where
-        does : DoesTied g n.machine.work.session.group xs n.machine.work.session.own c a (memory n) k (story n.machine.work.disk) (story k.machine.work.disk) → DoesTied g m.machine.work.session.group xs session c a (memory m) k (story m.machine.work.disk) (story k.machine.work.disk)
-        does x = go (subst (λ (q : ℕ × (ℕ × D)). DoesTied g q.0 xs q.1.0 c a (memory n) k (story q.1.1) (story k.machine.work.disk)) (λ i. (t.group i, (t.turned.own i, t.disk i))) x)
+        does : (a : Answer) → DoesTied g n.machine.work.session.group xs n.machine.work.session.own c a (memory n) k (story n.machine.work.disk) (story k.machine.work.disk) → DoesTied g m.machine.work.session.group xs session c a (memory m) k (story m.machine.work.disk) (story k.machine.work.disk)
+        does a x = go (subst (λ (q : ℕ × (ℕ × D)). DoesTied g q.0 xs q.1.0 c a (memory n) k (story q.1.1) (story k.machine.work.disk)) (λ i. (t.group i, (t.turned.own i, t.disk i))) x)
           where
             go : DoesTied g m.machine.work.session.group xs session c a (memory n) k (story m.machine.work.disk) (story k.machine.work.disk) → DoesTied g m.machine.work.session.group xs session c a (memory m) k (story m.machine.work.disk) (story k.machine.work.disk)
             go d = record {
@@ -154,7 +154,7 @@ module _ {D : Type 0} (story : D → Story) (session : ℕ) (m n : PagedMachine 
       session = (w.session.0 ∙ t.turned.workers, w.session.1 ∙ t.group);
       works = w.works;
       not_broken = w.not_broken;
-      cause_disk_fault = subst (λ (d : D). HasCause (faults d) (faults k.machine.work.disk) (r.answer ≡ answer.Refused refusal.DiskFault)) t.disk w.cause_disk_fault;
+      cause_disk_fault = subst (λ (d : D). HasCause (faults d) (faults k.machine.work.disk) (r.answer ≡ Err unanswered.DiskFault)) t.disk w.cause_disk_fault;
     }
 
   -- the machine is as between two calls still

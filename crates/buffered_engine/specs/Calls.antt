@@ -5,8 +5,9 @@ use Rattle.map_model.specs.declared.call.Answer.{Answer}
 use Rattle.map_model.specs.declared.call.Answer.TheVariants as answer
 use Rattle.map_model.specs.declared.call.Call.{Call}
 use Rattle.map_model.specs.declared.call.Call.TheVariants as call
-use Rattle.map_model.specs.declared.call.Refusal.{Refusal}
-use Rattle.map_model.specs.declared.call.Refusal.TheVariants as refusal
+use Rattle.paged_scans.specs.engine_trait.declared.unserved.Unanswered.{Unanswered}
+use Rattle.paged_scans.specs.engine_trait.declared.unserved.Unanswered.TheVariants as unanswered
+use Rattle.paged_scans.specs.engine_trait.declared.unserved.Unserved.{Unserved}
 use Rattle.paged_scans.specs.core_state.Openings.{Opening}
 use Rattle.paged_scans.specs.core_calls.Deeds.{asked}
 use Rattle.paged_scans.specs.core_calls.Fronts.{Done}
@@ -19,11 +20,10 @@ use Rattle.engine_front.specs.Stops.{StandsNot, StopsBy}
 use Rattle.engine_front.specs.Turns.{IsTaken, behind_answer, behind_durables, told_with}
 use Rattle.engine_front.specs.declared.calls.Durable.{Durable}
 use Rattle.engine_front.specs.declared.calls.Next.TheVariants.{Scan}
-use Rattle.engine_front.specs.declared.calls.Unanswered.{Unanswered}
-use Rattle.engine_front.specs.declared.calls.Unanswered.TheVariants as unanswered
+use Rattle.paged_scans.specs.engine_trait.Serving.{unserved_answer}
 use Rattle.group_commit.specs.Queues.{queued}
 use Rattle.group_commit.specs.declared.receipts.Receipt.{Receipt}
-use Rattle.paged_scans.specs.paged_desks.Calls.{Comes, ends_work}
+use Rattle.paged_scans.specs.paged_desks.Calls.{Comes}
 use Rattle.buffered_engine.specs.States.{InRun, State, memory_in, pairs_left}
 use Rattle.buffered_engine.specs.declared.calls.Aborted.{Aborted}
 use Rattle.buffered_engine.specs.declared.calls.Began.{Began}
@@ -31,71 +31,77 @@ use Rattle.buffered_engine.specs.declared.calls.Synced.{Synced}
 
 -- ## Answers
 
--- the answer, or why there is none
-abbrev pub told : Answer → Result Answer Unanswered
-told (answer.Refused refusal.Broken) = Err unanswered.Broken
-told (answer.Refused refusal.DiskFault) = Err unanswered.DiskFault
-told (answer.Refused (refusal.Damaged area place)) = Err (unanswered.Damaged place)
-told a = Ok a
-
 -- behind it an engine works no longer
-abbrev pub is_stop : Answer → Bool
-is_stop (answer.Refused why) = ends_work why
-is_stop _ = false
+abbrev pub is_stop : Result Answer Unanswered → Bool
+is_stop (Ok a) = false
+is_stop (Err why) = true
 
--- it is one that has come where there are so many sessions, or says that there is none
-abbrev pub MayBe : (sessions : ℕ) → Answer → Type 0
-MayBe sessions (answer.Refused refusal.Broken) = Unit {0}
-MayBe sessions (answer.Refused refusal.DiskFault) = Unit {0}
-MayBe sessions (answer.Refused (refusal.Damaged area place)) = Unit {0}
-MayBe sessions a = HasCome sessions a
+-- an answer is one that has come where there are so many sessions
+abbrev pub MayBe : (sessions : ℕ) → Result Answer Unanswered → Type 0
+MayBe sessions r = IfOk r (HasCome sessions)
 
--- a step of a scan, which is not refused
-abbrev pub IsStep : Answer → Type 0
-IsStep (answer.Pair key value) = Unit {0}
-IsStep (answer.More from) = Unit {0}
-IsStep answer.End = Unit {0}
-IsStep (answer.Refused why) = Unit {0}
-IsStep a = ⊥
+-- a step of a scan, or it was not served
+abbrev pub IsStep : Result Answer Unanswered → Type 0
+IsStep (Ok (answer.Pair key value)) = Unit {0}
+IsStep (Ok (answer.More from)) = Unit {0}
+IsStep (Ok answer.End) = Unit {0}
+IsStep (Ok (answer.Refused why)) = Unit {0}
+IsStep (Err why) = Unit {0}
+IsStep r = ⊥
 
--- an answer to a call of its kind, which is not refused
-abbrev pub IsTo : Call → Answer → Type 0
-IsTo call.Begin (answer.Begun number) = Unit {0}
-IsTo (call.Get key) (answer.Value value) = Unit {0}
-IsTo (call.Put key value) (answer.Was was) = Unit {0}
-IsTo (call.Del key) (answer.Was was) = Unit {0}
-IsTo (call.Scan from to) a = IsStep a
-IsTo call.Commit (answer.Committed number at) = Unit {0}
-IsTo call.Abort (answer.Aborted number) = Unit {0}
-IsTo call.Sync (answer.Synced at) = Unit {0}
-IsTo c (answer.Refused why) = Unit {0}
-IsTo c a = ⊥
+-- the value of a key, or it was not served
+abbrev pub IsValue : Result Answer Unanswered → Type 0
+IsValue (Ok (answer.Value value)) = Unit {0}
+IsValue (Ok (answer.Refused why)) = Unit {0}
+IsValue (Err why) = Unit {0}
+IsValue r = ⊥
+
+-- what a key had before it was changed, or it was not served
+abbrev pub IsWas : Result Answer Unanswered → Type 0
+IsWas (Ok (answer.Was was)) = Unit {0}
+IsWas (Ok (answer.Refused why)) = Unit {0}
+IsWas (Err why) = Unit {0}
+IsWas r = ⊥
+
+-- an answer to a call of its kind, or it was not served
+abbrev pub IsTo : Call → Result Answer Unanswered → Type 0
+IsTo call.Begin (Ok (answer.Begun number)) = Unit {0}
+IsTo (call.Get key) r = IsValue r
+IsTo (call.Put key value) r = IsWas r
+IsTo (call.Del key) r = IsWas r
+IsTo (call.Scan from to) r = IsStep r
+IsTo call.Commit (Ok (answer.Committed number at)) = Unit {0}
+IsTo call.Abort (Ok (answer.Aborted number)) = Unit {0}
+IsTo call.Sync (Ok (answer.Synced at)) = Unit {0}
+IsTo c (Ok (answer.Refused why)) = Unit {0}
+IsTo c (Err why) = Unit {0}
+IsTo c r = ⊥
 
 -- ## Results as answers
 
-abbrev pub began_answer : Result Began Refusal → Answer
-began_answer (Ok began) = answer.Begun began.number
-began_answer (Err why) = answer.Refused why
+abbrev pub began_answer : Result Began Unserved → Result Answer Unanswered
+began_answer (Ok began) = Ok (answer.Begun began.number)
+began_answer (Err why) = unserved_answer why
 
-abbrev pub value_answer : Result (Option ℕ) Refusal → Answer
-value_answer (Ok value) = answer.Value value
-value_answer (Err why) = answer.Refused why
+abbrev pub value_answer : Result (Option ℕ) Unserved → Result Answer Unanswered
+value_answer (Ok value) = Ok (answer.Value value)
+value_answer (Err why) = unserved_answer why
 
-abbrev pub was_answer : Result (Option ℕ) Refusal → Answer
-was_answer (Ok was) = answer.Was was
-was_answer (Err why) = answer.Refused why
+abbrev pub was_answer : Result (Option ℕ) Unserved → Result Answer Unanswered
+was_answer (Ok was) = Ok (answer.Was was)
+was_answer (Err why) = unserved_answer why
 
-abbrev pub receipt_answer : Result Receipt Refusal → Answer
-receipt_answer (Ok receipt) = answer.Committed receipt.txn receipt.gsn
-receipt_answer (Err why) = answer.Refused why
+abbrev pub receipt_answer : Result Receipt Unserved → Result Answer Unanswered
+receipt_answer (Ok receipt) = Ok (answer.Committed receipt.txn receipt.gsn)
+receipt_answer (Err why) = unserved_answer why
 
-abbrev pub aborted_answer : Result Aborted Refusal → Answer
-aborted_answer (Ok aborted) = answer.Aborted aborted.number
-aborted_answer (Err why) = answer.Refused why
+abbrev pub aborted_answer : Result Aborted Unserved → Result Answer Unanswered
+aborted_answer (Ok aborted) = Ok (answer.Aborted aborted.number)
+aborted_answer (Err why) = unserved_answer why
 
-abbrev pub synced_answer : Result Synced Refusal → Answer
-synced_answer (Ok synced) = answer.Synced synced.at
-synced_answer (Err why) = answer.Refused why
+abbrev pub synced_answer : Result Synced Unserved → Result Answer Unanswered
+synced_answer (Ok synced) = Ok (answer.Synced synced.at)
+synced_answer (Err why) = unserved_answer why
 
 -- ## A call
 
@@ -105,43 +111,43 @@ pub record DoesIn {D : Type 0} (g : Opening) (xs : List Done) (names : List Name
   pub in_run : InRun is g (does.done ∷ xs) names
 
 -- so in each run, or its disk failed, or a page was damaged, and then the disk stood for no run of these outcomes
-abbrev pub DoesInRuns : {D : Type 0} → (own : ℕ) → Call → Answer → (was is : State D) → (old new : Story) → Type 0
-DoesInRuns own c a was is old new = (g : Opening) (xs : List Done) (names : List Name) → InRun was g xs names
-    → Comes a (DoesIn g xs names own c a was is old new) (Fails g was.group xs own c (memory_in was) old new) (StandsNot g was.group xs (memory_in was) old)
+abbrev pub DoesInRuns : {D : Type 0} → (own : ℕ) → Call → Result Answer Unanswered → (was is : State D) → (old new : Story) → Type 0
+DoesInRuns own c r was is old new = (g : Opening) (xs : List Done) (names : List Name) → InRun was g xs names
+    → Comes r (λ a. DoesIn g xs names own c a was is old new) (Fails g was.group xs own c (memory_in was) old new) (StandsNot g was.group xs (memory_in was) old)
 
 -- an abort that is due behind the call of the newest outcome
-abbrev pub AbortsInRuns : {D : Type 0} → Answer → (was is : State D) → (old new : Story) → Type 0
-AbortsInRuns a was is old new = (g : Opening) (y : Done) (earlier : List Done) (names : List Name) → InRun was g (y ∷ earlier) names → (c : Call) → hindered_in y.outcome.deed ≡ Some c
-    → Comes a (DoesIn g (y ∷ earlier) names y.outcome.session c a was is old new) (Fails g was.group (y ∷ earlier) y.outcome.session c (memory_in was) old new) (StandsNot g was.group (y ∷ earlier) (memory_in was) old)
+abbrev pub AbortsInRuns : {D : Type 0} → Result Answer Unanswered → (was is : State D) → (old new : Story) → Type 0
+AbortsInRuns r was is old new = (g : Opening) (y : Done) (earlier : List Done) (names : List Name) → InRun was g (y ∷ earlier) names → (c : Call) → hindered_in y.outcome.deed ≡ Some c
+    → Comes r (λ a. DoesIn g (y ∷ earlier) names y.outcome.session c a was is old new) (Fails g was.group (y ∷ earlier) y.outcome.session c (memory_in was) old new) (StandsNot g was.group (y ∷ earlier) (memory_in was) old)
 
 -- what follows the newest outcome, a pair of a scan
-abbrev pub ScansInRuns : {D : Type 0} → Answer → (was is : State D) → (old new : Story) → Type 0
-ScansInRuns a was is old new = (g : Opening) (y : Done) (earlier : List Done) (names : List Name) → InRun was g (y ∷ earlier) names
-    → Comes a (DoesIn g (y ∷ earlier) names y.outcome.session (asked y.outcome.deed) a was is old new) (Fails g was.group (y ∷ earlier) y.outcome.session (asked y.outcome.deed) (memory_in was) old new) (StandsNot g was.group (y ∷ earlier) (memory_in was) old)
+abbrev pub ScansInRuns : {D : Type 0} → Result Answer Unanswered → (was is : State D) → (old new : Story) → Type 0
+ScansInRuns r was is old new = (g : Opening) (y : Done) (earlier : List Done) (names : List Name) → InRun was g (y ∷ earlier) names
+    → Comes r (λ a. DoesIn g (y ∷ earlier) names y.outcome.session (asked y.outcome.deed) a was is old new) (Fails g was.group (y ∷ earlier) y.outcome.session (asked y.outcome.deed) (memory_in was) old new) (StandsNot g was.group (y ∷ earlier) (memory_in was) old)
 
 -- One call, whatever it did, which took the engine from one state to another.
-pub record Went {D : Type 0} (Did : Type 0) (a : Answer) (was is : State D) : Type 0 where
+pub record Went {D : Type 0} (Did : Type 0) (r : Result Answer Unanswered) (was is : State D) : Type 0 where
   pub does : was.works ≡ true → Did
-  pub may : MayBe was.sessions a
-  pub works : is.works ≡ not (is_stop a)
-  pub next : is.works ≡ true → is.next ≡ behind_answer a
-  pub waits : is.works ≡ false → is.next ≡ was.next
+  pub may : MayBe was.sessions r
+  pub works : is.works ≡ not (is_stop r)
+  pub next : IfOk r (λ a. is.next ≡ behind_answer a)
+  pub waits : IsErr r → is.next ≡ was.next
   pub sessions : is.sessions ≡ was.sessions
   pub group : is.group ≡ was.group
-  pub same : a ≡ answer.Refused refusal.Broken → is ≡ was
-  pub broken : (a ≡ answer.Refused refusal.Broken) ↔ (was.works ≡ false)
+  pub same : r ≡ Err unanswered.Broken → is ≡ was
+  pub broken : (r ≡ Err unanswered.Broken) ↔ (was.works ≡ false)
 
 -- session `own` asked it
-abbrev pub Asked : {D : Type 0} → (story : D → Story) → (own : ℕ) → Call → Answer → (was is : State D) → Type 0
-Asked story own c a was is = Went (DoesInRuns own c a was is (story was.disk) (story is.disk)) a was is
+abbrev pub Asked : {D : Type 0} → (story : D → Story) → (own : ℕ) → Call → Result Answer Unanswered → (was is : State D) → Type 0
+Asked story own c r was is = Went (DoesInRuns own c r was is (story was.disk) (story is.disk)) r was is
 
 -- an abort was due
-abbrev pub AskedAbort : {D : Type 0} → (story : D → Story) → Answer → (was is : State D) → Type 0
-AskedAbort story a was is = Went (AbortsInRuns a was is (story was.disk) (story is.disk)) a was is
+abbrev pub AskedAbort : {D : Type 0} → (story : D → Story) → Result Answer Unanswered → (was is : State D) → Type 0
+AskedAbort story r was is = Went (AbortsInRuns r was is (story was.disk) (story is.disk)) r was is
 
 -- what follows a pair of a scan was asked
-abbrev pub AskedScan : {D : Type 0} → (story : D → Story) → Answer → (was is : State D) → Type 0
-AskedScan story a was is = Went (ScansInRuns a was is (story was.disk) (story is.disk)) a was is
+abbrev pub AskedScan : {D : Type 0} → (story : D → Story) → Result Answer Unanswered → (was is : State D) → Type 0
+AskedScan story r was is = Went (ScansInRuns r was is (story was.disk) (story is.disk)) r was is
 
 -- where the scan still goes on, it may tell fewer pairs than before
 abbrev pub TellsFewer : {D : Type 0} → (was is : State D) → Type 0

@@ -3,26 +3,14 @@ ghost use Rattle.std.specs.Prelude.{◌≡◌, IfOk, true};
 ghost use Rattle.map_model.specs.Pairings.{is_last};
 ghost use Rattle.paged_scans.specs.engine_trait.Calls.{IsAsked};
 ghost use Rattle.engine_front.specs.declared.calls.Next.{Next};
-ghost use Rattle.buffered_engine.specs.Calls.{DurableDoes, HinderedDoes, LineDoes, ScanDoes, TellsFewer, told};
+ghost use Rattle.buffered_engine.specs.Calls.{DurableDoes, HinderedDoes, LineDoes, ScanDoes, TellsFewer};
 
 use crate::engine::{Engine, disk_of};
-use engine_front::calls::{Calls, Durable, Unanswered};
+use engine_front::calls::{Calls, Durable};
 use lean_disk::MemDisk;
 use lean_edge::{Put, Sink};
-use map_model::{Answer, Call, Refusal};
-use paged_scans::Stages;
-
-// The answer, or why there is none.
-fn told(answer: Answer) -> Result<Answer, Unanswered>
-    ensures { result ≡ told answer }
-{
-    match answer {
-        Answer::Refused(Refusal::Broken) => Err(Unanswered::Broken),
-        Answer::Refused(Refusal::DiskFault) => Err(Unanswered::DiskFault),
-        Answer::Refused(Refusal::Damaged { place, .. }) => Err(Unanswered::Damaged { place }),
-        answer => Ok(answer),
-    }
-}
+use map_model::{Answer, Call};
+use paged_scans::{Stages, Unanswered};
 
 impl<D: Stages> Engine<D> {
     /// What a line of a session asks; for a sync the session is 0.
@@ -31,8 +19,7 @@ impl<D: Stages> Engine<D> {
         requires next { self.old.next ≡ Next.Line }
         ensures { LineDoes D.story D.faults session call.now result self.old self.new }
     {
-        let answer = self.ask(session, call).answer;
-        told(answer)
+        self.ask(session, call).answer
     }
 
     /// The abort of a call that met a conflict.
@@ -41,8 +28,7 @@ impl<D: Stages> Engine<D> {
         ensures does { HinderedDoes D.story D.faults result self.old self.new }
         ensures last { IfOk result (λ a. is_last a ≡ true) }
     {
-        let answer = self.ask_abort();
-        told(answer)
+        self.ask_abort()
     }
 
     /// What follows a pair of a scan.
@@ -52,8 +38,7 @@ impl<D: Stages> Engine<D> {
         // So a scan ends.
         ensures fewer { IfOk result (λ a. TellsFewer self.old self.new) }
     {
-        let answer = self.ask_scan();
-        told(answer)
+        self.ask_scan()
     }
 }
 

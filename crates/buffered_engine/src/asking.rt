@@ -1,9 +1,8 @@
 // What a session asks of an engine, whatever it is.
-ghost use Rattle.std.specs.Prelude.{◌≡◌, ◌<◌, ◌≤◌, IfSome, false, leb, length, true};
+ghost use Rattle.std.specs.Prelude.{◌≡◌, ◌<◌, ◌≤◌, Err, IfOk, IfSome, false, leb, length, true};
 ghost use Rattle.map_model.specs.Pairings.{is_last};
 ghost use Rattle.map_model.specs.declared.call.Call.TheVariants as calls;
-ghost use Rattle.map_model.specs.declared.call.Answer.TheVariants as answer;
-ghost use Rattle.map_model.specs.declared.call.Refusal.TheVariants as refusal;
+ghost use Rattle.paged_scans.specs.engine_trait.declared.unserved.Unanswered.TheVariants as unanswered;
 ghost use Rattle.page_model.specs.Limits.{waiting_ends};
 ghost use Rattle.group_commit.specs.Queues.{queue_of};
 ghost use Rattle.group_commit.specs.declared.queue.TheConstants.{ROOM};
@@ -14,7 +13,7 @@ ghost use Rattle.paged_scans.specs.session_desks.Parts.{Works};
 ghost use Rattle.paged_scans.specs.paged_desks.Machines.{IsReady};
 ghost use Rattle.paged_scans.specs.Calls.{IsIn};
 ghost use Rattle.buffered_engine.specs.Calls.{Asked, AskedAbort, AskedScan, IsStep, IsTo, MayBe, TellsFewer};
-ghost use Rattle.buffered_engine.specs.Inside.Asks.{IsEndOf, OnAsked, next_behind, put_ends};
+ghost use Rattle.buffered_engine.specs.Inside.Asks.{IsEndOf, OnAsked, ends_line, next_behind, put_ends};
 ghost use Rattle.buffered_engine.specs.Inside.Calm.{calm_behind};
 ghost use Rattle.buffered_engine.specs.Inside.Parts.{MachineWent};
 ghost use Rattle.buffered_engine.specs.Inside.Scans.{scan_behind, scan_of};
@@ -26,7 +25,7 @@ use engine_front::calls::Next;
 use group_commit::{LOGS, Receipt, Unripe};
 use map_model::{Answer, Call, Refusal};
 use page_model::limits::WAITING_ENDS;
-use paged_scans::{PagedMachine, Scan, Stages};
+use paged_scans::{PagedMachine, Scan, Stages, Unanswered};
 
 // So many ends of the session wait that its begin makes a sync first.
 fn is_long(unripe: &Unripe, session: u32, call: &Call) -> bool
@@ -46,22 +45,20 @@ fn put_end(unripe: &mut Unripe, response: Response)
     ensures { unripe.new ≡ put_ends response.receipt response.answer unripe.old }
 {
     if let Some(receipt) = response.receipt {
-        let is_commit = matches!(response.answer, Answer::Committed { .. });
+        let is_commit = matches!(response.answer, Ok(Answer::Committed { .. }));
         unripe.push(receipt, is_commit);
     }
 }
 
-// What may be asked next behind an answer, unless the engine works no longer.
-fn next_behind(works: bool, next: Next, answer: &Answer) -> Next
-    ensures { result ≡ next_behind works next answer.now }
+// What may be asked next behind an answer. Where there is none, the engine works no longer.
+fn next_behind(next: Next, answer: &Result<Answer, Unanswered>) -> Next
+    ensures { result ≡ next_behind next answer.now }
 {
-    if !works {
-        return next;
-    }
     match answer {
-        Answer::Pair { .. } => Next::Scan,
-        Answer::Refused(Refusal::Conflict { .. }) => Next::Abort,
-        _ => Next::Durables,
+        Ok(Answer::Pair { .. }) => Next::Scan,
+        Ok(Answer::Refused(Refusal::Conflict { .. })) => Next::Abort,
+        Ok(_) => Next::Durables,
+        Err(_) => next,
     }
 }
 
@@ -88,7 +85,7 @@ fn ask<D: Stages>(
     requires within { IsIn scan.old }
     ensures went { MachineWent D.story D.faults (OnAsked session call.now is_long) machine.old.machine.work.session.workers session call.now result machine.old machine.new }
     ensures scan { (scan.new ≡ scan_behind result.answer (scan_of call.now scan.old)) × IsIn scan.new }
-    ensures turn { Works machine.new.machine → is_last result.answer ≡ false → machine.new.machine.work.session.own ≡ session }
+    ensures turn { Works machine.new.machine → ends_line result.answer ≡ false → machine.new.machine.work.session.own ≡ session }
 {
     match call {
         Call::Sync => sync(machine),
@@ -121,10 +118,10 @@ impl<D: Stages> Engine<D> {
         ensures to { IsTo call.now result.answer }
         ensures ends { self.old.works ≡ true → IsEndOf session self.old.view self.new.view result.answer result.receipt }
 
-        ensures cause_disk_fault { HasCause (D.faults self.old.disk) (D.faults self.new.disk) (result.answer ≡ answer.Refused refusal.DiskFault) }
+        ensures cause_disk_fault { HasCause (D.faults self.old.disk) (D.faults self.new.disk) (result.answer ≡ Err unanswered.DiskFault) }
     {
         if !self.machine.machine.work.session.works {
-            return Response::only(Answer::Refused(Refusal::Broken));
+            return Response::only(Err(Unanswered::Broken));
         }
         paged_scans::every_reached();
         group_commit::every_outcome();
@@ -133,25 +130,21 @@ impl<D: Stages> Engine<D> {
         let response = ask(&mut self.machine, &mut self.scan, session, call, is_long);
         put_end(&mut self.unripe, response);
         end_calm(&mut self.calm, &response.receipt);
-        self.next = next_behind(
-            self.machine.machine.work.session.works,
-            self.next,
-            &response.answer,
-        );
+        self.next = next_behind(self.next, &response.answer);
         response
     }
 
     /// The transaction whose call met a conflict is aborted.
-    pub(crate) fn ask_abort(&mut self) -> Answer
+    pub(crate) fn ask_abort(&mut self) -> Result<Answer, Unanswered>
         requires next { self.old.next ≡ Next.Abort }
         ensures went { AskedAbort D.story result self.old self.new }
         ensures may { MayBe 1 result }
-        ensures last { is_last result ≡ true }
+        ensures last { IfOk result (λ a. is_last a ≡ true) }
 
-        ensures cause_disk_fault { HasCause (D.faults self.old.disk) (D.faults self.new.disk) (result ≡ answer.Refused refusal.DiskFault) }
+        ensures cause_disk_fault { HasCause (D.faults self.old.disk) (D.faults self.new.disk) (result ≡ Err unanswered.DiskFault) }
     {
         if !self.machine.machine.work.session.works {
-            return Answer::Refused(Refusal::Broken);
+            return Err(Unanswered::Broken);
         }
         paged_scans::every_reached();
         group_commit::every_outcome();
@@ -159,35 +152,27 @@ impl<D: Stages> Engine<D> {
         let response = abort(&mut self.machine);
         put_end(&mut self.unripe, response);
         end_calm(&mut self.calm, &response.receipt);
-        self.next = next_behind(
-            self.machine.machine.work.session.works,
-            self.next,
-            &response.answer,
-        );
+        self.next = next_behind(self.next, &response.answer);
         response.answer
     }
 
     /// What follows a pair of a scan.
-    pub(crate) fn ask_scan(&mut self) -> Answer
+    pub(crate) fn ask_scan(&mut self) -> Result<Answer, Unanswered>
         requires next { self.old.next ≡ Next.Scan }
         ensures went { AskedScan D.story result self.old self.new }
         ensures step { IsStep result }
         ensures fewer { self.new.works ≡ true → TellsFewer self.old self.new }
 
-        ensures cause_disk_fault { HasCause (D.faults self.old.disk) (D.faults self.new.disk) (result ≡ answer.Refused refusal.DiskFault) }
+        ensures cause_disk_fault { HasCause (D.faults self.old.disk) (D.faults self.new.disk) (result ≡ Err unanswered.DiskFault) }
     {
         if !self.machine.machine.work.session.works {
-            return Answer::Refused(Refusal::Broken);
+            return Err(Unanswered::Broken);
         }
         paged_scans::every_reached();
         group_commit::every_outcome();
         paged_scans::every_rise();
         let response = scan_step(&mut self.machine, &mut self.scan);
-        self.next = next_behind(
-            self.machine.machine.work.session.works,
-            self.next,
-            &response.answer,
-        );
+        self.next = next_behind(self.next, &response.answer);
         response.answer
     }
 }

@@ -14,10 +14,10 @@ pub use calls::{Aborted, Began, Synced};
 pub use disk_format::{Formatted, Shape, format};
 pub use durables::Broken;
 pub use engine::{Engine, Opened};
-pub use engine_front::calls::{Durable, Next, Unanswered};
+pub use engine_front::calls::{Durable, Next};
 pub use group_commit::{Receipt, Ripeness};
 pub use paged_engine::{Size, Unopened};
-pub use paged_scans::{Desk, Stages, Step, stage_end};
+pub use paged_scans::{Desk, Stages, Step, Unanswered, Unserved, stage_end};
 
 // Passed on to the crates above.
 pub use engine_front::calls::Calls as EngineFrontCalls;
@@ -27,6 +27,6 @@ pub use paged_scans::{
     WorkerLog, block_bytes, choose, every_agreement, every_block_in, every_kept, every_line_count,
     every_master_in, every_met, every_prefix, every_printed, every_rise, every_run_crash,
     every_sealed, every_shown, every_told, every_undone, every_version, fetch, master_bytes,
-    page_bytes, save, spare, stage_end as session_state_stage_end, write_next,
+    page_bytes, save, spare, write_next,
 };
 pub use recovery::{Recovered, Unrecovered, every_own, recover};

@@ -17,8 +17,8 @@ use lean_disk::Disk;
 pub use session_state::{
     Body, Clock, DEEPEST, DiskFault, FreePages, Heads, HeldRows, Latches, Master,
     MasterStoreDiskFault, Mode, Node, PageRef, Path, Record, Rows, Session, Staged, Stages,
-    Staging, UndoList, Undone, Unread, Way, Work, WorkerLog, block_bytes, choose,
-    disk_runs_every_opened, every_agreement, every_answer, every_begun, every_block_in,
+    Staging, Unanswered, UndoList, Undone, Unread, Unserved, Way, Work, WorkerLog, block_bytes,
+    choose, disk_runs_every_opened, every_agreement, every_answer, every_begun, every_block_in,
     every_coming, every_entry, every_flush, every_kept, every_line_count, every_low,
     every_master_in, every_met, every_need, every_opened, every_other, every_prefix, every_printed,
     every_reached, every_reserve, every_residence, every_rise, every_room, every_run_crash,

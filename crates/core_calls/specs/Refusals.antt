@@ -72,7 +72,7 @@ abbrev pub asks_put : Call → (ℕ → Type 0) → Type 0
 asks_put (call.Put k v) P = P k
 asks_put c P = ⊥
 
--- After these events. While an abort is half done, its session can only abort. The other refusals end a run, and are no line's answer.
+-- After these events. While an abort is half done, its session can only abort. The other refusals are no line's answer.
 abbrev pub IsCause : Limits → Opening → List Event → State → (half : Bool) → (w : ℕ) → Call → Refusal → Type 0
 IsCause l g es s half w c refusal.InTransaction = (s.worker w).is_open ≡ true
 IsCause l g es s half w c refusal.NoTransaction = ((s.worker w).is_open ≡ false) ⊎ ((half ≡ true) × (c ≡ call.Abort → ⊥))

@@ -7,8 +7,8 @@ use Rattle.lean_disk.specs.Story.{Crash, Story}
 use Rattle.call_parts.specs.engine_calls.Clauses.{Between}
 use Rattle.call_parts.specs.engine_trait.Limits.{limits}
 use Rattle.call_parts.specs.Memory.{IsOf, Memory}
-use Rattle.engine_front.specs.declared.calls.Unanswered.{Unanswered}
-use Rattle.engine_front.specs.declared.calls.Unanswered.TheVariants.{Broken, Damaged, DiskFault}
+use Rattle.call_parts.specs.engine_trait.declared.unserved.Unanswered.{Unanswered}
+use Rattle.call_parts.specs.engine_trait.declared.unserved.Unanswered.TheVariants.{Broken, Damaged, DiskFault}
 
 -- with this in memory, the disk stands for no run of these outcomes
 abbrev pub StandsNot : (g : Opening) (group : ℕ) → List Done → Memory → Story → Type 0

@@ -13,26 +13,17 @@ ghost use Rattle.map_model.specs.Journals.{Name};
 ghost use Rattle.map_model.specs.Pairings.{is_last};
 ghost use Rattle.map_model.specs.declared.call.Call.{Call};
 ghost use Rattle.call_parts.specs.engine_trait.Calls.{HasCome, IsAsked};
+ghost use Rattle.call_parts.specs.engine_trait.declared.unserved.Unanswered.{Unanswered};
 ghost use Rattle.call_parts.specs.engine_trait.Limits.{limits};
 ghost use Rattle.call_parts.specs.Deeds.{Does, Fails};
 ghost use Rattle.call_parts.specs.Memory.{Memory};
 ghost use Rattle.engine_front.specs.Stops.{StandsNot, StopsBy};
 ghost use Rattle.engine_front.specs.Turns.{IsNext, IsTaken, behind_answer, behind_durables, told_with};
 
+pub use call_parts::Unanswered;
 use lean_disk::Disk;
 use lean_edge::{Put, Sink};
 use map_model::{Answer, Call};
-
-/// Why a call was not answered.
-#[derive(Clone, Copy, Debug, PartialEq, Eq)]
-pub enum Unanswered {
-    /// An earlier call met a fault of the disk or a damaged page. The engine is as it was.
-    Broken,
-    /// The disk failed. Only `Broken` is answered from then on.
-    DiskFault,
-    /// The page at this place of the pages' area is not as the engine left it. Only `Broken` is answered from then on.
-    Damaged { place: u64 },
-}
 
 /// What may be asked of an engine next.
 #[derive(Clone, Copy, Debug, PartialEq, Eq)]

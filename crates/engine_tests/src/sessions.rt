@@ -3,7 +3,7 @@ use crate::cases::expect;
 use crate::disks::unused;
 use buffered_engine::{
     Aborted, Began, Broken, Engine, Formatted, Next, Opened, Receipt, Ripeness, Shape, Size,
-    Synced, Unopened, choose, format,
+    Synced, Unanswered, Unopened, Unserved, choose, format,
 };
 use lean_disk::{AreaOf, MemDisk};
 use map_model::{Answer, Refusal};
@@ -12,22 +12,22 @@ use std::alloc::{AllocError, Global};
 // A call of a session, and what it gives.
 #[derive(Drop)]
 enum Step {
-    Begin(Result<Began, Refusal>),
-    Get(u32, Result<Option<u64>, Refusal>),
-    Put(u32, u32, Result<Option<u64>, Refusal>),
-    Del(u32, Result<Option<u64>, Refusal>),
+    Begin(Result<Began, Unserved>),
+    Get(u32, Result<Option<u64>, Unserved>),
+    Put(u32, u32, Result<Option<u64>, Unserved>),
+    Del(u32, Result<Option<u64>, Unserved>),
     /// A put of 7 at each key from one up to another, which have no value.
     Keys(u32, u32),
-    Scan(u32, u32, Result<buffered_engine::Step, Refusal>),
+    Scan(u32, u32, Result<buffered_engine::Step, Unserved>),
     /// What follows a pair of a scan.
-    Next(Result<buffered_engine::Step, Refusal>),
+    Next(Result<buffered_engine::Step, Unserved>),
     /// Pairs of 7 follow, of each key from one up to another.
     Pairs(u32, u32),
-    Commit(Result<Receipt, Refusal>),
-    Abort(Result<Aborted, Refusal>),
+    Commit(Result<Receipt, Unserved>),
+    Abort(Result<Aborted, Unserved>),
     /// The abort of a call that met a conflict.
     Hindered(u64),
-    Sync(Result<Synced, Refusal>),
+    Sync(Result<Synced, Unserved>),
     /// The next commit that has become durable, by session and number.
     Durable(u32, u64),
     /// No further one has.
@@ -68,7 +68,7 @@ macro_rules! pair {
     };
 }
 
-const END: Result<buffered_engine::Step, Refusal> = Ok(buffered_engine::Step::End);
+const END: Result<buffered_engine::Step, Unserved> = Ok(buffered_engine::Step::End);
 
 const FIRST: Receipt = receipt!(1, 1, 2, 0);
 
@@ -143,14 +143,35 @@ static CASES: [Case; 11] = [
         group: 1,
         failing: &[],
         steps: &[
-            (1, Step::Get(5, Err(Refusal::NoTransaction))),
-            (1, Step::Put(5, 7, Err(Refusal::NoTransaction))),
-            (1, Step::Del(5, Err(Refusal::NoTransaction))),
-            (1, Step::Scan(5, 9, Err(Refusal::NoTransaction))),
-            (1, Step::Commit(Err(Refusal::NoTransaction))),
-            (1, Step::Abort(Err(Refusal::NoTransaction))),
+            (
+                1,
+                Step::Get(5, Err(Unserved::Refused(Refusal::NoTransaction))),
+            ),
+            (
+                1,
+                Step::Put(5, 7, Err(Unserved::Refused(Refusal::NoTransaction))),
+            ),
+            (
+                1,
+                Step::Del(5, Err(Unserved::Refused(Refusal::NoTransaction))),
+            ),
+            (
+                1,
+                Step::Scan(5, 9, Err(Unserved::Refused(Refusal::NoTransaction))),
+            ),
+            (
+                1,
+                Step::Commit(Err(Unserved::Refused(Refusal::NoTransaction))),
+            ),
+            (
+                1,
+                Step::Abort(Err(Unserved::Refused(Refusal::NoTransaction))),
+            ),
             (1, Step::Begin(Ok(Began { number: 1 }))),
-            (1, Step::Begin(Err(Refusal::InTransaction))),
+            (
+                1,
+                Step::Begin(Err(Unserved::Refused(Refusal::InTransaction))),
+            ),
         ],
     },
     Case {
@@ -161,15 +182,39 @@ static CASES: [Case; 11] = [
         steps: &[
             (1, Step::Begin(Ok(Began { number: 1 }))),
             (1, Step::Put(5, 7, Ok(None))),
-            (1, Step::Commit(Err(Refusal::DiskFault))),
-            (1, Step::Begin(Err(Refusal::Broken))),
-            (1, Step::Get(5, Err(Refusal::Broken))),
-            (1, Step::Put(5, 7, Err(Refusal::Broken))),
-            (1, Step::Del(5, Err(Refusal::Broken))),
-            (1, Step::Scan(5, 9, Err(Refusal::Broken))),
-            (1, Step::Commit(Err(Refusal::Broken))),
-            (1, Step::Abort(Err(Refusal::Broken))),
-            (1, Step::Sync(Err(Refusal::Broken))),
+            (
+                1,
+                Step::Commit(Err(Unserved::Unanswered(Unanswered::DiskFault))),
+            ),
+            (
+                1,
+                Step::Begin(Err(Unserved::Unanswered(Unanswered::Broken))),
+            ),
+            (
+                1,
+                Step::Get(5, Err(Unserved::Unanswered(Unanswered::Broken))),
+            ),
+            (
+                1,
+                Step::Put(5, 7, Err(Unserved::Unanswered(Unanswered::Broken))),
+            ),
+            (
+                1,
+                Step::Del(5, Err(Unserved::Unanswered(Unanswered::Broken))),
+            ),
+            (
+                1,
+                Step::Scan(5, 9, Err(Unserved::Unanswered(Unanswered::Broken))),
+            ),
+            (
+                1,
+                Step::Commit(Err(Unserved::Unanswered(Unanswered::Broken))),
+            ),
+            (
+                1,
+                Step::Abort(Err(Unserved::Unanswered(Unanswered::Broken))),
+            ),
+            (1, Step::Sync(Err(Unserved::Unanswered(Unanswered::Broken)))),
             (1, Step::Ripe(FIRST, Err(Broken))),
             (1, Step::HalfDone(Err(Broken))),
             (1, Step::Tend(Err(Broken))),
@@ -185,8 +230,14 @@ static CASES: [Case; 11] = [
             (1, Step::Put(5, 7, Ok(None))),
             (1, Step::Commit(Ok(FIRST))),
             (1, Step::NoDurable),
-            (1, Step::Sync(Err(Refusal::DiskFault))),
-            (2, Step::Begin(Err(Refusal::Broken))),
+            (
+                1,
+                Step::Sync(Err(Unserved::Unanswered(Unanswered::DiskFault))),
+            ),
+            (
+                2,
+                Step::Begin(Err(Unserved::Unanswered(Unanswered::Broken))),
+            ),
         ],
     },
     Case {
@@ -254,12 +305,22 @@ static CASES: [Case; 11] = [
             (1, Step::Put(5, 7, Ok(None))),
             (3, Step::Begin(Ok(Began { number: 1 }))),
             (3, Step::Put(6, 8, Ok(None))),
-            (3, Step::Get(5, Err(Refusal::Conflict { holder: 1 }))),
+            (
+                3,
+                Step::Get(5, Err(Unserved::Refused(Refusal::Conflict { holder: 1 }))),
+            ),
             (3, Step::Hindered(1)),
             (1, Step::Get(6, Ok(None))),
             (2, Step::Begin(Ok(Began { number: 1 }))),
             (2, Step::Get(6, Ok(None))),
-            (1, Step::Put(6, 9, Err(Refusal::Conflict { holder: 2 }))),
+            (
+                1,
+                Step::Put(
+                    6,
+                    9,
+                    Err(Unserved::Refused(Refusal::Conflict { holder: 2 })),
+                ),
+            ),
             (1, Step::Hindered(1)),
             (2, Step::Get(5, Ok(None))),
         ],
@@ -333,10 +394,20 @@ static CASES: [Case; 11] = [
             (2, Step::Del(6, Ok(Some(7)))),
             (1, Step::Begin(Ok(Began { number: 2 }))),
             (1, Step::Scan(5, 9, pair!(5, 7))),
-            (1, Step::Next(Err(Refusal::Conflict { holder: 2 }))),
+            (
+                1,
+                Step::Next(Err(Unserved::Refused(Refusal::Conflict { holder: 2 }))),
+            ),
             (1, Step::Hindered(2)),
             (1, Step::Begin(Ok(Began { number: 3 }))),
-            (1, Step::Scan(6, 9, Err(Refusal::Conflict { holder: 2 }))),
+            (
+                1,
+                Step::Scan(
+                    6,
+                    9,
+                    Err(Unserved::Refused(Refusal::Conflict { holder: 2 })),
+                ),
+            ),
             (1, Step::Hindered(3)),
             // and its own rows are in nobody's way then
             (2, Step::Put(5, 8, Ok(Some(7)))),
@@ -369,7 +440,7 @@ fn is_called(engine: &mut Engine<MemDisk>, session: u32, step: &Step) -> bool {
 }
 
 // Whether this follows a pair of a scan.
-fn is_next(engine: &mut Engine<MemDisk>, want: &Result<buffered_engine::Step, Refusal>) -> bool {
+fn is_next(engine: &mut Engine<MemDisk>, want: &Result<buffered_engine::Step, Unserved>) -> bool {
     engine.expects() == Next::Scan && engine.next_pair() == *want
 }
 

@@ -1,7 +1,8 @@
--- Read Limits, Refusals, Rooms, Logs, Areas and Calls in this order.
+-- Read Limits, Refusals, Rooms, Logs, Areas, Calls and Serving in this order.
 pub mod Limits
 pub mod Refusals
 pub mod Rooms
 pub mod Logs
 pub mod Areas
 pub mod Calls
+pub mod Serving

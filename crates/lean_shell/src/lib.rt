@@ -22,8 +22,7 @@ pub use words::{Command, read_words};
 // Passed on to the crates above.
 pub use buffered_engine::{
     DiskFault, Durable, Engine, Hosts, MemSink, MemSource, Opened, Put, Record, Sink, Size, Stages,
-    StdSink, StdSource, Unanswered, Unopened, WorkerLog, block_bytes, every_master_in,
-    session_state_stage_end as stage_end,
+    StdSink, StdSource, Unanswered, Unopened, WorkerLog, block_bytes, every_master_in, stage_end,
 };
 pub use script_lang::LineReader;
 pub use script_run::{Stop, run_script};

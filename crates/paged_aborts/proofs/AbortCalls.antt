@@ -3,8 +3,11 @@ use Rattle.std.proofs.Common.{◌≡◌, ◌∙◌, ◌⊎◌, inl, inr, ◌≤�
 use Rattle.std.proofs.lemmas.Bool.{cases_eq}
 use Rattle.map_model.specs.Lists.{any}
 use Rattle.map_model.specs.declared.call.Call.{Call}
-use Rattle.map_model.specs.declared.call.Refusal.{Refusal}
 use Rattle.map_model.specs.declared.call.Refusal.TheVariants as refusal
+use Rattle.paged_desks.specs.engine_trait.Serving.{MayRefuse, refused_by}
+use Rattle.paged_desks.specs.engine_trait.declared.unserved.Unanswered.TheVariants as unanswered
+use Rattle.paged_desks.specs.engine_trait.declared.unserved.Unserved.{Unserved}
+use Rattle.paged_desks.specs.engine_trait.declared.unserved.Unserved.TheVariants as unserved
 use Rattle.paged_desks.proofs.core_calls.WhereLemmas.{syncs_kept}
 use Rattle.paged_desks.specs.core_calls.LogEvents.{EveryWhere, IsTightSomewhere, is_log}
 use Rattle.paged_desks.proofs.engine_calls.MarkLemmas.{keep_none}
@@ -12,7 +15,6 @@ use Rattle.paged_desks.specs.engine_calls.Answers.{EveryAnswer}
 use Rattle.paged_desks.specs.engine_calls.Clauses.{EveryComing}
 use Rattle.paged_desks.specs.engine_calls.Entries.{EveryEntry}
 use Rattle.paged_desks.specs.engine_calls.Parts.{behind_first}
-use Rattle.paged_desks.specs.engine_trait.Calls.{MayCome}
 use Rattle.held_rows.specs.Steps.{AreMisses}
 use Rattle.lean_disk.specs.Story.{IsLawful, Story}
 use Rattle.paged_desks.specs.page_pool.Counts.{EveryFrame, hot_pages}
@@ -54,26 +56,26 @@ use Rattle.paged_aborts.proofs.EndRuns.{aborted_does}
 use Rattle.paged_aborts.proofs.UndoneLemmas.{failed_then, undone_then}
 
 -- in each run in which it may come, whatever its line asked, it was answered so by one outcome more; or the disk failed so
-abbrev pub DoesAbort : {D : Type 0} → (story : D → Story) → (own : ℕ) → (is_open : Bool) → Result replies.Ended Refusal → (m n : PagedMachine D) → Type 0
+abbrev pub DoesAbort : {D : Type 0} → (story : D → Story) → (own : ℕ) → (is_open : Bool) → Result replies.Ended Unserved → (m n : PagedMachine D) → Type 0
 DoesAbort story own is_open r m n = (c : Call) → CallDoes story (MayAbort own is_open c) own c (abort_answer r) m n
 
-pub some_is : (p q : Refusal) → Some p ≡ Some q → p ≡ q
+pub some_is : {A : Type 0} (p q : A) → Some p ≡ Some q → p ≡ q
 some_is p q e = cc
 
-pub none_is : (r : Refusal) → None ≡ Some r → ⊥
+pub none_is : {A : Type 0} (r : A) → None ≡ Some r → ⊥
 none_is r e = absurd (cc)
 
 -- ## Its tests
 
 -- why it is refused
-data Refused (x : Session) (why : Refusal) : Type 0 where
-  Fails : x.works ≡ false → why ≡ refusal.Broken → Refused x why
-  Closed : x.works ≡ true → x.is_open ≡ false → why ≡ refusal.NoTransaction → Refused x why
+data Refused (x : Session) (why : Unserved) : Type 0 where
+  Fails : x.works ≡ false → why ≡ unserved.Unanswered unanswered.Broken → Refused x why
+  Closed : x.works ≡ true → x.is_open ≡ false → why ≡ unserved.Refused refusal.NoTransaction → Refused x why
 
-refused_by : (x : Session) (why : Refusal) → abort_test x ≡ Some why → Refused x why
-refused_by x why e = go x.works x.is_open refl refl e
+refused_how : (x : Session) (why : Unserved) → abort_test x ≡ Some why → Refused x why
+refused_how x why e = go x.works x.is_open refl refl e
   where
-    go : (a b : Bool) → x.works ≡ a → x.is_open ≡ b → cond a (cond b None (Some refusal.NoTransaction)) (Some refusal.Broken) ≡ Some why → Refused x why
+    go : (a b : Bool) → x.works ≡ a → x.is_open ≡ b → cond a (refused_by (cond b None (Some refusal.NoTransaction))) (Some (unserved.Unanswered unanswered.Broken)) ≡ Some why → Refused x why
     go true true p q r = absurd (cc)
     go true false p q r = Closed p q (cc)
     go false b p q r = Fails p (cc)
@@ -86,34 +88,34 @@ pub record MayAbortNow (x : Session) : Type 0 where
 pub may_abort : (x : Session) → abort_test x ≡ None → MayAbortNow x
 may_abort x e = go x.works x.is_open refl refl e
   where
-    go : (a b : Bool) → x.works ≡ a → x.is_open ≡ b → cond a (cond b None (Some refusal.NoTransaction)) (Some refusal.Broken) ≡ None → MayAbortNow x
+    go : (a b : Bool) → x.works ≡ a → x.is_open ≡ b → cond a (refused_by (cond b None (Some refusal.NoTransaction))) (Some (unserved.Unanswered unanswered.Broken)) ≡ None → MayAbortNow x
     go true true p q r = record { works = p; is_open = q }
     go true false p q r = absurd (cc)
     go false b p q r = absurd (cc)
 
-module _ (x : Session) (why : Refusal) (e : abort_test x ≡ Some why) where
+module _ (x : Session) (why : Unserved) (e : abort_test x ≡ Some why) where
   pub closed_works : x.works ≡ works_behind {A = replies.Ended} (Err why)
-  closed_works = go (refused_by x why e)
+  closed_works = go (refused_how x why e)
     where
       go : Refused x why → x.works ≡ works_behind {A = replies.Ended} (Err why)
-      go (Fails broken is) = broken ∙ ap (λ (k : Refusal). works_behind {A = replies.Ended} (Err k)) (sym is)
-      go (Closed w closed is) = w ∙ ap (λ (k : Refusal). works_behind {A = replies.Ended} (Err k)) (sym is)
+      go (Fails broken is) = broken ∙ ap (λ (k : Unserved). works_behind {A = replies.Ended} (Err k)) (sym is)
+      go (Closed w closed is) = w ∙ ap (λ (k : Unserved). works_behind {A = replies.Ended} (Err k)) (sym is)
 
-  pub closed_comes : MayCome 1 why ⊎ EndsWork why
-  closed_comes = go (refused_by x why e)
+  pub closed_comes : MayRefuse 1 why ⊎ EndsWork why
+  closed_comes = go (refused_how x why e)
     where
-      go : Refused x why → MayCome 1 why ⊎ EndsWork why
+      go : Refused x why → MayRefuse 1 why ⊎ EndsWork why
       go (Fails broken is) = inr (ap ends_work is)
-      go (Closed w closed is) = inl (subst (MayCome 1) (sym is) tt)
+      go (Closed w closed is) = inl (subst (MayRefuse 1) (sym is) tt)
 
-  pub closed_broken : ◌≡◌ {A = Result replies.Ended Refusal} (Err why) (Err refusal.Broken) ↔ (x.works ≡ false)
-  closed_broken = go (refused_by x why e)
+  pub closed_broken : ◌≡◌ {A = Result replies.Ended Unserved} (Err why) (Err (unserved.Unanswered unanswered.Broken)) ↔ (x.works ≡ false)
+  closed_broken = go (refused_how x why e)
     where
-      differs : refusal.NoTransaction ≡ why → ◌≡◌ {A = Result replies.Ended Refusal} (Err why) (Err refusal.Broken) → ⊥
+      differs : unserved.Refused refusal.NoTransaction ≡ why → ◌≡◌ {A = Result replies.Ended Unserved} (Err why) (Err (unserved.Unanswered unanswered.Broken)) → ⊥
       differs p r = absurd (cc)
 
-      go : Refused x why → ◌≡◌ {A = Result replies.Ended Refusal} (Err why) (Err refusal.Broken) ↔ (x.works ≡ false)
-      go (Fails broken is) = ((λ _. broken), (λ _. ap (λ (k : Refusal). Err k) is))
+      go : Refused x why → ◌≡◌ {A = Result replies.Ended Unserved} (Err why) (Err (unserved.Unanswered unanswered.Broken)) ↔ (x.works ≡ false)
+      go (Fails broken is) = ((λ _. broken), (λ _. ap (λ (k : Unserved). Err k) is))
       go (Closed w closed is) = ((λ r. absurd (differs (sym is) r)), (λ f. absurd (true≢false (sym w ∙ f))))
 
 -- ## Misses
@@ -191,21 +193,21 @@ module _ (l : Grounds) (bounds : Bounds) (places : EveryWhere) (answers : EveryA
     high = turn_high (shape m.machine) (view_of m) (here m.machine) m.machine.desks.items ready.sound.desks
 
     -- no transaction is open
-    pub abort_closed : x.works ≡ true → (why : Refusal) → abort_test x ≡ Some why → DoesAbort story own x.is_open (Err why) m m
-    abort_closed works why e = go (refused_by x why e)
+    pub abort_closed : x.works ≡ true → (why : Unserved) → abort_test x ≡ Some why → DoesAbort story own x.is_open (Err why) m m
+    abort_closed works why e = go (refused_how x why e)
       where
         go : Refused x why → DoesAbort story own x.is_open (Err why) m m
         go (Fails broken is) = absurd (true≢false (sym works ∙ broken))
-        go (Closed w closed is) = subst (λ (k : Refusal). DoesAbort story own x.is_open (Err k) m m) (sym is) (λ c g xs many tied halves due. closed_does l answers coming frames story lawful m ready c g xs many tied halves due closed)
+        go (Closed w closed is) = subst (λ (k : Unserved). DoesAbort story own x.is_open (Err k) m m) (sym is) (λ c g xs many tied halves due. closed_does l answers coming frames story lawful m ready c g xs many tied halves due closed)
 
     -- ## A change could not be put back
 
     -- since a latch is spent
-    late_does : (most : ℕ) → most ≤ 2 ^ 17 → (n : PagedMachine D) → IsReady story n → HasUndone story most m n → IsLate (view_of n) ⊎ HasHalf m → DoesAbort story own x.is_open (Err refusal.RowSpent) m n
+    late_does : (most : ℕ) → most ≤ 2 ^ 17 → (n : PagedMachine D) → IsReady story n → HasUndone story most m n → IsLate (view_of n) ⊎ HasHalf m → DoesAbort story own x.is_open (Err (unserved.Refused refusal.RowSpent)) m n
     late_does most le n ready_n u late = λ c g xs many tied halves due. halved_does l answers coming frames story lawful m ready c g xs many tied halves due most le n u ready_n.logged (late_of l answers coming frames story lawful m ready c g xs many tied halves due most le n u late)
 
     -- or since a page finds no frame
-    stuck_does : (n : PagedMachine D) → IsReady story n → HasUndone story all_most m n → (key : ℕ) → IsStuck key n → DoesAbort story own x.is_open (Err refusal.RowSpent) m n
+    stuck_does : (n : PagedMachine D) → IsReady story n → HasUndone story all_most m n → (key : ℕ) → IsStuck key n → DoesAbort story own x.is_open (Err (unserved.Refused refusal.RowSpent)) m n
     stuck_does n ready_n u key s = go (cases_eq s.cramped.session own) x.is_half_aborted refl
       where
         within : s.cramped.session ≤ x.workers
@@ -214,68 +216,68 @@ module _ (l : Grounds) (bounds : Bounds) (places : EveryWhere) (answers : EveryA
         wide : all_most ≤ 2 ^ 17
         wide = let q = small in omega arith
 
-        go : (s.cramped.session ≡ own) ⊎ (s.cramped.session ≡ own → ⊥) → (half : Bool) → x.is_half_aborted ≡ half → DoesAbort story own x.is_open (Err refusal.RowSpent) m n
+        go : (s.cramped.session ≡ own) ⊎ (s.cramped.session ≡ own → ⊥) → (half : Bool) → x.is_half_aborted ≡ half → DoesAbort story own x.is_open (Err (unserved.Refused refusal.RowSpent)) m n
         go (inl is) true half = late_does all_most wide n ready_n u (inr (record { session = own; low = low; high = high; half = ap (λ (d : Desk). d.session.is_half_aborted) (desk_own (here m.machine) m.machine.desks.items own refl) ∙ half }))
         go (inl is) false half = λ c g xs many tied halves due. absurd (not_own l.reached l.needs bounds story m n ready all_most u g xs (b0 l answers coming frames story lawful m ready c g xs many tied halves due) key s half is)
         go (inr other) _ half = late_does all_most wide n ready_n u (inr (record { session = s.cramped.session; low = s.cramped.low; high = within; half = sym (u.others s.cramped.session s.cramped.low within other) ∙ s.cramped.half }))
 
-    pub not_back : (n : PagedMachine D) (why : Refusal) → (works_behind {A = Unit {0}} (Err why) ≡ true → IsReady story n) → PutsBack story all_most NoneLeft (Err why) m n → DoesAbort story own x.is_open (Err why) m n
-    not_back n refusal.RowSpent ready_n p = go p.1
+    pub not_back : (n : PagedMachine D) (why : Unserved) → (works_behind {A = Unit {0}} (Err why) ≡ true → IsReady story n) → PutsBack story all_most NoneLeft (Err why) m n → DoesAbort story own x.is_open (Err why) m n
+    not_back n (unserved.Refused refusal.RowSpent) ready_n p = go p.1
       where
-        go : IsWhy n → DoesAbort story own x.is_open (Err refusal.RowSpent) m n
+        go : IsWhy n → DoesAbort story own x.is_open (Err (unserved.Refused refusal.RowSpent)) m n
         go (inl late) = late_does all_most (let q = small in omega arith) n (ready_n refl) p.0 (inl late)
         go (inr stuck) = stuck_does n (ready_n refl) p.0 stuck.0 stuck.1
-    not_back n refusal.DiskFault ready_n p = λ c g xs many tied halves due. failed_does l answers coming frames story lawful m ready c g xs many tied halves due all_most (let q = small in omega arith) n p
-    not_back n (refusal.Damaged area place) ready_n p = λ c g xs many tied halves due. (failed_does l answers coming frames story lawful m ready c g xs many tied halves due all_most (let q = small in omega arith) n p.0, never l answers coming frames story lawful m ready c g xs many tied halves due p.1)
+    not_back n (unserved.Unanswered unanswered.DiskFault) ready_n p = λ c g xs many tied halves due. failed_does l answers coming frames story lawful m ready c g xs many tied halves due all_most (let q = small in omega arith) n p
+    not_back n (unserved.Unanswered (unanswered.Damaged place)) ready_n p = λ c g xs many tied halves due. (failed_does l answers coming frames story lawful m ready c g xs many tied halves due all_most (let q = small in omega arith) n p.0, never l answers coming frames story lawful m ready c g xs many tied halves due p.1)
     not_back n _ ready_n p = absurd p
 
     -- ## The end
 
     module _ (k n : PagedMachine D) (u : HasUndone story all_most m k) (opened : x.is_open ≡ true) (ready_k : IsReady story k) (same : IsSameSession k.machine.work.session n.machine.work.session) where
-      pub ends_by : (r : Result replies.Ended Refusal) → EndsAbort story r k n → (works_behind r ≡ true → IsReady story n) → (works_behind r ≡ true → IsAside k n) → (r ≡ Err refusal.DiskFault → HasFailedBack story 0 k n) → DoesAbort story own x.is_open r m n
+      pub ends_by : (r : Result replies.Ended Unserved) → EndsAbort story r k n → (works_behind r ≡ true → IsReady story n) → (works_behind r ≡ true → IsAside k n) → (r ≡ Err (unserved.Unanswered unanswered.DiskFault) → HasFailedBack story 0 k n) → DoesAbort story own x.is_open r m n
       ends_by (Ok reply) e ready_n a f = λ c g xs many tied halves due. aborted_does l answers coming entries frames story lawful m ready opened c g xs many tied halves due all_most (let q = small in omega arith) k n u ready_k (a refl) same (ready_n refl) reply e.0 e.1
-      ends_by (Err refusal.RowSpent) e ready_n a f = late_does (all_most + length k.machine.work.session.held.rows) wide n (ready_n refl) (undone_then l places story lawful m k n all_most (length k.machine.work.session.held.rows) u (undone_missed k n (a refl) e)) (inl (inl e.late))
+      ends_by (Err (unserved.Refused refusal.RowSpent)) e ready_n a f = late_does (all_most + length k.machine.work.session.held.rows) wide n (ready_n refl) (undone_then l places story lawful m k n all_most (length k.machine.work.session.held.rows) u (undone_missed k n (a refl) e)) (inl (inl e.late))
         where
           wide : all_most + length k.machine.work.session.held.rows ≤ 2 ^ 17
           wide = let h = holds_of (shape k.machine) (view_of k) (here k.machine) k.machine.desks.items ready_k.sound.desks in let a = h.fewer in let b = h.rows.few in let q = small in omega arith
-      ends_by (Err refusal.DiskFault) e ready_n a f = (λ c g xs many tied halves due. failed_does l answers coming frames story lawful m ready c g xs many tied halves due (all_most + 0) (let q = small in omega arith) n
+      ends_by (Err (unserved.Unanswered unanswered.DiskFault)) e ready_n a f = (λ c g xs many tied halves due. failed_does l answers coming frames story lawful m ready c g xs many tied halves due (all_most + 0) (let q = small in omega arith) n
           (failed_then l places story lawful m k n all_most 0 u (f refl)))
       ends_by (Err _) e ready_n a f = absurd e
 
 -- ## What a script is told
 
 module _ {D : Type 0} (story : D → Story) (m n : PagedMachine D) where
-  pub back_comes : (most : ℕ) (Left : PagedMachine D → PagedMachine D → Type 0) (why : Refusal) → PutsBack story most Left (Err why) m n → MayCome 1 why ⊎ EndsWork why
-  back_comes most Left refusal.RowSpent p = inl tt
-  back_comes most Left refusal.DiskFault p = inr refl
-  back_comes most Left (refusal.Damaged area place) p = inr refl
+  pub back_comes : (most : ℕ) (Left : PagedMachine D → PagedMachine D → Type 0) (why : Unserved) → PutsBack story most Left (Err why) m n → MayRefuse 1 why ⊎ EndsWork why
+  back_comes most Left (unserved.Refused refusal.RowSpent) p = inl tt
+  back_comes most Left (unserved.Unanswered unanswered.DiskFault) p = inr refl
+  back_comes most Left (unserved.Unanswered (unanswered.Damaged place)) p = inr refl
   back_comes most Left _ p = absurd p
 
   -- a test that refuses it comes before that
-  pub back_late : (most : ℕ) (Left : PagedMachine D → PagedMachine D → Type 0) (why : Refusal) → PutsBack story most Left (Err why) m n → (why ≡ refusal.Broken) ⊎ (why ≡ refusal.NoTransaction) → ⊥
-  back_late most Left refusal.RowSpent p (inl e) = absurd (cc)
-  back_late most Left refusal.RowSpent p (inr e) = absurd (cc)
-  back_late most Left refusal.DiskFault p (inl e) = absurd (cc)
-  back_late most Left refusal.DiskFault p (inr e) = absurd (cc)
-  back_late most Left (refusal.Damaged area place) p (inl e) = absurd (cc)
-  back_late most Left (refusal.Damaged area place) p (inr e) = absurd (cc)
+  pub back_late : (most : ℕ) (Left : PagedMachine D → PagedMachine D → Type 0) (why : Unserved) → PutsBack story most Left (Err why) m n → (why ≡ unserved.Unanswered unanswered.Broken) ⊎ (why ≡ unserved.Refused refusal.NoTransaction) → ⊥
+  back_late most Left (unserved.Refused refusal.RowSpent) p (inl e) = absurd (cc)
+  back_late most Left (unserved.Refused refusal.RowSpent) p (inr e) = absurd (cc)
+  back_late most Left (unserved.Unanswered unanswered.DiskFault) p (inl e) = absurd (cc)
+  back_late most Left (unserved.Unanswered unanswered.DiskFault) p (inr e) = absurd (cc)
+  back_late most Left (unserved.Unanswered (unanswered.Damaged place)) p (inl e) = absurd (cc)
+  back_late most Left (unserved.Unanswered (unanswered.Damaged place)) p (inr e) = absurd (cc)
   back_late most Left _ p e = absurd p
 
-  pub end_late : (r : Result replies.Ended Refusal) → EndsAbort story r m n → (r ≡ Err refusal.Broken) ⊎ (r ≡ Err refusal.NoTransaction) → ⊥
+  pub end_late : (r : Result replies.Ended Unserved) → EndsAbort story r m n → (r ≡ Err (unserved.Unanswered unanswered.Broken)) ⊎ (r ≡ Err (unserved.Refused refusal.NoTransaction)) → ⊥
   end_late (Ok reply) c (inl e) = absurd (cc)
   end_late (Ok reply) c (inr e) = absurd (cc)
-  end_late (Err refusal.RowSpent) c (inl e) = absurd (cc)
-  end_late (Err refusal.RowSpent) c (inr e) = absurd (cc)
-  end_late (Err refusal.DiskFault) c (inl e) = absurd (cc)
-  end_late (Err refusal.DiskFault) c (inr e) = absurd (cc)
+  end_late (Err (unserved.Refused refusal.RowSpent)) c (inl e) = absurd (cc)
+  end_late (Err (unserved.Refused refusal.RowSpent)) c (inr e) = absurd (cc)
+  end_late (Err (unserved.Unanswered unanswered.DiskFault)) c (inl e) = absurd (cc)
+  end_late (Err (unserved.Unanswered unanswered.DiskFault)) c (inr e) = absurd (cc)
   end_late (Err _) c e = absurd c
 
-err_is : (p q : Refusal) → ◌≡◌ {A = Result replies.Ended Refusal} (Err p) (Err q) → p ≡ q
+err_is : (p q : Unserved) → ◌≡◌ {A = Result replies.Ended Unserved} (Err p) (Err q) → p ≡ q
 err_is p q e = cc
 
-pub err_late : (why : Refusal) → ((why ≡ refusal.Broken) ⊎ (why ≡ refusal.NoTransaction) → ⊥) → (◌≡◌ {A = Result replies.Ended Refusal} (Err why) (Err refusal.Broken)) ⊎ (◌≡◌ {A = Result replies.Ended Refusal} (Err why) (Err refusal.NoTransaction)) → ⊥
-err_late why never (inl e) = never (inl (err_is why refusal.Broken e))
-err_late why never (inr e) = never (inr (err_is why refusal.NoTransaction e))
+pub err_late : (why : Unserved) → ((why ≡ unserved.Unanswered unanswered.Broken) ⊎ (why ≡ unserved.Refused refusal.NoTransaction) → ⊥) → (◌≡◌ {A = Result replies.Ended Unserved} (Err why) (Err (unserved.Unanswered unanswered.Broken))) ⊎ (◌≡◌ {A = Result replies.Ended Unserved} (Err why) (Err (unserved.Refused refusal.NoTransaction))) → ⊥
+err_late why never (inl e) = never (inl (err_is why (unserved.Unanswered unanswered.Broken) e))
+err_late why never (inr e) = never (inr (err_is why (unserved.Refused refusal.NoTransaction) e))
 
 -- a machine that works is not broken
 pub not_broken : (P : Type 0) (works : Bool) → (P → ⊥) → works ≡ true → P ↔ (works ≡ false)
@@ -283,7 +285,7 @@ not_broken P works never on = ((λ p. absurd (never p)), (λ off. absurd (true�
 
 -- ## What it tells
 
-pub receipt_of : {D : Type 0} (story : D → Story) (most : ℕ) (m k n : PagedMachine D) → HasUndone story most m k → (r : Result replies.Ended Refusal) → EndsAbort story r k n → IfOk r (IsEnded (view_of k) n.machine.work.session) → IfOk r (HasReceipt m n)
+pub receipt_of : {D : Type 0} (story : D → Story) (most : ℕ) (m k n : PagedMachine D) → HasUndone story most m k → (r : Result replies.Ended Unserved) → EndsAbort story r k n → IfOk r (IsEnded (view_of k) n.machine.work.session) → IfOk r (HasReceipt m n)
 receipt_of story most m k n u (Ok reply) c is_told = record {
   kept = c.0.ended.given ∙ u.part.given;
   before = view_of k;

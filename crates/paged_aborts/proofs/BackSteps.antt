@@ -2,6 +2,8 @@
 use Rattle.std.proofs.Common.{◌≡◌, ℕ, true, Result, Ok, Err, ap, sym, true≢false}
 use Rattle.lean_disk.specs.Story.{Story}
 use Rattle.map_model.specs.declared.call.Refusal.TheVariants as refusal
+use Rattle.paged_desks.specs.engine_trait.declared.unserved.Unanswered.TheVariants as unanswered
+use Rattle.paged_desks.specs.engine_trait.declared.unserved.Unserved.TheVariants as unserved
 use Rattle.paged_desks.specs.page_pool.Pools.{EveryStanding}
 use Rattle.row_changes.specs.Puts.{works_behind}
 use Rattle.row_changes.specs.declared.ways.Unmade.{Unmade}
@@ -33,8 +35,8 @@ module _ {D : Type 0} (story : D → Story) (law : EveryOther) (standing : Every
 
   pub back_ready : (r : Result (Unit {0}) Unmade) → works_behind r ≡ true → BacksInLeaf story r m n → IsReady story n
   back_ready (Ok u) w d = ready_back story m n a same ready law standing d fits works (holds works)
-  back_ready (Err (unmade.Refused refusal.RowSpent)) w d = still d.1 d.0.given d.0.seen
-  back_ready (Err (unmade.Refused refusal.DiskFault)) w d = absurd (true≢false (sym w))
-  back_ready (Err (unmade.Refused _)) w d = absurd d
+  back_ready (Err (unmade.Unserved (unserved.Refused refusal.RowSpent))) w d = still d.1 d.0.given d.0.seen
+  back_ready (Err (unmade.Unserved (unserved.Unanswered unanswered.DiskFault))) w d = absurd (true≢false (sym w))
+  back_ready (Err (unmade.Unserved _)) w d = absurd d
   back_ready (Err (unmade.Cold cold)) w d = still d.1 d.0.met.given d.0.met.seen
   back_ready (Err unmade.Lost) w d = still d.1 d.0.given d.0.seen

@@ -3,8 +3,10 @@ use Rattle.std.proofs.Common.{◌≡◌, ◌∙◌, ◌≤◌, ◌+◌, ◌*◌,
 use Rattle.std.proofs.Math.Nat.{mul-le-mul_right}
 use Rattle.paged_desks.specs.core_calls.LogEvents.{EveryWhere}
 use Rattle.lean_disk.specs.Story.{IsLawful, Story}
-use Rattle.map_model.specs.declared.call.Refusal.{Refusal}
 use Rattle.map_model.specs.declared.call.Refusal.TheVariants as refusal
+use Rattle.paged_desks.specs.engine_trait.declared.unserved.Unanswered.TheVariants as unanswered
+use Rattle.paged_desks.specs.engine_trait.declared.unserved.Unserved.{Unserved}
+use Rattle.paged_desks.specs.engine_trait.declared.unserved.Unserved.TheVariants as unserved
 use Rattle.paged_desks.specs.row_words.Moments.{events_of}
 use Rattle.row_changes.specs.declared.ways.Cold.{Cold}
 use Rattle.row_changes.specs.declared.ways.Unmade.{Unmade}
@@ -15,14 +17,14 @@ use Rattle.paged_desks.specs.session_state.Holds.{IsSameSession}
 use Rattle.paged_desks.specs.session_state.declared.undo.Undone.{Undone}
 use Rattle.paged_desks.specs.session_state.declared.work.Work.{Work}
 use Rattle.paged_desks.proofs.EndingLemmas.{Grounds}
-use Rattle.paged_desks.specs.Calls.{IsAside}
+use Rattle.paged_desks.specs.Calls.{IsAside, unserved_of}
 use Rattle.paged_desks.specs.Machines.{IsReady, view_of}
 use Rattle.paged_desks.specs.Pages.{goes_on, most_a_level}
 use Rattle.paged_desks.specs.Parts.{HasFailed, HasGone, IsLateOrStuck, StandsNowhere}
 use Rattle.paged_desks.specs.declared.machine.PagedMachine.{PagedMachine}
 use Rattle.paged_desks.specs.declared.warming.Unwarmed.{Unwarmed}
 use Rattle.paged_desks.specs.declared.warming.Unwarmed.TheVariants as stopped
-use Rattle.paged_aborts.specs.Backs.{BacksInLeaf, HasUndone, IsDamaged, IsGivenUp, IsWhy, NoneLeft, OneLess, PutsBack, SoFar, most_a_back, most_in_all, refusal_of}
+use Rattle.paged_aborts.specs.Backs.{BacksInLeaf, HasUndone, IsDamaged, IsGivenUp, IsWhy, NoneLeft, OneLess, PutsBack, SoFar, most_a_back, most_in_all}
 use Rattle.paged_aborts.proofs.UndoneLemmas.{behind_a, failed_come, failed_log, failed_lost, failed_then, failed_up, undone_come, undone_one, undone_same, undone_then, undone_up}
 
 why_of : {D : Type 0} (key : ℕ) (n : PagedMachine D) → IsLateOrStuck key n → IsWhy n
@@ -46,7 +48,7 @@ module _ (l : Grounds) (places : EveryWhere) {D : Type 0} (story : D → Story) 
       → (goes_on {A = Unit {0}} (Err why) ≡ true → HasGone story key (9 * most_a_level m.machine.work.session.workers) m k) → (goes_on {A = Unit {0}} (Err why) ≡ false → HasFailed story m k)
       → (◌≡◌ {A = Result (Unit {0}) Unwarmed} (Err why) (Err stopped.RowSpent) → IsLateOrStuck key k)
       → ((page : ℕ) → (◌≡◌ {A = Result (Unit {0}) Unwarmed} (Err why) (Err (stopped.Damaged page))) ⊎ (◌≡◌ {A = Result (Unit {0}) Unwarmed} (Err why) (Err (stopped.Altered page))) → StandsNowhere story m)
-      → PutsBack story (most_a_back m.machine.work.session.workers) Left (Err (refusal_of why)) m k
+      → PutsBack story (most_a_back m.machine.work.session.workers) Left (Err (unserved_of why)) m k
   come_refused key m k ready Left stopped.RowSpent gone failed tight damaged = (undone_up l places story lawful m k (9 * most_a_level m.machine.work.session.workers) (most_a_back m.machine.work.session.workers) (omega arith) (undone_come l places story lawful m k ready (gone refl)), why_of key k (tight refl))
   come_refused key m k ready Left stopped.DiskFault gone failed tight damaged = failed_up l places story lawful m k (9 * most_a_level m.machine.work.session.workers) (most_a_back m.machine.work.session.workers) (omega arith) (failed_come l places story lawful m k ready (failed refl))
   come_refused key m k ready Left (stopped.Damaged page) gone failed tight damaged = (failed_up l places story lawful m k (9 * most_a_level m.machine.work.session.workers) (most_a_back m.machine.work.session.workers) (omega arith) (failed_come l places story lawful m k ready (failed refl)), damaged page (inl refl))
@@ -66,23 +68,23 @@ module _ (l : Grounds) (places : EveryWhere) {D : Type 0} (story : D → Story) 
     met : n.machine.work ≡ k.machine.work → (view_of n).given ≡ (view_of k).given → (view_of n).seen ≡ (view_of k).seen → HasUndone story (i + 0) m n
     met e given seen = undone_then l places story lawful m k n i 0 come (undone_same l places story lawful k n a e given seen)
 
-    refused : SeatFits n.machine → (why : Refusal) → BacksInLeaf story (Err (unmade.Refused why)) k n → PutsBack story most OneLess (Err why) m n
-    refused fits refusal.RowSpent d = (undone_up l places story lawful m n (i + 0) most (let q = few in omega arith) (met d.1 d.0.given d.0.seen), inl (inl d.0.many))
-    refused fits refusal.DiskFault d = failed_up l places story lawful m n (i + 0) most (let q = few in omega arith) (failed_then l places story lawful m k n i 0 come (failed_log l places story lawful k n ready same d fits))
+    refused : SeatFits n.machine → (why : Unserved) → BacksInLeaf story (Err (unmade.Unserved why)) k n → PutsBack story most OneLess (Err why) m n
+    refused fits (unserved.Refused refusal.RowSpent) d = (undone_up l places story lawful m n (i + 0) most (let q = few in omega arith) (met d.1 d.0.given d.0.seen), inl (inl d.0.many))
+    refused fits (unserved.Unanswered unanswered.DiskFault) d = failed_up l places story lawful m n (i + 0) most (let q = few in omega arith) (failed_then l places story lawful m k n i 0 come (failed_log l places story lawful k n ready same d fits))
     refused fits _ d = absurd d
 
-    pub tried_err : SeatFits n.machine → (why : Refusal) (made : Unmade) → made ≡ unmade.Refused why → BacksInLeaf story (Err made) k n → PutsBack story most OneLess (Err why) m n
+    pub tried_err : SeatFits n.machine → (why : Unserved) (made : Unmade) → made ≡ unmade.Unserved why → BacksInLeaf story (Err made) k n → PutsBack story most OneLess (Err why) m n
     tried_err fits why made is d = refused fits why (subst (λ (r : Unmade). BacksInLeaf story (Err r) k n) is d)
 
     -- its leaf has lost the entry
-    lost : (o : PagedMachine D) → IsGivenUp n o → BacksInLeaf story (Err unmade.Lost) k n → ((view_of k).given.faithful ≡ true → ⊥) → (why : Refusal) → IsDamaged why → PutsBack story most OneLess (Err why) m o
-    lost o u d not (refusal.Damaged area place) is = (
+    lost : (o : PagedMachine D) → IsGivenUp n o → BacksInLeaf story (Err unmade.Lost) k n → ((view_of k).given.faithful ≡ true → ⊥) → (why : Unserved) → IsDamaged why → PutsBack story most OneLess (Err why) m o
+    lost o u d not (unserved.Unanswered (unanswered.Damaged place)) is = (
       failed_up l places story lawful m o ((i + 0) + 0) most (let q = few in omega arith) (failed_then l places story lawful m n o (i + 0) 0 (met d.1 d.0.given d.0.seen) (failed_lost l places story lawful n o u)),
       nowhere_then m k i come (nowhere_of k not),
     )
     lost o u d not _ is = absurd is
 
-    pub tried_lost : (o : PagedMachine D) → IsGivenUp n o → (made : Unmade) → made ≡ unmade.Lost → BacksInLeaf story (Err made) k n → ((view_of k).given.faithful ≡ true → ⊥) → (why : Refusal) → IsDamaged why → PutsBack story most OneLess (Err why) m o
+    pub tried_lost : (o : PagedMachine D) → IsGivenUp n o → (made : Unmade) → made ≡ unmade.Lost → BacksInLeaf story (Err made) k n → ((view_of k).given.faithful ≡ true → ⊥) → (why : Unserved) → IsDamaged why → PutsBack story most OneLess (Err why) m o
     tried_lost o u made is d not why damaged = lost o u (subst (λ (r : Unmade). BacksInLeaf story (Err r) k n) is d) not why damaged
 
   -- ## A page of the way was not hot
@@ -101,14 +103,14 @@ module _ (l : Grounds) (places : EveryWhere) {D : Type 0} (story : D → Story) 
     same_most : most_a_back u.machine.work.session.workers ≡ most_a_back m.machine.work.session.workers
     same_most = ap (λ (k : Work D). most_a_back k.session.workers) work_cold
 
-    pub backs_on : (n : PagedMachine D) (r : Result (Unit {0}) Refusal) → PutsBack story (most_a_back u.machine.work.session.workers) OneLess r u n → PutsBack story (most_a_back m.machine.work.session.workers) OneLess r m n
+    pub backs_on : (n : PagedMachine D) (r : Result (Unit {0}) Unserved) → PutsBack story (most_a_back u.machine.work.session.workers) OneLess r u n → PutsBack story (most_a_back m.machine.work.session.workers) OneLess r m n
     backs_on n r p = go r (subst (λ k. PutsBack story k OneLess r u n) same_most p)
       where
-        go : (r : Result (Unit {0}) Refusal) → PutsBack story (most_a_back m.machine.work.session.workers) OneLess r u n → PutsBack story (most_a_back m.machine.work.session.workers) OneLess r m n
+        go : (r : Result (Unit {0}) Unserved) → PutsBack story (most_a_back m.machine.work.session.workers) OneLess r u n → PutsBack story (most_a_back m.machine.work.session.workers) OneLess r m n
         go (Ok e) p = (undone_up l places story lawful m n (0 + (most_a_back m.machine.work.session.workers)) (most_a_back m.machine.work.session.workers) (omega arith) (undone_then l places story lawful m u n 0 (most_a_back m.machine.work.session.workers) still p.0), p.1 ∙ ap (λ (k : Work D). length k.session.undo) work_cold)
-        go (Err refusal.RowSpent) p = (undone_up l places story lawful m n (0 + (most_a_back m.machine.work.session.workers)) (most_a_back m.machine.work.session.workers) (omega arith) (undone_then l places story lawful m u n 0 (most_a_back m.machine.work.session.workers) still p.0), p.1)
-        go (Err refusal.DiskFault) p = failed_up l places story lawful m n (0 + (most_a_back m.machine.work.session.workers)) (most_a_back m.machine.work.session.workers) (omega arith) (failed_then l places story lawful m u n 0 (most_a_back m.machine.work.session.workers) still p)
-        go (Err (refusal.Damaged area place)) p = (failed_up l places story lawful m n (0 + (most_a_back m.machine.work.session.workers)) (most_a_back m.machine.work.session.workers) (omega arith) (failed_then l places story lawful m u n 0 (most_a_back m.machine.work.session.workers) still p.0), nowhere_then m u 0 still p.1)
+        go (Err (unserved.Refused refusal.RowSpent)) p = (undone_up l places story lawful m n (0 + (most_a_back m.machine.work.session.workers)) (most_a_back m.machine.work.session.workers) (omega arith) (undone_then l places story lawful m u n 0 (most_a_back m.machine.work.session.workers) still p.0), p.1)
+        go (Err (unserved.Unanswered unanswered.DiskFault)) p = failed_up l places story lawful m n (0 + (most_a_back m.machine.work.session.workers)) (most_a_back m.machine.work.session.workers) (omega arith) (failed_then l places story lawful m u n 0 (most_a_back m.machine.work.session.workers) still p)
+        go (Err (unserved.Unanswered (unanswered.Damaged place))) p = (failed_up l places story lawful m n (0 + (most_a_back m.machine.work.session.workers)) (most_a_back m.machine.work.session.workers) (omega arith) (failed_then l places story lawful m u n 0 (most_a_back m.machine.work.session.workers) still p.0), nowhere_then m u 0 still p.1)
         go (Err _) p = absurd p
 
 -- ## One after another
@@ -159,11 +161,11 @@ module _ (l : Grounds) (places : EveryWhere) {D : Type 0} (story : D → Story) 
     all_back e = (undone_up l places story lawful m k (s.many * each) all (shorter (s.many * each) each all within) s.undone, none_in k.machine.work.session.undo e)
 
     -- or one could not be put back
-    pub not_back : (why : Refusal) → PutsBack story (most_a_back k.machine.work.session.workers) OneLess (Err why) k n → PutsBack story all NoneLeft (Err why) m n
+    pub not_back : (why : Unserved) → PutsBack story (most_a_back k.machine.work.session.workers) OneLess (Err why) k n → PutsBack story all NoneLeft (Err why) m n
     not_back why p = go why (subst (λ q. PutsBack story q OneLess (Err why) k n) same_each p)
       where
-        go : (why : Refusal) → PutsBack story each OneLess (Err why) k n → PutsBack story all NoneLeft (Err why) m n
-        go refusal.RowSpent p = (undone_up l places story lawful m n (s.many * each + each) all within (undone_then l places story lawful m k n (s.many * each) each s.undone p.0), p.1)
-        go refusal.DiskFault p = failed_up l places story lawful m n (s.many * each + each) all within (failed_then l places story lawful m k n (s.many * each) each s.undone p)
-        go (refusal.Damaged area place) p = (failed_up l places story lawful m n (s.many * each + each) all within (failed_then l places story lawful m k n (s.many * each) each s.undone p.0), nowhere_then l places story lawful m k (s.many * each) s.undone p.1)
+        go : (why : Unserved) → PutsBack story each OneLess (Err why) k n → PutsBack story all NoneLeft (Err why) m n
+        go (unserved.Refused refusal.RowSpent) p = (undone_up l places story lawful m n (s.many * each + each) all within (undone_then l places story lawful m k n (s.many * each) each s.undone p.0), p.1)
+        go (unserved.Unanswered unanswered.DiskFault) p = failed_up l places story lawful m n (s.many * each + each) all within (failed_then l places story lawful m k n (s.many * each) each s.undone p)
+        go (unserved.Unanswered (unanswered.Damaged place)) p = (failed_up l places story lawful m n (s.many * each + each) all within (failed_then l places story lawful m k n (s.many * each) each s.undone p.0), nowhere_then l places story lawful m k (s.many * each) s.undone p.1)
         go _ p = absurd p

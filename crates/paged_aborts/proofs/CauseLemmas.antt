@@ -2,8 +2,10 @@
 use Rattle.std.proofs.Common.{◌≡◌, ◌∙◌, ◌<◌, ℕ, true, false, List, [], ◌∷◌, length, Some, Result, Ok, Err, IsErrAnd, ap, refl, sym, subst, arith, true≢false}
 use Rattle.lean_disk.specs.Faults.{HasCause}
 use Rattle.lean_disk.specs.Story.{Story}
-use Rattle.map_model.specs.declared.call.Refusal.{Refusal}
 use Rattle.map_model.specs.declared.call.Refusal.TheVariants as refusal
+use Rattle.paged_desks.specs.engine_trait.declared.unserved.Unanswered.TheVariants as unanswered
+use Rattle.paged_desks.specs.engine_trait.declared.unserved.Unserved.{Unserved}
+use Rattle.paged_desks.specs.engine_trait.declared.unserved.Unserved.TheVariants as unserved
 use Rattle.row_changes.specs.Puts.{works_behind as works_after_try}
 use Rattle.row_changes.specs.declared.ways.Cold.{Cold}
 use Rattle.row_changes.specs.declared.ways.Unmade.{Unmade}
@@ -14,7 +16,7 @@ use Rattle.paged_desks.specs.session_state.Holds.{IsSameSession}
 use Rattle.paged_desks.specs.session_state.Undo.{newest_of}
 use Rattle.paged_desks.specs.session_state.declared.undo.Undone.{Undone}
 use Rattle.row_ends.specs.declared.ending.Ended.{Ended}
-use Rattle.paged_desks.specs.Calls.{works_behind}
+use Rattle.paged_desks.specs.Calls.{unserved_of, works_behind}
 use Rattle.paged_desks.specs.Machines.{IsReady, pages}
 use Rattle.paged_desks.specs.paged_rows.Paged.{IsWarm}
 use Rattle.paged_desks.specs.Pages.{goes_on}
@@ -22,11 +24,11 @@ use Rattle.paged_desks.specs.Parts.{HasFailed, HasGone}
 use Rattle.paged_desks.specs.declared.machine.PagedMachine.{PagedMachine}
 use Rattle.paged_desks.specs.declared.warming.Unwarmed.{Unwarmed}
 use Rattle.paged_desks.specs.declared.warming.Unwarmed.TheVariants as stopped
-use Rattle.paged_aborts.specs.Backs.{BacksInLeaf, IsDamaged, IsNewestKey, IsWarmNewest, refusal_of}
+use Rattle.paged_aborts.specs.Backs.{BacksInLeaf, IsDamaged, IsNewestKey, IsWarmNewest}
 
 -- an answer of a piece
 abbrev pub Told : Type 0
-Told = Result (Unit {0}) Refusal
+Told = Result (Unit {0}) Unserved
 
 -- ## Faults
 
@@ -41,44 +43,44 @@ cause_none before now P e never = record { later = (let q = e in omega arith); c
 pub cause_at : (a b c d : ℕ) (P : Type 0) → a ≡ b → d ≡ c → HasCause b c P → HasCause a d P
 cause_at a b c d P e f h = subst (λ n. HasCause a n P) (sym f) (subst (λ n. HasCause n c P) (sym e) h)
 
-fault_to : (why : Unwarmed) → ◌≡◌ {A = Result (Unit {0}) Unwarmed} (Err why) (Err stopped.DiskFault) → ◌≡◌ {A = Told} (Err (refusal_of why)) (Err refusal.DiskFault)
+fault_to : (why : Unwarmed) → ◌≡◌ {A = Result (Unit {0}) Unwarmed} (Err why) (Err stopped.DiskFault) → ◌≡◌ {A = Told} (Err (unserved_of why)) (Err (unserved.Unanswered unanswered.DiskFault))
 fault_to stopped.DiskFault e = refl
 fault_to stopped.RowSpent e = absurd (cc)
 fault_to (stopped.Damaged page) e = absurd (cc)
 fault_to (stopped.Altered page) e = absurd (cc)
 
-fault_from : (why : Unwarmed) → ◌≡◌ {A = Told} (Err (refusal_of why)) (Err refusal.DiskFault) → ◌≡◌ {A = Result (Unit {0}) Unwarmed} (Err why) (Err stopped.DiskFault)
+fault_from : (why : Unwarmed) → ◌≡◌ {A = Told} (Err (unserved_of why)) (Err (unserved.Unanswered unanswered.DiskFault)) → ◌≡◌ {A = Result (Unit {0}) Unwarmed} (Err why) (Err stopped.DiskFault)
 fault_from stopped.DiskFault e = refl
 fault_from stopped.RowSpent e = absurd (cc)
 fault_from (stopped.Damaged page) e = absurd (cc)
 fault_from (stopped.Altered page) e = absurd (cc)
 
 -- a fault of a warm is told as one of the call
-pub cause_warm : (before now : ℕ) (why : Unwarmed) (told : Refusal) → told ≡ refusal_of why → HasCause before now (◌≡◌ {A = Result (Unit {0}) Unwarmed} (Err why) (Err stopped.DiskFault)) → HasCause before now (◌≡◌ {A = Told} (Err told) (Err refusal.DiskFault))
-cause_warm before now why told is h = subst (λ (r : Refusal). HasCause before now (◌≡◌ {A = Told} (Err r) (Err refusal.DiskFault))) (sym is) (cause_as before now _ _ (fault_to why) (fault_from why) h)
+pub cause_warm : (before now : ℕ) (why : Unwarmed) (told : Unserved) → told ≡ unserved_of why → HasCause before now (◌≡◌ {A = Result (Unit {0}) Unwarmed} (Err why) (Err stopped.DiskFault)) → HasCause before now (◌≡◌ {A = Told} (Err told) (Err (unserved.Unanswered unanswered.DiskFault)))
+cause_warm before now why told is h = subst (λ (r : Unserved). HasCause before now (◌≡◌ {A = Told} (Err r) (Err (unserved.Unanswered unanswered.DiskFault)))) (sym is) (cause_as before now _ _ (fault_to why) (fault_from why) h)
 
 abbrev TriedFault : Unmade → Type 0
-TriedFault made = ◌≡◌ {A = Result (Unit {0}) Unmade} (Err made) (Err (unmade.Refused refusal.DiskFault))
+TriedFault made = ◌≡◌ {A = Result (Unit {0}) Unmade} (Err made) (Err (unmade.Unserved (unserved.Unanswered unanswered.DiskFault)))
 
 -- and one of a try
-pub cause_try : (before now : ℕ) (made : Unmade) (why : Refusal) → made ≡ unmade.Refused why → HasCause before now (TriedFault made) → HasCause before now (◌≡◌ {A = Told} (Err why) (Err refusal.DiskFault))
+pub cause_try : (before now : ℕ) (made : Unmade) (why : Unserved) → made ≡ unmade.Unserved why → HasCause before now (TriedFault made) → HasCause before now (◌≡◌ {A = Told} (Err why) (Err (unserved.Unanswered unanswered.DiskFault)))
 cause_try before now made why is h = cause_as before now _ _ to from (subst (λ (r : Unmade). HasCause before now (TriedFault r)) is h)
   where
-    to : TriedFault (unmade.Refused why) → ◌≡◌ {A = Told} (Err why) (Err refusal.DiskFault)
+    to : TriedFault (unmade.Unserved why) → ◌≡◌ {A = Told} (Err why) (Err (unserved.Unanswered unanswered.DiskFault))
     to e = cc
 
-    from : ◌≡◌ {A = Told} (Err why) (Err refusal.DiskFault) → TriedFault (unmade.Refused why)
+    from : ◌≡◌ {A = Told} (Err why) (Err (unserved.Unanswered unanswered.DiskFault)) → TriedFault (unmade.Unserved why)
     from e = cc
 
 -- none where an entry was lost
-pub cause_lost : (before at now : ℕ) (made : Unmade) (why : Refusal) → made ≡ unmade.Lost → IsDamaged why → HasCause before at (TriedFault made) → now ≡ at → HasCause before now (◌≡◌ {A = Told} (Err why) (Err refusal.DiskFault))
+pub cause_lost : (before at now : ℕ) (made : Unmade) (why : Unserved) → made ≡ unmade.Lost → IsDamaged why → HasCause before at (TriedFault made) → now ≡ at → HasCause before now (◌≡◌ {A = Told} (Err why) (Err (unserved.Unanswered unanswered.DiskFault)))
 cause_lost before at now made why is damaged h e = cause_none before now _ (e ∙ h.calm (λ f. lost_fault (subst TriedFault is f))) (no_fault why damaged)
   where
     lost_fault : TriedFault unmade.Lost → ⊥
     lost_fault f = absurd (cc)
 
-    no_fault : (why : Refusal) → IsDamaged why → ◌≡◌ {A = Told} (Err why) (Err refusal.DiskFault) → ⊥
-    no_fault (refusal.Damaged area place) is f = absurd (cc)
+    no_fault : (why : Unserved) → IsDamaged why → ◌≡◌ {A = Told} (Err why) (Err (unserved.Unanswered unanswered.DiskFault)) → ⊥
+    no_fault (unserved.Unanswered (unanswered.Damaged place)) is f = absurd (cc)
     no_fault _ is f = absurd is
 
 -- nor where a page was not hot
@@ -91,58 +93,56 @@ calm_cold before now made cold is h = h.calm (λ f. cold_fault (subst TriedFault
 pub ok_err : (q : Unwarmed) → ◌≡◌ {A = Result (Unit {0}) Unwarmed} (Ok tt) (Err q) → ⊥
 ok_err q e = absurd (cc)
 
-pub all_calm : ◌≡◌ {A = Told} (Ok tt) (Err refusal.DiskFault) → ⊥
+pub all_calm : ◌≡◌ {A = Told} (Ok tt) (Err (unserved.Unanswered unanswered.DiskFault)) → ⊥
 all_calm e = absurd (cc)
 
 -- where all was answered
-pub cause_ok : (before now : ℕ) → HasCause before now (◌≡◌ {A = Result (Unit {0}) Unmade} (Ok tt) (Err (unmade.Refused refusal.DiskFault))) → HasCause before now (◌≡◌ {A = Told} (Ok tt) (Err refusal.DiskFault))
+pub cause_ok : (before now : ℕ) → HasCause before now (◌≡◌ {A = Result (Unit {0}) Unmade} (Ok tt) (Err (unmade.Unserved (unserved.Unanswered unanswered.DiskFault)))) → HasCause before now (◌≡◌ {A = Told} (Ok tt) (Err (unserved.Unanswered unanswered.DiskFault)))
 cause_ok before now h = cause_none before now _ (h.calm made_calm) all_calm
   where
-    made_calm : ◌≡◌ {A = Result (Unit {0}) Unmade} (Ok tt) (Err (unmade.Refused refusal.DiskFault)) → ⊥
+    made_calm : ◌≡◌ {A = Result (Unit {0}) Unmade} (Ok tt) (Err (unmade.Unserved (unserved.Unanswered unanswered.DiskFault))) → ⊥
     made_calm e = absurd (cc)
 
 -- as the abort is answered
-pub cause_ended : (before now : ℕ) (why : Refusal) → HasCause before now (◌≡◌ {A = Told} (Err why) (Err refusal.DiskFault)) → HasCause before now (◌≡◌ {A = Result Ended Refusal} (Err why) (Err refusal.DiskFault))
+pub cause_ended : (before now : ℕ) (why : Unserved) → HasCause before now (◌≡◌ {A = Told} (Err why) (Err (unserved.Unanswered unanswered.DiskFault))) → HasCause before now (◌≡◌ {A = Result Ended Unserved} (Err why) (Err (unserved.Unanswered unanswered.DiskFault)))
 cause_ended before now why h = cause_as before now _ _ to from h
   where
-    to : ◌≡◌ {A = Told} (Err why) (Err refusal.DiskFault) → ◌≡◌ {A = Result Ended Refusal} (Err why) (Err refusal.DiskFault)
+    to : ◌≡◌ {A = Told} (Err why) (Err (unserved.Unanswered unanswered.DiskFault)) → ◌≡◌ {A = Result Ended Unserved} (Err why) (Err (unserved.Unanswered unanswered.DiskFault))
     to e = cc
 
-    from : ◌≡◌ {A = Result Ended Refusal} (Err why) (Err refusal.DiskFault) → ◌≡◌ {A = Told} (Err why) (Err refusal.DiskFault)
+    from : ◌≡◌ {A = Result Ended Unserved} (Err why) (Err (unserved.Unanswered unanswered.DiskFault)) → ◌≡◌ {A = Told} (Err why) (Err (unserved.Unanswered unanswered.DiskFault))
     from e = cc
 
 -- ## Whether the machine works on
 
-pub as_ended : (why : Refusal) → works_behind {A = Unit {0}} (Err why) ≡ works_behind {A = Ended} (Err why)
-as_ended refusal.Broken = refl
-as_ended refusal.DiskFault = refl
-as_ended (refusal.Damaged area place) = refl
-as_ended _ = refl
+pub as_ended : (why : Unserved) → works_behind {A = Unit {0}} (Err why) ≡ works_behind {A = Ended} (Err why)
+as_ended (unserved.Refused why) = refl
+as_ended (unserved.Unanswered why) = refl
 
-pub tried_works : {D : Type 0} (story : D → Story) (m n : PagedMachine D) (made : Unmade) (why : Refusal) → made ≡ unmade.Refused why → BacksInLeaf story (Err made) m n → works_after_try {A = Unit {0}} (Err made) ≡ works_behind {A = Unit {0}} (Err why)
+pub tried_works : {D : Type 0} (story : D → Story) (m n : PagedMachine D) (made : Unmade) (why : Unserved) → made ≡ unmade.Unserved why → BacksInLeaf story (Err made) m n → works_after_try {A = Unit {0}} (Err made) ≡ works_behind {A = Unit {0}} (Err why)
 tried_works story m n made why is d = ap (λ (r : Unmade). works_after_try {A = Unit {0}} (Err r)) is ∙ go why (subst (λ (r : Unmade). BacksInLeaf story (Err r) m n) is d)
   where
-    go : (why : Refusal) → BacksInLeaf story (Err (unmade.Refused why)) m n → works_after_try {A = Unit {0}} (Err (unmade.Refused why)) ≡ works_behind {A = Unit {0}} (Err why)
-    go refusal.RowSpent d = refl
-    go refusal.DiskFault d = refl
+    go : (why : Unserved) → BacksInLeaf story (Err (unmade.Unserved why)) m n → works_after_try {A = Unit {0}} (Err (unmade.Unserved why)) ≡ works_behind {A = Unit {0}} (Err why)
+    go (unserved.Refused refusal.RowSpent) d = refl
+    go (unserved.Unanswered unanswered.DiskFault) d = refl
     go _ d = absurd d
 
-pub lost_works : (why : Refusal) → IsDamaged why → works_behind {A = Unit {0}} (Err why) ≡ false
-lost_works (refusal.Damaged area place) is = refl
+pub lost_works : (why : Unserved) → IsDamaged why → works_behind {A = Unit {0}} (Err why) ≡ false
+lost_works (unserved.Unanswered (unanswered.Damaged place)) is = refl
 lost_works _ is = absurd is
 
 module _ {D : Type 0} (story : D → Story) (key most : ℕ) (m n : PagedMachine D) where
-  pub works_unwarmed : (why : Unwarmed) (told : Refusal) → told ≡ refusal_of why → n.machine.work.session.works ≡ goes_on {A = Unit {0}} (Err why) → n.machine.work.session.works ≡ works_behind {A = Unit {0}} (Err told)
-  works_unwarmed stopped.RowSpent told is e = e ∙ ap (λ (r : Refusal). works_behind {A = Unit {0}} (Err r)) (sym is)
-  works_unwarmed stopped.DiskFault told is e = e ∙ ap (λ (r : Refusal). works_behind {A = Unit {0}} (Err r)) (sym is)
-  works_unwarmed (stopped.Damaged page) told is e = e ∙ ap (λ (r : Refusal). works_behind {A = Unit {0}} (Err r)) (sym is)
-  works_unwarmed (stopped.Altered page) told is e = e ∙ ap (λ (r : Refusal). works_behind {A = Unit {0}} (Err r)) (sym is)
+  pub works_unwarmed : (why : Unwarmed) (told : Unserved) → told ≡ unserved_of why → n.machine.work.session.works ≡ goes_on {A = Unit {0}} (Err why) → n.machine.work.session.works ≡ works_behind {A = Unit {0}} (Err told)
+  works_unwarmed stopped.RowSpent told is e = e ∙ ap (λ (r : Unserved). works_behind {A = Unit {0}} (Err r)) (sym is)
+  works_unwarmed stopped.DiskFault told is e = e ∙ ap (λ (r : Unserved). works_behind {A = Unit {0}} (Err r)) (sym is)
+  works_unwarmed (stopped.Damaged page) told is e = e ∙ ap (λ (r : Unserved). works_behind {A = Unit {0}} (Err r)) (sym is)
+  works_unwarmed (stopped.Altered page) told is e = e ∙ ap (λ (r : Unserved). works_behind {A = Unit {0}} (Err r)) (sym is)
 
-  pub ready_unwarmed : (why : Unwarmed) (told : Refusal) → told ≡ refusal_of why → (goes_on {A = Unit {0}} (Err why) ≡ true → IsReady story n) → works_behind {A = Unit {0}} (Err told) ≡ true → IsReady story n
+  pub ready_unwarmed : (why : Unwarmed) (told : Unserved) → told ≡ unserved_of why → (goes_on {A = Unit {0}} (Err why) ≡ true → IsReady story n) → works_behind {A = Unit {0}} (Err told) ≡ true → IsReady story n
   ready_unwarmed stopped.RowSpent told is p w = p refl
-  ready_unwarmed stopped.DiskFault told is p w = absurd (true≢false (sym w ∙ ap (λ (r : Refusal). works_behind {A = Unit {0}} (Err r)) is))
-  ready_unwarmed (stopped.Damaged page) told is p w = absurd (true≢false (sym w ∙ ap (λ (r : Refusal). works_behind {A = Unit {0}} (Err r)) is))
-  ready_unwarmed (stopped.Altered page) told is p w = absurd (true≢false (sym w ∙ ap (λ (r : Refusal). works_behind {A = Unit {0}} (Err r)) is))
+  ready_unwarmed stopped.DiskFault told is p w = absurd (true≢false (sym w ∙ ap (λ (r : Unserved). works_behind {A = Unit {0}} (Err r)) is))
+  ready_unwarmed (stopped.Damaged page) told is p w = absurd (true≢false (sym w ∙ ap (λ (r : Unserved). works_behind {A = Unit {0}} (Err r)) is))
+  ready_unwarmed (stopped.Altered page) told is p w = absurd (true≢false (sym w ∙ ap (λ (r : Unserved). works_behind {A = Unit {0}} (Err r)) is))
 
   pub fits_unwarmed : (why : Unwarmed) → (goes_on {A = Unit {0}} (Err why) ≡ true → IsReady story n) → (goes_on {A = Unit {0}} (Err why) ≡ false → HasFailed story m n) → SeatFits n.machine
   fits_unwarmed stopped.RowSpent ready failed = (ready refl).sound.fits

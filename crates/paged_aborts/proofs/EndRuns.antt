@@ -5,7 +5,6 @@ use Rattle.map_model.specs.Lists.{all, any}
 use Rattle.map_model.specs.declared.call.Answer.TheVariants as answer
 use Rattle.map_model.specs.declared.call.Call.{Call}
 use Rattle.map_model.specs.declared.call.Call.TheVariants as call
-use Rattle.map_model.specs.declared.call.Refusal.{Refusal}
 use Rattle.map_model.specs.declared.call.Refusal.TheVariants as refusal
 use Rattle.rfa_model.specs.Reaches.{least}
 use Rattle.rfa_model.specs.Stamps.{need_of}
@@ -76,6 +75,7 @@ use Rattle.paged_aborts.specs.Backs.{HasUndone}
 use Rattle.paged_aborts.proofs.AbortEvents.{Backs}
 use Rattle.paged_aborts.proofs.AbortRuns as runs
 use Rattle.paged_aborts.proofs.BackEvents.{length_events}
+use Rattle.map_model.specs.declared.call.Refusal.{Refusal}
 
 length_unlocks : (own : ℕ) (rows : List ℕ) → length (unlocks own rows) ≡ length rows
 length_unlocks own [] = refl

@@ -12,9 +12,11 @@ use Rattle.paged_desks.specs.engine_calls.Commits.{unlocks}
 use Rattle.lean_disk.specs.Moments.{Framed}
 use Rattle.lean_disk.proofs.MomentLemmas.{framed}
 use Rattle.lean_disk.specs.Story.{Story}
-use Rattle.map_model.specs.declared.call.Refusal.{Refusal}
 use Rattle.map_model.specs.declared.call.Refusal.TheVariants as refusal
-use Rattle.paged_desks.specs.engine_trait.Calls.{MayCome}
+use Rattle.paged_desks.specs.engine_trait.Serving.{MayRefuse}
+use Rattle.paged_desks.specs.engine_trait.declared.unserved.Unanswered.TheVariants as unanswered
+use Rattle.paged_desks.specs.engine_trait.declared.unserved.Unserved.{Unserved}
+use Rattle.paged_desks.specs.engine_trait.declared.unserved.Unserved.TheVariants as unserved
 use Rattle.row_ends.proofs.Misses.{misses_core}
 use Rattle.paged_desks.specs.row_words.Openings.{opening}
 use Rattle.paged_desks.specs.rows_trait.declared.view.View.{View}
@@ -158,45 +160,45 @@ module _ {D : Type 0} (story : D → Story) (m n : PagedMachine D) (ready : IsRe
         b : IsBeside m n
         b = record { shape = a.shape; disk = k.disk; log = k.log; desks = a.desks; latches = a.latches; master = a.master; pager = a.pager }
 
-    pub end_ready : (r : Result replies.Ended Refusal) → EndsAbort story r m n → works_behind r ≡ true → IsReady story n
+    pub end_ready : (r : Result replies.Ended Unserved) → EndsAbort story r m n → works_behind r ≡ true → IsReady story n
     end_ready (Ok told) c on = ended told c.0
-    end_ready (Err refusal.RowSpent) c on = spent c
-    end_ready (Err refusal.DiskFault) c on = absurd (true≢false (sym on))
+    end_ready (Err (unserved.Refused refusal.RowSpent)) c on = spent c
+    end_ready (Err (unserved.Unanswered unanswered.DiskFault)) c on = absurd (true≢false (sym on))
     end_ready (Err _) c on = absurd c
 
 -- ## What is told
 
-fault_is : ◌≡◌ {A = Result replies.Ended Refusal} (Err refusal.RowSpent) (Err refusal.DiskFault) → ⊥
+fault_is : ◌≡◌ {A = Result replies.Ended Unserved} (Err (unserved.Refused refusal.RowSpent)) (Err (unserved.Unanswered unanswered.DiskFault)) → ⊥
 fault_is e = absurd (cc)
 
-ok_err : (told : replies.Ended) → Ok told ≡ Err refusal.DiskFault → ⊥
+ok_err : (told : replies.Ended) → Ok told ≡ Err (unserved.Unanswered unanswered.DiskFault) → ⊥
 ok_err told e = absurd (cc)
 
-pub end_works : {D : Type 0} (story : D → Story) (m n : PagedMachine D) (r : Result replies.Ended Refusal) → EndsAbort story r m n → (n.machine.work.session.works ≡ true) ↔ (r ≡ Err refusal.DiskFault → ⊥) → n.machine.work.session.works ≡ works_behind r
+pub end_works : {D : Type 0} (story : D → Story) (m n : PagedMachine D) (r : Result replies.Ended Unserved) → EndsAbort story r m n → (n.machine.work.session.works ≡ true) ↔ (r ≡ Err (unserved.Unanswered unanswered.DiskFault) → ⊥) → n.machine.work.session.works ≡ works_behind r
 end_works story m n (Ok told) c w = w.1 (ok_err told)
-end_works story m n (Err refusal.RowSpent) c w = w.1 fault_is
-end_works story m n (Err refusal.DiskFault) c w = go n.machine.work.session.works refl
+end_works story m n (Err (unserved.Refused refusal.RowSpent)) c w = w.1 fault_is
+end_works story m n (Err (unserved.Unanswered unanswered.DiskFault)) c w = go n.machine.work.session.works refl
   where
     go : (b : Bool) → n.machine.work.session.works ≡ b → n.machine.work.session.works ≡ false
     go true e = absurd (w.0 e refl)
     go false e = e
 end_works story m n (Err _) c w = absurd c
 
-pub end_comes : {D : Type 0} (story : D → Story) (m n : PagedMachine D) (r : Result replies.Ended Refusal) → EndsAbort story r m n → IfErr r (λ why. MayCome 1 why ⊎ EndsWork why)
+pub end_comes : {D : Type 0} (story : D → Story) (m n : PagedMachine D) (r : Result replies.Ended Unserved) → EndsAbort story r m n → IfErr r (λ why. MayRefuse 1 why ⊎ EndsWork why)
 end_comes story m n (Ok told) c = tt
-end_comes story m n (Err refusal.RowSpent) c = inl tt
-end_comes story m n (Err refusal.DiskFault) c = inr refl
+end_comes story m n (Err (unserved.Refused refusal.RowSpent)) c = inl tt
+end_comes story m n (Err (unserved.Unanswered unanswered.DiskFault)) c = inr refl
 end_comes story m n (Err _) c = absurd c
 
-pub end_not_broken : {D : Type 0} (story : D → Story) (m n : PagedMachine D) (r : Result replies.Ended Refusal) → EndsAbort story r m n → r ≡ Err refusal.Broken → ⊥
+pub end_not_broken : {D : Type 0} (story : D → Story) (m n : PagedMachine D) (r : Result replies.Ended Unserved) → EndsAbort story r m n → r ≡ Err (unserved.Unanswered unanswered.Broken) → ⊥
 end_not_broken story m n (Ok told) c e = absurd (cc)
-end_not_broken story m n (Err refusal.RowSpent) c e = absurd (cc)
-end_not_broken story m n (Err refusal.DiskFault) c e = absurd (cc)
+end_not_broken story m n (Err (unserved.Refused refusal.RowSpent)) c e = absurd (cc)
+end_not_broken story m n (Err (unserved.Unanswered unanswered.DiskFault)) c e = absurd (cc)
 end_not_broken story m n (Err _) c e = absurd c
 
 -- what a fault leaves of its log
-pub end_keeps : {D : Type 0} (story : D → Story) (m n : PagedMachine D) (r : Result replies.Ended Refusal) → EndsAbort story r m n → r ≡ Err refusal.DiskFault → KeepsLog m.machine.work.session.own m.machine.work.log (story m.machine.work.disk) (story n.machine.work.disk)
+pub end_keeps : {D : Type 0} (story : D → Story) (m n : PagedMachine D) (r : Result replies.Ended Unserved) → EndsAbort story r m n → r ≡ Err (unserved.Unanswered unanswered.DiskFault) → KeepsLog m.machine.work.session.own m.machine.work.log (story m.machine.work.disk) (story n.machine.work.disk)
 end_keeps story m n (Ok told) c e = absurd (cc)
-end_keeps story m n (Err refusal.RowSpent) c e = absurd (cc)
-end_keeps story m n (Err refusal.DiskFault) c e = c
+end_keeps story m n (Err (unserved.Refused refusal.RowSpent)) c e = absurd (cc)
+end_keeps story m n (Err (unserved.Unanswered unanswered.DiskFault)) c e = c
 end_keeps story m n (Err _) c e = absurd c

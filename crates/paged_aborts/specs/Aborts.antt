@@ -1,10 +1,12 @@
 -- An abort: where it may come, and what it tells.
+use Rattle.paged_desks.specs.engine_trait.Serving.{unserved_answer}
+use Rattle.paged_desks.specs.engine_trait.declared.unserved.Unanswered.{Unanswered}
 use Rattle.std.specs.Prelude.{◌≡◌, ◌++◌, ℕ, Bool, true, false, List, ◌∷◌, Some, Result, Ok, Err}
 use Rattle.map_model.specs.declared.call.Answer.{Answer}
 use Rattle.map_model.specs.declared.call.Answer.TheVariants as answer
 use Rattle.map_model.specs.declared.call.Call.{Call}
 use Rattle.map_model.specs.declared.call.Call.TheVariants as call
-use Rattle.map_model.specs.declared.call.Refusal.{Refusal}
+use Rattle.paged_desks.specs.engine_trait.declared.unserved.Unserved.{Unserved}
 use Rattle.paged_desks.specs.core_calls.Fronts.{Done, outcomes}
 use Rattle.paged_desks.specs.core_calls.Steps.{hindered_in}
 use Rattle.paged_desks.specs.core_state.Openings.{Opening}
@@ -28,9 +30,9 @@ pub data MayAbort (own : ℕ) (is_open : Bool) (c : Call) (g : Opening) (xs : Li
   Asked : IsNewLine (outcomes xs) → c ≡ call.Abort → MayAbort own is_open c g xs
   Hindered : is_open ≡ true → (y : Done) (earlier : List Done) → xs ≡ y ∷ earlier → hindered_in y.outcome.deed ≡ Some c → y.outcome.session ≡ own → MayAbort own is_open c g xs
 
-abbrev pub abort_answer : Result Ended Refusal → Answer
-abort_answer (Ok ended) = answer.Aborted ended.number
-abort_answer (Err why) = answer.Refused why
+abbrev pub abort_answer : Result Ended Unserved → Result Answer Unanswered
+abort_answer (Ok ended) = Ok (answer.Aborted ended.number)
+abort_answer (Err why) = unserved_answer why
 
 -- ## What it tells
 

@@ -2,8 +2,10 @@
 use Rattle.std.specs.Prelude.{◌≡◌, ◌⊎◌, ◌≤◌, ◌<◌, ◌+◌, ◌*◌, ◌||◌, ℕ, suc, Bool, true, false, List, [], ◌∷◌, length, Some, Result, Ok, Err}
 use Rattle.page_model.specs.Limits.{transaction_changes}
 use Rattle.map_model.specs.Lists.{any}
-use Rattle.map_model.specs.declared.call.Refusal.{Refusal}
 use Rattle.map_model.specs.declared.call.Refusal.TheVariants as refusal
+use Rattle.paged_desks.specs.engine_trait.declared.unserved.Unanswered.TheVariants as unanswered
+use Rattle.paged_desks.specs.engine_trait.declared.unserved.Unserved.{Unserved}
+use Rattle.paged_desks.specs.engine_trait.declared.unserved.Unserved.TheVariants as unserved
 use Rattle.paged_desks.specs.core_calls.Fronts.{Done}
 use Rattle.paged_desks.specs.core_calls.LogEvents.{IsTightSomewhere, SyncsWhere}
 use Rattle.paged_desks.specs.core_state.Events as happening
@@ -29,8 +31,6 @@ use Rattle.paged_desks.specs.Machines.{memory, pages, view_of}
 use Rattle.paged_desks.specs.Pages.{hot_in, most_a_level}
 use Rattle.paged_desks.specs.Parts.{IsLate, IsStuck, StandsNowhere}
 use Rattle.paged_desks.specs.declared.machine.PagedMachine.{PagedMachine}
-use Rattle.paged_desks.specs.declared.warming.Unwarmed.{Unwarmed}
-use Rattle.paged_desks.specs.declared.warming.Unwarmed.TheVariants as stopped
 
 -- ## In a leaf
 
@@ -58,8 +58,8 @@ pub record IsGivenUp {D : Type 0} (m n : PagedMachine D) : Type 0 where
   pub fits : SeatFits n.machine
 
 -- a page of the disk is damaged
-abbrev pub IsDamaged : Refusal → Type 0
-IsDamaged (refusal.Damaged area place) = area ≡ 1
+abbrev pub IsDamaged : Unserved → Type 0
+IsDamaged (unserved.Unanswered (unanswered.Damaged place)) = Unit {0}
 IsDamaged _ = ⊥
 
 -- ## Changes that were put back
@@ -112,11 +112,11 @@ abbrev pub IsWhy : {D : Type 0} → PagedMachine D → Type 0
 IsWhy n = IsLate (view_of n) ⊎ ((key : ℕ) × IsStuck key n)
 
 -- by answer, where this is so of the changes that are left
-abbrev pub PutsBack : {D : Type 0} → (story : D → Story) → (most : ℕ) → (Left : PagedMachine D → PagedMachine D → Type 0) → Result (Unit {0}) Refusal → (m n : PagedMachine D) → Type 0
+abbrev pub PutsBack : {D : Type 0} → (story : D → Story) → (most : ℕ) → (Left : PagedMachine D → PagedMachine D → Type 0) → Result (Unit {0}) Unserved → (m n : PagedMachine D) → Type 0
 PutsBack story most Left (Ok u) m n = HasUndone story most m n × Left m n
-PutsBack story most Left (Err refusal.RowSpent) m n = HasUndone story most m n × IsWhy n
-PutsBack story most Left (Err refusal.DiskFault) m n = HasFailedBack story most m n
-PutsBack story most Left (Err (refusal.Damaged area place)) m n = HasFailedBack story most m n × StandsNowhere story m
+PutsBack story most Left (Err (unserved.Refused refusal.RowSpent)) m n = HasUndone story most m n × IsWhy n
+PutsBack story most Left (Err (unserved.Unanswered unanswered.DiskFault)) m n = HasFailedBack story most m n
+PutsBack story most Left (Err (unserved.Unanswered (unanswered.Damaged place))) m n = HasFailedBack story most m n × StandsNowhere story m
 PutsBack story most Left (Err why) m n = ⊥
 
 -- one was put back
@@ -136,14 +136,5 @@ pub record SoFar {D : Type 0} (story : D → Story) (m n : PagedMachine D) : Typ
 -- ## The end
 
 -- what it did behind the put-backs, by answer
-abbrev pub EndsAbort : {D : Type 0} → (story : D → Story) → Result Ended Refusal → (m n : PagedMachine D) → Type 0
+abbrev pub EndsAbort : {D : Type 0} → (story : D → Story) → Result Ended Unserved → (m n : PagedMachine D) → Type 0
 EndsAbort story r m n = Aborts story r (view_of m) (view_of n) m.machine.work.session n.machine.work.session m.machine.work.log n.machine.work.log m.machine.work.disk n.machine.work.disk
-
--- ## Why pages did not come
-
--- as the call is answered
-abbrev pub refusal_of : Unwarmed → Refusal
-refusal_of stopped.RowSpent = refusal.RowSpent
-refusal_of stopped.DiskFault = refusal.DiskFault
-refusal_of (stopped.Damaged page) = refusal.Damaged 1 page
-refusal_of (stopped.Altered page) = refusal.Damaged 1 page

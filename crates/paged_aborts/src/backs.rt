@@ -1,6 +1,6 @@
 // Changes that an abort puts back, wherever the pages of their ways are.
 ghost use Rattle.std.specs.Prelude.{◌≡◌, ◌<◌, ◌-◌, ◌^◌, Err, Some, true, length};
-ghost use Rattle.map_model.specs.declared.call.Refusal.{Refusal};
+ghost use Rattle.paged_desks.specs.engine_trait.Serving.{disk_fault};
 ghost use Rattle.lean_disk.specs.Faults.{HasCause};
 ghost use Rattle.paged_desks.specs.session_desks.Parts.{AreAsMany, SeatFits};
 ghost use Rattle.paged_desks.specs.Calls.{works_behind};
@@ -10,9 +10,7 @@ ghost use Rattle.paged_aborts.specs.Backs.{IsNewestKey, NoneLeft, OneLess, PutsB
 
 use crate::laws::laws;
 use crate::leaves::{lose, put_back_in_leaf};
-use crate::tests::refusal_of;
-use map_model::Refusal;
-use paged_desks::{PagedMachine, Stages, Undone};
+use paged_desks::{PagedMachine, Stages, Undone, Unserved, unserved_of};
 use row_changes::Unmade;
 
 // The newest change that is left.
@@ -28,7 +26,7 @@ fn newest_left<D: Stages>(machine: &PagedMachine<D>) -> Undone
 }
 
 // Puts the newest change back behind the coming of the pages of its key's way.
-fn put_back_behind<D: Stages>(machine: &mut PagedMachine<D>, key: u64) -> Result<(), Refusal>
+fn put_back_behind<D: Stages>(machine: &mut PagedMachine<D>, key: u64) -> Result<(), Unserved>
     requires ready { IsReady D.story machine.old }
     requires is_open { machine.old.machine.work.session.is_open ≡ true }
     requires newest { IsNewestKey key machine.old }
@@ -39,15 +37,15 @@ fn put_back_behind<D: Stages>(machine: &mut PagedMachine<D>, key: u64) -> Result
     ensures fits { SeatFits machine.new.machine }
     ensures session { AreAsMany machine.old.machine machine.new.machine }
 
-    ensures cause_disk_fault { HasCause (D.faults machine.old.machine.work.disk) (D.faults machine.new.machine.work.disk) (result ≡ Err Refusal.DiskFault) }
+    ensures cause_disk_fault { HasCause (D.faults machine.old.machine.work.disk) (D.faults machine.new.machine.work.disk) (result ≡ Err disk_fault) }
 {
     laws();
     if let Err(why) = machine.warm(key) {
-        return Err(refusal_of(why));
+        return Err(unserved_of(why));
     }
     match put_back_in_leaf(machine) {
         Ok(()) => Ok(()),
-        Err(Unmade::Refused(why)) => Err(why),
+        Err(Unmade::Unserved(why)) => Err(why),
         Err(Unmade::Lost) => Err(lose(machine, key)),
         // The way is hot.
         Err(Unmade::Cold(_)) => unreachable!(),
@@ -55,7 +53,7 @@ fn put_back_behind<D: Stages>(machine: &mut PagedMachine<D>, key: u64) -> Result
 }
 
 // Puts the newest change back; where a page of its key's way is not hot, behind the coming of these pages.
-fn put_back_newest<D: Stages>(machine: &mut PagedMachine<D>) -> Result<(), Refusal>
+fn put_back_newest<D: Stages>(machine: &mut PagedMachine<D>) -> Result<(), Unserved>
     requires ready { IsReady D.story machine.old }
     requires is_open { machine.old.machine.work.session.is_open ≡ true }
     requires left { 0 < length machine.old.machine.work.session.undo }
@@ -65,20 +63,20 @@ fn put_back_newest<D: Stages>(machine: &mut PagedMachine<D>) -> Result<(), Refus
     ensures fits { SeatFits machine.new.machine }
     ensures session { AreAsMany machine.old.machine machine.new.machine }
 
-    ensures cause_disk_fault { HasCause (D.faults machine.old.machine.work.disk) (D.faults machine.new.machine.work.disk) (result ≡ Err Refusal.DiskFault) }
+    ensures cause_disk_fault { HasCause (D.faults machine.old.machine.work.disk) (D.faults machine.new.machine.work.disk) (result ≡ Err disk_fault) }
 {
     laws();
     let undone = newest_left(machine);
     match put_back_in_leaf(machine) {
         Ok(()) => Ok(()),
-        Err(Unmade::Refused(why)) => Err(why),
+        Err(Unmade::Unserved(why)) => Err(why),
         Err(Unmade::Lost) => Err(lose(machine, undone.key)),
         Err(Unmade::Cold(_)) => put_back_behind(machine, undone.key),
     }
 }
 
 // Puts back what is left, the newest change first.
-pub(crate) fn put_back_all<D: Stages>(machine: &mut PagedMachine<D>) -> Result<(), Refusal>
+pub(crate) fn put_back_all<D: Stages>(machine: &mut PagedMachine<D>) -> Result<(), Unserved>
     requires ready { IsReady D.story machine.old }
     requires is_open { machine.old.machine.work.session.is_open ≡ true }
     ensures works { machine.new.machine.work.session.works ≡ works_behind result }
@@ -87,7 +85,7 @@ pub(crate) fn put_back_all<D: Stages>(machine: &mut PagedMachine<D>) -> Result<(
     ensures fits { SeatFits machine.new.machine }
     ensures session { AreAsMany machine.old.machine machine.new.machine }
 
-    ensures cause_disk_fault { HasCause (D.faults machine.old.machine.work.disk) (D.faults machine.new.machine.work.disk) (result ≡ Err Refusal.DiskFault) }
+    ensures cause_disk_fault { HasCause (D.faults machine.old.machine.work.disk) (D.faults machine.new.machine.work.disk) (result ≡ Err disk_fault) }
 {
     laws();
     'left: loop {

@@ -2,7 +2,7 @@
 ghost use Rattle.std.specs.Prelude.{◌≡◌, ◌<◌, ◌-◌, ◌^◌, IsErrAnd, Err, true, [], length};
 ghost use Rattle.paged_desks.specs.btree_descent.Descents.{Sized};
 ghost use Rattle.paged_desks.specs.btree_descent.Known.{IsSound};
-ghost use Rattle.map_model.specs.declared.call.Refusal.{Refusal};
+ghost use Rattle.paged_desks.specs.engine_trait.Serving.{disk_fault};
 ghost use Rattle.lean_disk.specs.Faults.{HasCause};
 ghost use Rattle.row_changes.specs.Puts.{works_behind as works_after_try};
 ghost use Rattle.row_changes.specs.Ways.{IsCut, IsLost};
@@ -15,8 +15,7 @@ ghost use Rattle.paged_desks.specs.Machines.{IsReady, view_of};
 ghost use Rattle.paged_aborts.specs.Backs.{BacksInLeaf, IsDamaged, IsGivenUp, IsWarmNewest};
 
 use crate::laws::laws;
-use map_model::Refusal;
-use paged_desks::{PagedMachine, Path, Rows, Stages, Way, reach};
+use paged_desks::{PagedMachine, Path, Rows, Stages, Unanswered, Unserved, Way, reach};
 use row_changes::{Unmade, put_back};
 
 // Puts the newest change back that is left, unless a page of its key's way is not hot.
@@ -33,7 +32,7 @@ pub(crate) fn put_back_in_leaf<D: Stages>(machine: &mut PagedMachine<D>) -> Resu
 
     ensures cause_cold { IsWarmNewest machine.old → IsErrAnd result IsCut → ⊥ }
     ensures cause_lost { (view_of machine.old).given.faithful ≡ true → IsErrAnd result IsLost → ⊥ }
-    ensures cause_disk_fault { HasCause (D.faults machine.old.machine.work.disk) (D.faults machine.new.machine.work.disk) (result ≡ Err (Unmade.Refused Refusal.DiskFault)) }
+    ensures cause_disk_fault { HasCause (D.faults machine.old.machine.work.disk) (D.faults machine.new.machine.work.disk) (result ≡ Err (Unmade.Unserved disk_fault)) }
 {
     laws();
     put_back(
@@ -67,7 +66,7 @@ fn last_page<R: Rows>(rows: &mut R, seat: &mut R::Seat, worker: u32, frames: u32
 }
 
 // The leaf of the key has lost an entry, since a device gave other entries than it took: the machine works no longer, and the page is named.
-pub(crate) fn lose<D: Stages>(machine: &mut PagedMachine<D>, key: u64) -> Refusal
+pub(crate) fn lose<D: Stages>(machine: &mut PagedMachine<D>, key: u64) -> Unserved
     requires ready { IsReady D.story machine.old }
     requires key { key < 2 ^ 64 - 1 }
     ensures damaged { IsDamaged result }
@@ -83,5 +82,5 @@ pub(crate) fn lose<D: Stages>(machine: &mut PagedMachine<D>, key: u64) -> Refusa
         key,
     );
     machine.machine.work.session.works = false;
-    Refusal::Damaged { area: 1, place }
+    Unserved::Unanswered(Unanswered::Damaged { place })
 }

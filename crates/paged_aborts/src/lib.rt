@@ -8,6 +8,5 @@ mod aborts;
 mod backs;
 mod laws;
 mod leaves;
-mod tests;
 
 pub use aborts::abort;

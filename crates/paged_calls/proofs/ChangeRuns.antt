@@ -10,6 +10,7 @@ use Rattle.map_model.specs.declared.call.Call.{Call}
 use Rattle.map_model.specs.declared.call.Call.TheVariants as call
 use Rattle.map_model.specs.declared.call.Refusal.{Refusal}
 use Rattle.map_model.specs.declared.call.Refusal.TheVariants as refusal
+use Rattle.paged_desks.specs.engine_trait.declared.unserved.Unserved.TheVariants as unserved
 use Rattle.paged_desks.specs.core_calls.Deeds.{Absent, Deed, answered, asked, marks_by, marks_of, reads_of}
 use Rattle.paged_desks.specs.core_calls.Fronts.{Done, front, outcomes}
 use Rattle.paged_desks.specs.core_calls.LogEvents.{IsTight, RefusedLogs, SyncsWhere}
@@ -57,6 +58,7 @@ use Rattle.paged_desks.proofs.session_desks.SeatLemmas.{holds_of}
 use Rattle.paged_desks.specs.session_desks.Desks.{desk_of}
 use Rattle.paged_desks.specs.session_desks.Parts.{AreAsMany, HasLogs, here, shape}
 use Rattle.paged_desks.specs.session_desks.declared.desk.Desk.{Desk}
+use Rattle.paged_desks.proofs.session_state.ServingLemmas.{refused_none, refused_was}
 use Rattle.paged_desks.proofs.session_state.Moments.{events_more}
 use Rattle.paged_desks.proofs.session_state.UndoLemmas.{many_of}
 use Rattle.paged_desks.specs.session_state.Holds.{Holds, IsOf, IsSameSession}
@@ -184,7 +186,7 @@ module _ (l : Grounds) (answers : EveryAnswer) (coming : EveryComing) {D : Type 
   tests_0 = refusal_is c key of_key g at own is_half_aborted log ∙ tests_in at x log of_0 is_half_aborted half_is (last_in at)
 
   passed : change_test x log ≡ None → refusal_in g at own is_half_aborted log c ≡ last_in at
-  passed e = tests_0 ∙ gate_none (is_going x) (leb 64 (length x.undo)) (leb (limit log) (used log)) (leb (2 ^ 62) x.clock.clock) most (last_in at) (sym (test_is x log ready.works) ∙ e)
+  passed e = tests_0 ∙ gate_none (is_going x) (leb 64 (length x.undo)) (leb (limit log) (used log)) (leb (2 ^ 62) x.clock.clock) most (last_in at) (refused_none (gate_of x log None) (sym (test_is x log ready.works) ∙ e))
 
   -- ## It is refused before anything was done
 
@@ -199,8 +201,8 @@ module _ (l : Grounds) (answers : EveryAnswer) (coming : EveryComing) {D : Type 
       cause : IsCause limits g (front xs ++ []) at (is_half (marks_by own (outcomes xs))) own c why
       tries : TakesRow why own (g.row_of key) happening.Mode.Alone []
 
-    early : (why : Refusal) → change_test x log ≡ Some why → Early why
-    early why e = go (is_going x) (leb 64 (length x.undo)) (leb (limit log) (used log)) (leb (2 ^ 62) x.clock.clock) refl refl refl refl (sym (test_is x log ready.works) ∙ e)
+    early : (why : Refusal) → change_test x log ≡ Some (unserved.Refused why) → Early why
+    early why e = go (is_going x) (leb 64 (length x.undo)) (leb (limit log) (used log)) (leb (2 ^ 62) x.clock.clock) refl refl refl refl (refused_was (gate_of x log None) why (sym (test_is x log ready.works) ∙ e))
       where
         shut : (x.is_half_aborted ≡ true) ⊎ (x.is_open ≡ false) → ((at.worker own).is_open ≡ false) ⊎ ((is_half_aborted ≡ true) × (c ≡ call.Abort → ⊥))
         shut (inl half) = inr (half_is ∙ half, no_abort c key of_key)
@@ -214,11 +216,11 @@ module _ (l : Grounds) (answers : EveryAnswer) (coming : EveryComing) {D : Type 
         go true false false false p q r u e = absurd (none_is why e)
 
     -- by a test
-    pub tested : (why : Refusal) → change_test x log ≡ Some why → DoesTied g x.group xs own c (answer.Refused why) (memory m) n (story m.machine.work.disk) (story n.machine.work.disk)
+    pub tested : (why : Refusal) → change_test x log ≡ Some (unserved.Refused why) → DoesTied g x.group xs own c (answer.Refused why) (memory m) n (story m.machine.work.disk) (story n.machine.work.disk)
     tested why e = refused_now why (early why e).tries (early why e).cause (inl now) (λ q r. inl (some_is why q (sym now ∙ r)))
       where
         now : refusal_in g at own is_half_aborted log c ≡ Some why
-        now = tests_0 ∙ gate_more (is_going x) (leb 64 (length x.undo)) (leb (limit log) (used log)) (leb (2 ^ 62) x.clock.clock) most why (last_in at) (sym (test_is x log ready.works) ∙ e)
+        now = tests_0 ∙ gate_more (is_going x) (leb 64 (length x.undo)) (leb (limit log) (used log)) (leb (2 ^ 62) x.clock.clock) most why (last_in at) (refused_was (gate_of x log None) why (sym (test_is x log ready.works) ∙ e))
 
     -- since its row is not to be had
     pub not_taken : change_test x log ≡ None → (why : Refusal) → NotTaken why v (view_of n) own (key % x.held.count) Alone → DoesTied g x.group xs own c (answer.Refused why) (memory m) n (story m.machine.work.disk) (story n.machine.work.disk)

@@ -2,6 +2,8 @@
 use Rattle.std.proofs.Common.{◌≡◌, ℕ, true, Option, Some, None, Result, Ok, Err, ap, sym, true≢false}
 use Rattle.lean_disk.specs.Story.{Story}
 use Rattle.map_model.specs.declared.call.Refusal.TheVariants as refusal
+use Rattle.paged_desks.specs.engine_trait.declared.unserved.Unanswered.TheVariants as unanswered
+use Rattle.paged_desks.specs.engine_trait.declared.unserved.Unserved.TheVariants as unserved
 use Rattle.paged_desks.specs.btree_descent.declared.descent.TheConstants.{TOMBSTONE}
 use Rattle.paged_desks.specs.page_pool.Pools.{EveryStanding}
 use Rattle.row_changes.specs.Dels.{Dels}
@@ -38,8 +40,8 @@ module _ {D : Type 0} (story : D → Story) (law : EveryOther) (standing : Every
   del_ready key (Ok (Some before)) w d = ready_changed story m n a same ready law standing key TOMBSTONE (Some before) d fits works (holds works)
   del_ready key (Ok None) w d = ready_on story m n (beside_of m n a d.1 d.2) ready law d.0.given (looked_one (view_of m) (view_of n) (told.Read own d.0.page key None) tt d.0.given d.0.seen) fits works same
       (one_step own (view_of m) (view_of n) (told.Read own d.0.page key None) d.0.given d.0.seen (is_own own) d.0.met) (holds works)
-  del_ready key (Err (unmade.Refused refusal.RowSpent)) w d = still d.1 d.0.given d.0.seen
-  del_ready key (Err (unmade.Refused refusal.DiskFault)) w d = absurd (true≢false (sym w))
-  del_ready key (Err (unmade.Refused _)) w d = absurd d
+  del_ready key (Err (unmade.Unserved (unserved.Refused refusal.RowSpent))) w d = still d.1 d.0.given d.0.seen
+  del_ready key (Err (unmade.Unserved (unserved.Unanswered unanswered.DiskFault))) w d = absurd (true≢false (sym w))
+  del_ready key (Err (unmade.Unserved _)) w d = absurd d
   del_ready key (Err (unmade.Cold cold)) w d = still d.1 d.0.given d.0.seen
   del_ready key (Err unmade.Lost) w d = absurd d

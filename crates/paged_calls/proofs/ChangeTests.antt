@@ -5,13 +5,17 @@ use Rattle.map_model.specs.declared.call.Call.{Call}
 use Rattle.map_model.specs.declared.call.Call.TheVariants as call
 use Rattle.map_model.specs.declared.call.Refusal.{Refusal}
 use Rattle.map_model.specs.declared.call.Refusal.TheVariants as refusal
+use Rattle.paged_desks.specs.engine_trait.declared.unserved.Unanswered.TheVariants as unanswered
+use Rattle.paged_desks.specs.engine_trait.declared.unserved.Unserved.{Unserved}
+use Rattle.paged_desks.specs.engine_trait.declared.unserved.Unserved.TheVariants as unserved
 use Rattle.paged_desks.specs.core_calls.Refusals.{Hinders, IsHindered, IsLong}
 use Rattle.paged_desks.specs.core_state.Events as happening
 use Rattle.paged_desks.specs.core_state.Openings.{Opening}
 use Rattle.paged_desks.specs.core_state.States.{State}
-use Rattle.paged_desks.specs.engine_trait.Calls.{MayCome}
 use Rattle.paged_desks.specs.engine_trait.Limits.{limits}
 use Rattle.paged_desks.specs.engine_trait.Refusals.{change_refusal, in_transaction, is_full_for, lock_refusal, met_refusal, refusal_in, room_refusal}
+use Rattle.paged_desks.specs.engine_trait.Serving.{MayRefuse, refused_by}
+use Rattle.paged_desks.proofs.session_state.ServingLemmas.{refused_none}
 use Rattle.paged_desks.proofs.session_state.UndoLemmas.{many_of}
 use Rattle.paged_desks.specs.session_state.Holds.{IsOf}
 use Rattle.paged_desks.specs.session_state.declared.session.Session.{Session}
@@ -45,8 +49,8 @@ gate_none true false true d most last e = absurd (none_is _ (sym e))
 gate_none true false false true most last e = absurd (none_is _ (sym e))
 gate_none true false false false most last e = refl
 
-pub test_is : (x : Session) (log : Log) → x.works ≡ true → change_test x log ≡ gate_of x log None
-test_is x log works i = cond (works i) (gate_of x log None) (Some refusal.Broken)
+pub test_is : (x : Session) (log : Log) → x.works ≡ true → change_test x log ≡ refused_by (gate_of x log None)
+test_is x log works i = cond (works i) (refused_by (gate_of x log None)) (Some (unserved.Unanswered unanswered.Broken))
 
 -- what holds where none refuses it
 pub record IsFree (x : Session) (log : Log) : Type 0 where
@@ -57,7 +61,7 @@ pub record IsFree (x : Session) (log : Log) : Type 0 where
   pub room : used log < limit log
 
 pub free_of : (x : Session) (log : Log) → x.works ≡ true → change_test x log ≡ None → IsFree x log
-free_of x log works e = go (is_going x) (leb 64 (length x.undo)) (leb (limit log) (used log)) (leb (2 ^ 62) x.clock.clock) refl refl refl refl (sym (test_is x log works) ∙ e)
+free_of x log works e = go (is_going x) (leb 64 (length x.undo)) (leb (limit log) (used log)) (leb (2 ^ 62) x.clock.clock) refl refl refl refl (refused_none (gate_of x log None) (sym (test_is x log works) ∙ e))
   where
     go : (a b c d : Bool) → is_going x ≡ a → leb 64 (length x.undo) ≡ b → leb (limit log) (used log) ≡ c → leb (2 ^ 62) x.clock.clock ≡ d → gate a b c d (refusal.LogFull (used log) (limit log)) None ≡ None → IsFree x log
     go false b c d p q r u e = absurd (none_is _ (sym e))
@@ -72,7 +76,7 @@ works_of x log e = go x.works refl
   where
     go : (b : Bool) → x.works ≡ b → x.works ≡ true
     go true w = w
-    go false w = absurd (none_is refusal.Broken (sym e ∙ (λ i. cond (w i) (gate_of x log None) (Some refusal.Broken))))
+    go false w = absurd (none_is (unserved.Unanswered unanswered.Broken) (sym e ∙ (λ i. cond (w i) (refused_by (gate_of x log None)) (Some (unserved.Unanswered unanswered.Broken)))))
 
 -- ## Of a state
 
@@ -112,27 +116,27 @@ no_abort c key e q = subst (λ (d : Call). IsOfKey d key happening.Mode.Alone) q
 -- ## Why a test refuses it
 
 -- what is so of each such refusal is so of this one, or there is no engine to ask
-pub by_test : (x : Session) (log : Log) (why : Refusal) → change_test x log ≡ Some why → (P : Refusal → Type 0) → P refusal.NoTransaction → P refusal.TooLong → P (refusal.LogFull (used log) (limit log)) → P refusal.ClockSpent → ((x.works ≡ true) × P why) ⊎ ((x.works ≡ false) × (why ≡ refusal.Broken))
+pub by_test : (x : Session) (log : Log) (why : Unserved) → change_test x log ≡ Some why → (P : Unserved → Type 0) → P (unserved.Refused refusal.NoTransaction) → P (unserved.Refused refusal.TooLong) → P (unserved.Refused (refusal.LogFull (used log) (limit log))) → P (unserved.Refused refusal.ClockSpent) → ((x.works ≡ true) × P why) ⊎ ((x.works ≡ false) × (why ≡ unserved.Unanswered unanswered.Broken))
 by_test x log why e P shut long full spent = go x.works refl
   where
-    open_case : (a b c d : Bool) → gate a b c d (refusal.LogFull (used log) (limit log)) None ≡ Some why → P why
+    open_case : (a b c d : Bool) → refused_by (gate a b c d (refusal.LogFull (used log) (limit log)) None) ≡ Some why → P why
     open_case false b c d q = subst P (some_is _ why q) shut
     open_case true true c d q = subst P (some_is _ why q) long
     open_case true false true d q = subst P (some_is _ why q) full
     open_case true false false true q = subst P (some_is _ why q) spent
     open_case true false false false q = absurd (none_is why q)
 
-    go : (b : Bool) → x.works ≡ b → ((x.works ≡ true) × P why) ⊎ ((x.works ≡ false) × (why ≡ refusal.Broken))
+    go : (b : Bool) → x.works ≡ b → ((x.works ≡ true) × P why) ⊎ ((x.works ≡ false) × (why ≡ unserved.Unanswered unanswered.Broken))
     go true w = inl (w, open_case (is_going x) (leb 64 (length x.undo)) (leb (limit log) (used log)) (leb (2 ^ 62) x.clock.clock) (sym (test_is x log w) ∙ e))
-    go false w = inr (w, sym (some_is refusal.Broken why ((λ i. cond (sym w i) (gate_of x log None) (Some refusal.Broken)) ∙ e)))
+    go false w = inr (w, sym (some_is (unserved.Unanswered unanswered.Broken) why ((λ i. cond (sym w i) (refused_by (gate_of x log None)) (Some (unserved.Unanswered unanswered.Broken))) ∙ e)))
 
-module _ (x : Session) (log : Log) (why : Refusal) (e : change_test x log ≡ Some why) where
-  pub test_comes : (workers : ℕ) → MayCome workers why ⊎ EndsWork why
-  test_comes workers = elim (by_test x log why e (MayCome workers) tt tt tt tt) [ inl q ↦ inl q.1 | inr q ↦ inr (ap ends_work q.1) ]
+module _ (x : Session) (log : Log) (why : Unserved) (e : change_test x log ≡ Some why) where
+  pub test_comes : (workers : ℕ) → MayRefuse workers why ⊎ EndsWork why
+  test_comes workers = elim (by_test x log why e (MayRefuse workers) tt tt tt tt) [ inl q ↦ inl q.1 | inr q ↦ inr (ap ends_work q.1) ]
 
   pub test_works : (A : Type 0) → x.works ≡ works_behind {A = A} (Err why)
-  test_works A = elim (by_test x log why e (λ r. works_behind {A = A} (Err r) ≡ true) refl refl refl refl) [ inl q ↦ q.0 ∙ sym q.1 | inr q ↦ q.0 ∙ ap (λ (r : Refusal). works_behind {A = A} (Err r)) (sym q.1) ]
+  test_works A = elim (by_test x log why e (λ r. works_behind {A = A} (Err r) ≡ true) refl refl refl refl) [ inl q ↦ q.0 ∙ sym q.1 | inr q ↦ q.0 ∙ ap (λ (r : Unserved). works_behind {A = A} (Err r)) (sym q.1) ]
 
-  pub test_broken : (A : Type 0) → ◌≡◌ {A = Result A Refusal} (Err why) (Err refusal.Broken) ↔ (x.works ≡ false)
-  test_broken A = elim (by_test x log why e (λ r. ◌≡◌ {A = Result A Refusal} (Err r) (Err refusal.Broken) → ⊥) (λ q. absurd (cc)) (λ q. absurd (cc)) (λ q. absurd (cc)) (λ q. absurd (cc)))
-      [ inl q ↦ ((λ r. absurd (q.1 r)), (λ f. absurd (true≢false (sym q.0 ∙ f)))) | inr q ↦ ((λ _. q.0), (λ _. ap (λ (r : Refusal). Err r) q.1)) ]
+  pub test_broken : (A : Type 0) → ◌≡◌ {A = Result A Unserved} (Err why) (Err (unserved.Unanswered unanswered.Broken)) ↔ (x.works ≡ false)
+  test_broken A = elim (by_test x log why e (λ r. ◌≡◌ {A = Result A Unserved} (Err r) (Err (unserved.Unanswered unanswered.Broken)) → ⊥) (λ q. absurd (cc)) (λ q. absurd (cc)) (λ q. absurd (cc)) (λ q. absurd (cc)))
+      [ inl q ↦ ((λ r. absurd (q.1 r)), (λ f. absurd (true≢false (sym q.0 ∙ f)))) | inr q ↦ ((λ _. q.0), (λ _. ap (λ (r : Unserved). Err r) q.1)) ]

@@ -1,7 +1,9 @@
 -- What a del did behind the taking of its row: at once, or behind the coming of the pages of its way.
 use Rattle.std.proofs.Common.{◌≡◌, ◌∙◌, inl, inr, ◌<◌, ◌%◌, ℕ, true, false, List, Option, Some, None, Result, Ok, Err, length, ap, refl, sym, subst, arith, true≢false}
-use Rattle.map_model.specs.declared.call.Refusal.{Refusal}
 use Rattle.map_model.specs.declared.call.Refusal.TheVariants as refusal
+use Rattle.paged_desks.specs.engine_trait.declared.unserved.Unanswered.TheVariants as unanswered
+use Rattle.paged_desks.specs.engine_trait.declared.unserved.Unserved.{Unserved}
+use Rattle.paged_desks.specs.engine_trait.declared.unserved.Unserved.TheVariants as unserved
 use Rattle.paged_desks.specs.btree_descent.declared.descent.TheConstants.{TOMBSTONE}
 use Rattle.paged_desks.specs.core_state.Needs.{is_held_by}
 use Rattle.lean_disk.specs.Faults.{HasCause}
@@ -32,11 +34,10 @@ use Rattle.paged_desks.specs.Parts.{HasFailed, HasGone}
 use Rattle.paged_desks.specs.declared.machine.PagedMachine.{PagedMachine}
 use Rattle.paged_desks.specs.declared.warming.Unwarmed.{Unwarmed}
 use Rattle.paged_desks.specs.declared.warming.Unwarmed.TheVariants as stopped
-use Rattle.paged_desks.specs.Calls.{works_behind as is_working}
+use Rattle.paged_desks.specs.Calls.{IsAside, unserved_of, works_behind as is_working}
 use Rattle.paged_calls.specs.Changes.{DelsWarm, MayStill, as_made}
-use Rattle.paged_desks.specs.Calls.{IsAside}
 use Rattle.paged_calls.specs.Steps.{FailsWarm, HasCome, HasTaken, IsStill, ReadsWarm}
-use Rattle.paged_calls.specs.Tests.{change_test, refusal_of}
+use Rattle.paged_calls.specs.Tests.{change_test}
 use Rattle.paged_calls.proofs.ChangeSteps.{beside_of}
 use Rattle.paged_calls.proofs.ChangeTests.{IsFree, free_of, works_of}
 use Rattle.paged_desks.proofs.EndingLemmas.{Grounds}
@@ -145,7 +146,7 @@ module _ (l : Grounds) {D : Type 0} (story : D → Story) (lawful : (d : D) → 
   fails_on m u n s f = record { between = f.between; still = still_then story m u f.between s f.still; failed = f.failed }
 
   -- by answer
-  pub dels_on : (m u n : PagedMachine D) → IsStill story m u → (r : Result (Option ℕ) Refusal) → DelsWarm story key r u n → DelsWarm story key r m n
+  pub dels_on : (m u n : PagedMachine D) → IsStill story m u → (r : Result (Option ℕ) Unserved) → DelsWarm story key r u n → DelsWarm story key r m n
   dels_on m u n s (Ok (Some before)) d = record {
     between = d.between;
     come = come_on m u d.between s d.come;
@@ -165,15 +166,15 @@ module _ (l : Grounds) {D : Type 0} (story : D → Story) (lawful : (d : D) → 
     session = d.session;
     is_half_aborted = d.is_half_aborted;
   }
-  dels_on m u n s (Err refusal.RowSpent) d = (come_on m u n s d.0, spent_from l story lawful key m u s n d.1)
-  dels_on m u n s (Err refusal.ClockSpent) d = record { come = come_on m u n s d.come; may = d.may; spent = d.spent }
-  dels_on m u n s (Err refusal.DiskFault) (inl f) = inl (fails_on m u n s f)
-  dels_on m u n s (Err refusal.DiskFault) (inr f) = inr (record {
+  dels_on m u n s (Err (unserved.Refused refusal.RowSpent)) d = (come_on m u n s d.0, spent_from l story lawful key m u s n d.1)
+  dels_on m u n s (Err (unserved.Refused refusal.ClockSpent)) d = record { come = come_on m u n s d.come; may = d.may; spent = d.spent }
+  dels_on m u n s (Err (unserved.Unanswered unanswered.DiskFault)) (inl f) = inl (fails_on m u n s f)
+  dels_on m u n s (Err (unserved.Unanswered unanswered.DiskFault)) (inr f) = inr (record {
     between = f.between;
     come = come_on m u f.between s f.come;
     keeps = subst (λ (k : ℕ). KeepsLog k f.between.machine.work.log (story f.between.machine.work.disk) (story n.machine.work.disk)) (ap (λ (x : Session). x.own) s.session) f.keeps;
   })
-  dels_on m u n s (Err (refusal.Damaged area place)) d = (fails_on m u n s d.0, nowhere_from l story lawful key m u s d.1)
+  dels_on m u n s (Err (unserved.Unanswered (unanswered.Damaged place))) d = (fails_on m u n s d.0, nowhere_from l story lawful key m u s d.1)
   dels_on m u n s (Err _) d = absurd d
 
   -- ## A try behind the coming of pages
@@ -205,16 +206,16 @@ module _ (l : Grounds) {D : Type 0} (story : D → Story) (lawful : (d : D) → 
     }
 
     -- or refused
-    refused : (why : Refusal) → IsAside k n → Did (Err (unmade.Refused why)) → DelsWarm story key (Err why) m n
-    refused refusal.RowSpent a d = (come_then m k n come (still_cold story k n a d.0.given d.0.seen d.1), inl (inl d.0.many))
-    refused refusal.DiskFault a d = inr (record { between = k; come = come; keeps = subst (λ (w : ℕ). KeepsLog w k.machine.work.log (story k.machine.work.disk) (story n.machine.work.disk)) come.turn d })
+    refused : (why : Unserved) → IsAside k n → Did (Err (unmade.Unserved why)) → DelsWarm story key (Err why) m n
+    refused (unserved.Refused refusal.RowSpent) a d = (come_then m k n come (still_cold story k n a d.0.given d.0.seen d.1), inl (inl d.0.many))
+    refused (unserved.Unanswered unanswered.DiskFault) a d = inr (record { between = k; come = come; keeps = subst (λ (w : ℕ). KeepsLog w k.machine.work.log (story k.machine.work.disk) (story n.machine.work.disk)) come.turn d })
     refused _ a d = absurd d
 
-    pub dels_err : (why : Refusal) (made : Unmade) → made ≡ unmade.Refused why → IsAside k n → Did (Err made) → DelsWarm story key (Err why) m n
+    pub dels_err : (why : Unserved) (made : Unmade) → made ≡ unmade.Unserved why → IsAside k n → Did (Err made) → DelsWarm story key (Err why) m n
     dels_err why made is a d = refused why a (subst (λ (r : Unmade). Did (Err r)) is d)
 
     -- by the call's own refusal
-    pub dels_by : (r : Result (Option ℕ) Refusal) → IsReady story k → MayStill key k → IsAside k n → IsSameSession k.machine.work.session n.machine.work.session → (works_behind (as_made r) ≡ true → n.machine.work.session.is_half_aborted ≡ k.machine.work.session.is_half_aborted) → Did (as_made r) → DelsWarm story key r m n
+    pub dels_by : (r : Result (Option ℕ) Unserved) → IsReady story k → MayStill key k → IsAside k n → IsSameSession k.machine.work.session n.machine.work.session → (works_behind (as_made r) ≡ true → n.machine.work.session.is_half_aborted ≡ k.machine.work.session.is_half_aborted) → Did (as_made r) → DelsWarm story key r m n
     dels_by (Ok was) ready may a same half d = dels_ok was ready may a same (half refl) d
     dels_by (Err why) ready may a same half d = refused why a d
 
@@ -232,18 +233,18 @@ met_cold story key m u made cold is a d = still_cold story m u a t.0.given t.0.s
 abbrev pub HasTried : {D : Type 0} → (story : D → Story) → (key : ℕ) → (m n : PagedMachine D) → Result (Option ℕ) Unmade → Type 0
 HasTried story key m n r = Dels r m.machine.work.session.own (view_of m) (view_of n) key m.machine.work.log n.machine.work.log (story m.machine.work.disk) (story n.machine.work.disk) (n.machine.work ≡ m.machine.work) (n.machine.work.disk ≡ m.machine.work.disk)
 
-pub made_works : {D : Type 0} (story : D → Story) (key : ℕ) (m n : PagedMachine D) (r : Result (Option ℕ) Refusal) → HasTried story key m n (as_made r) → works_behind (as_made r) ≡ is_working r
+pub made_works : {D : Type 0} (story : D → Story) (key : ℕ) (m n : PagedMachine D) (r : Result (Option ℕ) Unserved) → HasTried story key m n (as_made r) → works_behind (as_made r) ≡ is_working r
 made_works story key m n (Ok was) d = refl
-made_works story key m n (Err refusal.RowSpent) d = refl
-made_works story key m n (Err refusal.DiskFault) d = refl
+made_works story key m n (Err (unserved.Refused refusal.RowSpent)) d = refl
+made_works story key m n (Err (unserved.Unanswered unanswered.DiskFault)) d = refl
 made_works story key m n (Err _) d = absurd d
 
-pub refused_works : {D : Type 0} (story : D → Story) (key : ℕ) (m n : PagedMachine D) (made : Unmade) (why : Refusal) → made ≡ unmade.Refused why → HasTried story key m n (Err made) → works_behind {A = Option ℕ} (Err made) ≡ is_working {A = Option ℕ} (Err why)
+pub refused_works : {D : Type 0} (story : D → Story) (key : ℕ) (m n : PagedMachine D) (made : Unmade) (why : Unserved) → made ≡ unmade.Unserved why → HasTried story key m n (Err made) → works_behind {A = Option ℕ} (Err made) ≡ is_working {A = Option ℕ} (Err why)
 refused_works story key m n made why is d = ap (λ (r : Unmade). works_behind {A = Option ℕ} (Err r)) is ∙ made_works story key m n (Err why) (subst (λ (r : Unmade). HasTried story key m n (Err r)) is d)
 
 -- ## Where the pages did not come all
 
-pub dels_unwarmed : {D : Type 0} (story : D → Story) (key : ℕ) (m n : PagedMachine D) (why : Unwarmed) → ReadsWarm story key (Err why) m n → DelsWarm story key (Err (refusal_of why)) m n
+pub dels_unwarmed : {D : Type 0} (story : D → Story) (key : ℕ) (m n : PagedMachine D) (why : Unwarmed) → ReadsWarm story key (Err why) m n → DelsWarm story key (Err (unserved_of why)) m n
 dels_unwarmed story key m n stopped.RowSpent r = r
 dels_unwarmed story key m n stopped.DiskFault r = inl r
 dels_unwarmed story key m n (stopped.Damaged page) r = r
@@ -251,23 +252,23 @@ dels_unwarmed story key m n (stopped.Altered page) r = r
 
 module _ {D : Type 0} (story : D → Story) (key most : ℕ) (m n : PagedMachine D) where
   -- the machine behind that
-  pub works_unwarmed : (why : Unwarmed) (told : Refusal) → told ≡ refusal_of why → n.machine.work.session.works ≡ goes_on {A = Unit {0}} (Err why) → n.machine.work.session.works ≡ is_working {A = Option ℕ} (Err told)
-  works_unwarmed stopped.RowSpent told is e = e ∙ ap (λ (r : Refusal). is_working {A = Option ℕ} (Err r)) (sym is)
-  works_unwarmed stopped.DiskFault told is e = e ∙ ap (λ (r : Refusal). is_working {A = Option ℕ} (Err r)) (sym is)
-  works_unwarmed (stopped.Damaged page) told is e = e ∙ ap (λ (r : Refusal). is_working {A = Option ℕ} (Err r)) (sym is)
-  works_unwarmed (stopped.Altered page) told is e = e ∙ ap (λ (r : Refusal). is_working {A = Option ℕ} (Err r)) (sym is)
+  pub works_unwarmed : (why : Unwarmed) (told : Unserved) → told ≡ unserved_of why → n.machine.work.session.works ≡ goes_on {A = Unit {0}} (Err why) → n.machine.work.session.works ≡ is_working {A = Option ℕ} (Err told)
+  works_unwarmed stopped.RowSpent told is e = e ∙ ap (λ (r : Unserved). is_working {A = Option ℕ} (Err r)) (sym is)
+  works_unwarmed stopped.DiskFault told is e = e ∙ ap (λ (r : Unserved). is_working {A = Option ℕ} (Err r)) (sym is)
+  works_unwarmed (stopped.Damaged page) told is e = e ∙ ap (λ (r : Unserved). is_working {A = Option ℕ} (Err r)) (sym is)
+  works_unwarmed (stopped.Altered page) told is e = e ∙ ap (λ (r : Unserved). is_working {A = Option ℕ} (Err r)) (sym is)
 
   -- it works on where a latch is spent alone
-  spent_alone : (P : Type 0) (why : Unwarmed) (told : Refusal) → told ≡ refusal_of why → (goes_on {A = Unit {0}} (Err why) ≡ true → P) → is_working {A = Option ℕ} (Err told) ≡ true → P
+  spent_alone : (P : Type 0) (why : Unwarmed) (told : Unserved) → told ≡ unserved_of why → (goes_on {A = Unit {0}} (Err why) ≡ true → P) → is_working {A = Option ℕ} (Err told) ≡ true → P
   spent_alone P stopped.RowSpent told is p w = p refl
-  spent_alone P stopped.DiskFault told is p w = absurd (true≢false (sym w ∙ ap (λ (r : Refusal). is_working {A = Option ℕ} (Err r)) is))
-  spent_alone P (stopped.Damaged page) told is p w = absurd (true≢false (sym w ∙ ap (λ (r : Refusal). is_working {A = Option ℕ} (Err r)) is))
-  spent_alone P (stopped.Altered page) told is p w = absurd (true≢false (sym w ∙ ap (λ (r : Refusal). is_working {A = Option ℕ} (Err r)) is))
+  spent_alone P stopped.DiskFault told is p w = absurd (true≢false (sym w ∙ ap (λ (r : Unserved). is_working {A = Option ℕ} (Err r)) is))
+  spent_alone P (stopped.Damaged page) told is p w = absurd (true≢false (sym w ∙ ap (λ (r : Unserved). is_working {A = Option ℕ} (Err r)) is))
+  spent_alone P (stopped.Altered page) told is p w = absurd (true≢false (sym w ∙ ap (λ (r : Unserved). is_working {A = Option ℕ} (Err r)) is))
 
-  pub ready_unwarmed : (why : Unwarmed) (told : Refusal) → told ≡ refusal_of why → (goes_on {A = Unit {0}} (Err why) ≡ true → IsReady story n) → is_working {A = Option ℕ} (Err told) ≡ true → IsReady story n
+  pub ready_unwarmed : (why : Unwarmed) (told : Unserved) → told ≡ unserved_of why → (goes_on {A = Unit {0}} (Err why) ≡ true → IsReady story n) → is_working {A = Option ℕ} (Err told) ≡ true → IsReady story n
   ready_unwarmed = spent_alone (IsReady story n)
 
-  pub turn_unwarmed : (why : Unwarmed) (told : Refusal) → told ≡ refusal_of why → (goes_on {A = Unit {0}} (Err why) ≡ true → HasGone story key most m n) → is_working {A = Option ℕ} (Err told) ≡ true → n.machine.work.session.own ≡ m.machine.work.session.own
+  pub turn_unwarmed : (why : Unwarmed) (told : Unserved) → told ≡ unserved_of why → (goes_on {A = Unit {0}} (Err why) ≡ true → HasGone story key most m n) → is_working {A = Option ℕ} (Err told) ≡ true → n.machine.work.session.own ≡ m.machine.work.session.own
   turn_unwarmed why told is gone = spent_alone (n.machine.work.session.own ≡ m.machine.work.session.own) why told is (λ e. (gone e).paged.turn)
 
   pub fits_unwarmed : (why : Unwarmed) → (goes_on {A = Unit {0}} (Err why) ≡ true → IsReady story n) → (goes_on {A = Unit {0}} (Err why) ≡ false → HasFailed story m n) → SeatFits n.machine
@@ -285,34 +286,34 @@ module _ {D : Type 0} (story : D → Story) (key most : ℕ) (m n : PagedMachine
 -- ## Faults
 
 -- a fault of a warm is told as one of the call
-fault_to : (A B : Type 0) (why : Unwarmed) → ◌≡◌ {A = Result A Unwarmed} (Err why) (Err stopped.DiskFault) → ◌≡◌ {A = Result B Refusal} (Err (refusal_of why)) (Err refusal.DiskFault)
+fault_to : (A B : Type 0) (why : Unwarmed) → ◌≡◌ {A = Result A Unwarmed} (Err why) (Err stopped.DiskFault) → ◌≡◌ {A = Result B Unserved} (Err (unserved_of why)) (Err (unserved.Unanswered unanswered.DiskFault))
 fault_to A B stopped.DiskFault e = refl
 fault_to A B stopped.RowSpent e = absurd (cc)
 fault_to A B (stopped.Damaged page) e = absurd (cc)
 fault_to A B (stopped.Altered page) e = absurd (cc)
 
-fault_from : (A B : Type 0) (why : Unwarmed) → ◌≡◌ {A = Result B Refusal} (Err (refusal_of why)) (Err refusal.DiskFault) → ◌≡◌ {A = Result A Unwarmed} (Err why) (Err stopped.DiskFault)
+fault_from : (A B : Type 0) (why : Unwarmed) → ◌≡◌ {A = Result B Unserved} (Err (unserved_of why)) (Err (unserved.Unanswered unanswered.DiskFault)) → ◌≡◌ {A = Result A Unwarmed} (Err why) (Err stopped.DiskFault)
 fault_from A B stopped.DiskFault e = refl
 fault_from A B stopped.RowSpent e = absurd (cc)
 fault_from A B (stopped.Damaged page) e = absurd (cc)
 fault_from A B (stopped.Altered page) e = absurd (cc)
 
-pub cause_warm : (A B : Type 0) (before now : ℕ) (why : Unwarmed) (told : Refusal) → told ≡ refusal_of why → HasCause before now (◌≡◌ {A = Result A Unwarmed} (Err why) (Err stopped.DiskFault)) → HasCause before now (◌≡◌ {A = Result B Refusal} (Err told) (Err refusal.DiskFault))
-cause_warm A B before now why told is h = subst (λ (r : Refusal). HasCause before now (◌≡◌ {A = Result B Refusal} (Err r) (Err refusal.DiskFault))) (sym is) (cause_as before now _ _ (fault_to A B why) (fault_from A B why) h)
+pub cause_warm : (A B : Type 0) (before now : ℕ) (why : Unwarmed) (told : Unserved) → told ≡ unserved_of why → HasCause before now (◌≡◌ {A = Result A Unwarmed} (Err why) (Err stopped.DiskFault)) → HasCause before now (◌≡◌ {A = Result B Unserved} (Err told) (Err (unserved.Unanswered unanswered.DiskFault)))
+cause_warm A B before now why told is h = subst (λ (r : Unserved). HasCause before now (◌≡◌ {A = Result B Unserved} (Err r) (Err (unserved.Unanswered unanswered.DiskFault)))) (sym is) (cause_as before now _ _ (fault_to A B why) (fault_from A B why) h)
 
 -- and one of a try
-pub cause_try : (A B : Type 0) (before now : ℕ) (made : Unmade) (why : Refusal) → made ≡ unmade.Refused why → HasCause before now (◌≡◌ {A = Result A Unmade} (Err made) (Err (unmade.Refused refusal.DiskFault))) → HasCause before now (◌≡◌ {A = Result B Refusal} (Err why) (Err refusal.DiskFault))
-cause_try A B before now made why is h = cause_as before now _ _ to from (subst (λ (r : Unmade). HasCause before now (◌≡◌ {A = Result A Unmade} (Err r) (Err (unmade.Refused refusal.DiskFault)))) is h)
+pub cause_try : (A B : Type 0) (before now : ℕ) (made : Unmade) (why : Unserved) → made ≡ unmade.Unserved why → HasCause before now (◌≡◌ {A = Result A Unmade} (Err made) (Err (unmade.Unserved (unserved.Unanswered unanswered.DiskFault)))) → HasCause before now (◌≡◌ {A = Result B Unserved} (Err why) (Err (unserved.Unanswered unanswered.DiskFault)))
+cause_try A B before now made why is h = cause_as before now _ _ to from (subst (λ (r : Unmade). HasCause before now (◌≡◌ {A = Result A Unmade} (Err r) (Err (unmade.Unserved (unserved.Unanswered unanswered.DiskFault))))) is h)
   where
-    to : ◌≡◌ {A = Result A Unmade} (Err (unmade.Refused why)) (Err (unmade.Refused refusal.DiskFault)) → ◌≡◌ {A = Result B Refusal} (Err why) (Err refusal.DiskFault)
+    to : ◌≡◌ {A = Result A Unmade} (Err (unmade.Unserved why)) (Err (unmade.Unserved (unserved.Unanswered unanswered.DiskFault))) → ◌≡◌ {A = Result B Unserved} (Err why) (Err (unserved.Unanswered unanswered.DiskFault))
     to e = cc
 
-    from : ◌≡◌ {A = Result B Refusal} (Err why) (Err refusal.DiskFault) → ◌≡◌ {A = Result A Unmade} (Err (unmade.Refused why)) (Err (unmade.Refused refusal.DiskFault))
+    from : ◌≡◌ {A = Result B Unserved} (Err why) (Err (unserved.Unanswered unanswered.DiskFault)) → ◌≡◌ {A = Result A Unmade} (Err (unmade.Unserved why)) (Err (unmade.Unserved (unserved.Unanswered unanswered.DiskFault)))
     from e = cc
 
-made_from : (r : Result (Option ℕ) Refusal) → as_made r ≡ Err (unmade.Refused refusal.DiskFault) → r ≡ Err refusal.DiskFault
+made_from : (r : Result (Option ℕ) Unserved) → as_made r ≡ Err (unmade.Unserved (unserved.Unanswered unanswered.DiskFault)) → r ≡ Err (unserved.Unanswered unanswered.DiskFault)
 made_from (Ok was) e = absurd (cc)
 made_from (Err why) e = cc
 
-pub cause_made : (before now : ℕ) (r : Result (Option ℕ) Refusal) → HasCause before now (as_made r ≡ Err (unmade.Refused refusal.DiskFault)) → HasCause before now (r ≡ Err refusal.DiskFault)
+pub cause_made : (before now : ℕ) (r : Result (Option ℕ) Unserved) → HasCause before now (as_made r ≡ Err (unmade.Unserved (unserved.Unanswered unanswered.DiskFault))) → HasCause before now (r ≡ Err (unserved.Unanswered unanswered.DiskFault))
 cause_made before now r h = cause_as before now _ _ (made_from r) (λ e. ap as_made e) h

@@ -6,6 +6,11 @@ use Rattle.map_model.specs.declared.call.Answer.TheVariants as answer
 use Rattle.map_model.specs.declared.call.Call.TheVariants as call
 use Rattle.map_model.specs.declared.call.Refusal.{Refusal}
 use Rattle.map_model.specs.declared.call.Refusal.TheVariants as refusal
+use Rattle.paged_desks.specs.engine_trait.declared.unserved.Unanswered.{Unanswered}
+use Rattle.paged_desks.specs.engine_trait.Serving.{unserved_answer}
+use Rattle.paged_desks.specs.engine_trait.declared.unserved.Unanswered.TheVariants as unanswered
+use Rattle.paged_desks.specs.engine_trait.declared.unserved.Unserved.{Unserved}
+use Rattle.paged_desks.specs.engine_trait.declared.unserved.Unserved.TheVariants as unserved
 use Rattle.paged_desks.specs.btree_descent.declared.descent.TheConstants.{TOMBSTONE}
 use Rattle.paged_desks.specs.core_calls.Deeds.{Deleted}
 use Rattle.paged_desks.specs.core_calls.Fronts.{Done, front}
@@ -28,6 +33,7 @@ use Rattle.paged_desks.specs.row_words.Moments.{events_of}
 use Rattle.paged_desks.specs.session_desks.Parts.{here}
 use Rattle.paged_desks.specs.session_desks.declared.desk.Desk.{Desk}
 use Rattle.paged_desks.proofs.session_desks.DeskLemmas.{desk_own}
+use Rattle.paged_desks.proofs.session_state.ServingLemmas.{refused_not}
 use Rattle.paged_desks.specs.session_state.Staging.{KeepsLog}
 use Rattle.paged_desks.specs.session_state.declared.session.Session.{Session}
 use Rattle.paged_desks.specs.worker_log.Logs.{Log}
@@ -36,40 +42,37 @@ use Rattle.row_changes.specs.Puts.{IsChanged}
 use Rattle.row_changes.specs.Reads.{HasRead}
 use Rattle.paged_desks.specs.Machines.{IsReady, memory, view_of}
 use Rattle.paged_desks.specs.declared.machine.PagedMachine.{PagedMachine}
-use Rattle.paged_desks.specs.Calls.{AreHalf, CallDoes, Comes, DoesTied, OnLine, Tied, works_behind}
+use Rattle.paged_desks.specs.Calls.{AreHalf, CallDoes, DoesTied, OnLine, Tied, works_behind}
 use Rattle.paged_calls.specs.Calls.{del_answer}
 use Rattle.paged_calls.specs.Changes.{DelsWarm, MayStill}
 use Rattle.paged_calls.specs.Steps.{HasCome, HasNotTaken, HasTaken}
 use Rattle.paged_calls.specs.Tests.{change_test}
 use Rattle.paged_calls.proofs.ChangeRuns as runs
-use Rattle.paged_calls.proofs.ChangeTests.{by_test}
+use Rattle.paged_calls.proofs.ChangeTests.{test_is}
 use Rattle.paged_calls.proofs.KeyLemmas as keys
 use Rattle.paged_desks.proofs.EndingLemmas.{Grounds}
 use Rattle.paged_calls.proofs.PieceLemmas.{none_part}
 use Rattle.paged_desks.proofs.StandLemmas.{halves_are}
 use Rattle.paged_calls.proofs.TakingLemmas.{none_is}
 
--- what a test refuses is told by no fault
-comes_tested : (x : Session) (log : Log) (why : Refusal) → x.works ≡ true → change_test x log ≡ Some why → (does fails never : Type 0) → does → Comes (answer.Refused why) does fails never
-comes_tested x log why works e does fails never d = elim (by_test x log why e (λ p. Comes (answer.Refused p) does fails never) d d d d) [ inl q ↦ q.1 | inr q ↦ absurd (true≢false (sym works ∙ q.0)) ]
-
 module _ (l : Grounds) (answers : EveryAnswer) (coming : EveryComing) {D : Type 0} (story : D → Story) (lawful : (d : D) → IsLawful (story d)) (m : PagedMachine D) (ready : IsReady story m) (key : ℕ) where
   abbrev x : Session
   x = m.machine.work.session
 
-  abbrev Did : Answer → PagedMachine D → Type 0
+  abbrev Did : Result Answer Unanswered → PagedMachine D → Type 0
   Did a n = CallDoes story OnLine x.own (call.Del key) a m n
 
   -- by the log that is in memory
-  in_memory : (o : Option Refusal) → change_test x m.machine.work.log ≡ o → change_test x ((memory m).log x.own) ≡ o
+  in_memory : (o : Option Unserved) → change_test x m.machine.work.log ≡ o → change_test x ((memory m).log x.own) ≡ o
   in_memory o e = ap (λ (d : Desk). change_test x d.log) (desk_own (here m.machine) m.machine.desks.items x.own refl) ∙ e
 
   -- ## It is refused before anything was done
 
-  pub del_tested : (why : Refusal) → change_test x m.machine.work.log ≡ Some why → Did (answer.Refused why) m
-  del_tested why e g xs workers tied halves line = comes_tested x m.machine.work.log why ready.works e _ _ _
-      (runs.tested l answers coming story lawful m ready key (call.Del key) refl g xs workers tied halves line m
-      (none_part l story lawful m m (record { shape = refl; disk = refl; log = refl; desks = refl; latches = refl; master = refl; pager = refl }) refl x.workers refl refl) ready.logged (refl, refl) (λ w lo hi. refl) why (in_memory (Some why) e))
+  pub del_tested : (why : Unserved) → change_test x m.machine.work.log ≡ Some why → Did (unserved_answer why) m
+  del_tested (unserved.Unanswered fault) e g xs workers tied halves line = absurd (refused_not _ fault (sym (test_is x m.machine.work.log ready.works) ∙ e))
+  del_tested (unserved.Refused why) e g xs workers tied halves line =
+      runs.tested l answers coming story lawful m ready key (call.Del key) refl g xs workers tied halves line m
+      (none_part l story lawful m m (record { shape = refl; disk = refl; log = refl; desks = refl; latches = refl; master = refl; pager = refl }) refl x.workers refl refl) ready.logged (refl, refl) (λ w lo hi. refl) why (in_memory (Some (unserved.Refused why)) e)
 
   module _ (none : change_test x m.machine.work.log ≡ None) where
     module _ (n : PagedMachine D) (now : IsReady story n) where
@@ -79,7 +82,7 @@ module _ (l : Grounds) (answers : EveryAnswer) (coming : EveryComing) {D : Type 
           (none_part l story lawful m n s.beside (ap (λ (y : Session). y.own) s.session) x.workers given seen) now.logged (ap (λ (y : Session). y.workers) s.session, ap (λ (y : Session). y.group) s.session)
           (λ w lo hi. halves_are story m n s.beside (ap (λ (y : Session). y.own) s.session) (ap (λ (y : Session). y.is_half_aborted) s.session) w) (in_memory None none) why s.not_taken
 
-      pub del_untaken : (why : Refusal) → HasNotTaken why key Alone m n → Did (answer.Refused why) n
+      pub del_untaken : (why : Refusal) → HasNotTaken why key Alone m n → Did (Ok (answer.Refused why)) n
       del_untaken refusal.RowSpent s = untaken refusal.RowSpent s s.not_taken.given s.not_taken.seen
       del_untaken (refusal.Conflict h) s = untaken (refusal.Conflict h) s s.not_taken.given s.not_taken.seen
       del_untaken _ s = absurd s.not_taken
@@ -91,13 +94,13 @@ module _ (l : Grounds) (answers : EveryAnswer) (coming : EveryComing) {D : Type 
       own_is = ap (λ (y : Session). y.own) t.takes.session
 
       -- its clock has come to its end, by the row or by a sync
-      stopped : (n : PagedMachine D) → IsReady story n → HasCome story key u n → MayStill key n → 2 ^ 62 ≤ n.machine.work.session.clock.clock → Did (answer.Refused refusal.ClockSpent) n
+      stopped : (n : PagedMachine D) → IsReady story n → HasCome story key u n → MayStill key n → 2 ^ 62 ≤ n.machine.work.session.clock.clock → Did (Ok (answer.Refused refusal.ClockSpent)) n
       stopped n now come may spent g xs workers tied halves line = runs.stopped l answers coming story lawful m ready key (call.Del key) refl g xs workers tied halves line (in_memory None none) u t taken n come now may spent
           (subst (λ d. SyncsWhere (IsPressedYet g d refusal.ClockSpent) g (state_after g (front xs)) false (happening.Event.Lock x.own (key % x.held.count) happening.Mode.Alone ∷ events_of come.events)) (sym (runs.asks l answers coming story lawful m ready key (call.Del key) refl g xs workers tied halves line))
           (runs.tight l answers coming story lawful m ready key (call.Del key) refl g xs workers tied halves line (in_memory None none) u t taken n come))
 
-      pub del_stopped : (why : Refusal) → HasCome story key u u → MayStill key u → clock_refusal u.machine.work.session.clock.clock None ≡ Some why → Did (answer.Refused why) u
-      del_stopped why come may e = let q = clock_at_end u.machine.work.session.clock.clock why e in subst (λ p. Did (answer.Refused p) u) (sym q.is) (stopped u taken come may q.spent)
+      pub del_stopped : (why : Refusal) → HasCome story key u u → MayStill key u → clock_refusal u.machine.work.session.clock.clock None ≡ Some why → Did (Ok (answer.Refused why)) u
+      del_stopped why come may e = let q = clock_at_end u.machine.work.session.clock.clock why e in subst (λ p. Did (Ok (answer.Refused p)) u) (sym q.is) (stopped u taken come may q.spent)
 
       module _ (small : u.machine.work.session.clock.clock < 2 ^ 62) (n : PagedMachine D) where
         unrefused : (g : Opening) (xs : List Done) (workers : g.workers ≡ x.workers) (tied : Tied g x.group xs (view_of m) (memory m)) (halves : AreHalf g.workers xs m.machine) (line : OnLine g xs)
@@ -115,7 +118,7 @@ module _ (l : Grounds) (answers : EveryAnswer) (coming : EveryComing) {D : Type 
             dead_is = sym (ap (λ (f : Format). f.dead) (tied.ties x.own).opens.format)
 
         -- by answer
-        pub del_did : (r : Result (Option ℕ) Refusal) → (works_behind r ≡ true → IsReady story n) → DelsWarm story key r u n → Did (del_answer r) n
+        pub del_did : (r : Result (Option ℕ) Unserved) → (works_behind r ≡ true → IsReady story n) → DelsWarm story key r u n → Did (del_answer r) n
         del_did (Ok (Some before)) now d g xs workers tied halves line =
             runs.changed l answers coming story lawful m ready key (call.Del key) refl g xs workers tied halves line (in_memory None none) u t taken d.between d.come n d.ready d.aside d.session d.is_half_aborted TOMBSTONE (Some before)
             (subst (λ k. IsChanged k (view_of d.between) (view_of n) key TOMBSTONE (Some before) d.between.machine.work.log n.machine.work.log (story d.between.machine.work.disk) (story n.machine.work.disk)) own_is d.changed)
@@ -126,12 +129,12 @@ module _ (l : Grounds) (answers : EveryAnswer) (coming : EveryComing) {D : Type 
             runs.found_none l answers coming story lawful m ready key (call.Del key) refl g xs workers tied halves line (in_memory None none) u t taken d.between d.come n d.ready d.beside d.session d.is_half_aborted
             (subst (λ k. HasRead k (view_of d.between) (view_of n) key None) own_is d.read) d.may refl (unrefused g xs workers tied halves line) (now refl).logged
             (d.session.1 ∙ (d.come.same.0 ∙ ap (λ (y : Session). y.workers) t.takes.session), d.session.2 ∙ (d.come.same.1 ∙ ap (λ (y : Session). y.group) t.takes.session))
-        del_did (Err refusal.RowSpent) now d g xs workers tied halves line = keys.spent l answers coming story lawful m ready key Alone (call.Del key) refl g xs workers tied halves line u t n d.0 (now refl).logged d.1
-        del_did (Err refusal.ClockSpent) now d g xs workers tied halves line = stopped n (now refl) d.come d.may d.spent g xs workers tied halves line
-        del_did (Err refusal.DiskFault) now (inl f) g xs workers tied halves line = keys.fault l answers coming story lawful m ready key Alone (call.Del key) refl g xs workers tied halves line u t n f
-        del_did (Err refusal.DiskFault) now (inr f) g xs workers tied halves line =
+        del_did (Err (unserved.Refused refusal.RowSpent)) now d g xs workers tied halves line = keys.spent l answers coming story lawful m ready key Alone (call.Del key) refl g xs workers tied halves line u t n d.0 (now refl).logged d.1
+        del_did (Err (unserved.Refused refusal.ClockSpent)) now d g xs workers tied halves line = stopped n (now refl) d.come d.may d.spent g xs workers tied halves line
+        del_did (Err (unserved.Unanswered unanswered.DiskFault)) now (inl f) g xs workers tied halves line = keys.fault l answers coming story lawful m ready key Alone (call.Del key) refl g xs workers tied halves line u t n f
+        del_did (Err (unserved.Unanswered unanswered.DiskFault)) now (inr f) g xs workers tied halves line =
             runs.fails_staging l answers coming story lawful m ready key (call.Del key) refl g xs workers tied halves line (in_memory None none) u t taken f.between f.come n
             (subst (λ k. KeepsLog k f.between.machine.work.log (story f.between.machine.work.disk) (story n.machine.work.disk)) own_is f.keeps)
-        del_did (Err (refusal.Damaged area place)) now d g xs workers tied halves line =
+        del_did (Err (unserved.Unanswered (unanswered.Damaged place))) now d g xs workers tied halves line =
             (keys.fault l answers coming story lawful m ready key Alone (call.Del key) refl g xs workers tied halves line u t n d.0, keys.never l answers coming story lawful m ready key Alone (call.Del key) refl g xs workers tied halves line u t d.1)
         del_did (Err _) now d g xs workers tied halves line = absurd d

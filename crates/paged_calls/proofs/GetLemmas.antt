@@ -1,11 +1,12 @@
 -- A get, in each run to which its machine is tied.
-use Rattle.std.proofs.Common.{◌≡◌, ◌∙◌, ◌⊎◌, inl, inr, ◌≤◌, ◌<◌, ◌^◌, ◌%◌, ◌++◌, ℕ, true, false, cond, List, [], ◌∷◌, length, Option, Some, None, Err, ap, refl, sym, subst, arith}
+use Rattle.std.proofs.Common.{◌≡◌, ◌∙◌, ◌⊎◌, inl, inr, ◌≤◌, ◌<◌, ◌^◌, ◌%◌, ◌++◌, ℕ, true, false, cond, List, [], ◌∷◌, length, Option, Some, None, Err, ap, refl, sym, subst, arith, Ok, Result}
 use Rattle.std.proofs.lemmas.List.{length-append}
 use Rattle.map_model.specs.Lists.{any}
 use Rattle.map_model.specs.declared.call.Answer.TheVariants as answer
 use Rattle.map_model.specs.declared.call.Call.TheVariants as call
 use Rattle.map_model.specs.declared.call.Refusal.{Refusal}
 use Rattle.map_model.specs.declared.call.Refusal.TheVariants as refusal
+use Rattle.paged_desks.specs.engine_trait.declared.unserved.Unanswered.{Unanswered}
 use Rattle.paged_desks.specs.core_calls.Deeds.{Got, marks_by}
 use Rattle.paged_desks.specs.core_calls.Fronts.{Done, front, outcomes}
 use Rattle.paged_desks.specs.core_calls.LogEvents.{IsTight, SyncsWhere}
@@ -55,10 +56,9 @@ use Rattle.paged_desks.specs.Pages.{goes_on}
 use Rattle.paged_desks.specs.declared.machine.PagedMachine.{PagedMachine}
 use Rattle.paged_desks.specs.declared.warming.Unwarmed.{Unwarmed}
 use Rattle.paged_desks.specs.declared.warming.Unwarmed.TheVariants as stopped
-use Rattle.paged_desks.specs.Calls.{AreHalf, CallDoes, DoesTied, OnLine, Tied}
+use Rattle.paged_desks.specs.Calls.{AreHalf, CallDoes, DoesTied, IsBeside, OnLine, Tied, unserved_of}
 use Rattle.paged_calls.specs.Steps.{HasCome, HasNotTaken, HasReadWarm, HasTaken, ReadsWarm}
-use Rattle.paged_desks.specs.Calls.{IsBeside}
-use Rattle.paged_calls.specs.Tests.{is_going, refusal_of}
+use Rattle.paged_calls.specs.Tests.{is_going}
 use Rattle.paged_calls.proofs.Conflicts.{lock_refused}
 use Rattle.paged_desks.proofs.EndingLemmas.{IsOr, does_tied, half_own}
 use Rattle.paged_calls.proofs.GoingLemmas.{goes, not_going, tests_as}
@@ -66,7 +66,9 @@ use Rattle.paged_calls.proofs.KeyLemmas as keys
 use Rattle.paged_desks.proofs.EndingLemmas.{Grounds}
 use Rattle.paged_calls.proofs.PieceLemmas.{behind_as, joins_at, none_part, read_part}
 use Rattle.paged_desks.proofs.StandLemmas.{halves_are}
+use Rattle.paged_desks.specs.engine_trait.Serving.{unserved_answer}
 use Rattle.paged_calls.proofs.TakingLemmas.{key_free, key_hindered, none_is, none_refuses, some_is, spent_end}
+use Rattle.map_model.specs.declared.call.Answer.{Answer}
 
 -- ## In one run
 
@@ -254,11 +256,11 @@ module _ (l : Grounds) (answers : EveryAnswer) (coming : EveryComing) {D : Type 
 -- ## In each run
 
 module _ (l : Grounds) (answers : EveryAnswer) (coming : EveryComing) {D : Type 0} (story : D → Story) (lawful : (d : D) → IsLawful (story d)) (m : PagedMachine D) (ready : IsReady story m) (key : ℕ) where
-  abbrev Did : Refusal → PagedMachine D → Type 0
-  Did why n = CallDoes story OnLine m.machine.work.session.own (call.Get key) (answer.Refused why) m n
+  abbrev Did : Result Answer Unanswered → PagedMachine D → Type 0
+  Did r n = CallDoes story OnLine m.machine.work.session.own (call.Get key) r m n
 
   -- no transaction goes on
-  pub get_closed : is_going m.machine.work.session ≡ false → Did refusal.NoTransaction m
+  pub get_closed : is_going m.machine.work.session ≡ false → Did (Ok (answer.Refused refusal.NoTransaction)) m
   get_closed shut g xs workers tied halves line = not_begun l answers coming story lawful m ready key g xs workers tied halves line m
       (none_part l story lawful m m (record { shape = refl; disk = refl; log = refl; desks = refl; latches = refl; master = refl; pager = refl }) refl m.machine.work.session.workers refl refl) ready.logged (refl, refl) (λ w lo hi. refl) shut
 
@@ -271,20 +273,20 @@ module _ (l : Grounds) (answers : EveryAnswer) (coming : EveryComing) {D : Type 
           (none_part l story lawful m n s.beside (ap (λ (y : Session). y.own) s.session) m.machine.work.session.workers given seen) now.logged (ap (λ (y : Session). y.workers) s.session, ap (λ (y : Session). y.group) s.session)
           (λ w lo hi. halves_are story m n s.beside (ap (λ (y : Session). y.own) s.session) (ap (λ (y : Session). y.is_half_aborted) s.session) w) is_open whole why s.not_taken
 
-      pub get_untaken : (why : Refusal) → HasNotTaken why key Shared m n → Did why n
+      pub get_untaken : (why : Refusal) → HasNotTaken why key Shared m n → Did (Ok (answer.Refused why)) n
       get_untaken refusal.RowSpent s = untaken refusal.RowSpent s s.not_taken.given s.not_taken.seen
       get_untaken (refusal.Conflict h) s = untaken (refusal.Conflict h) s s.not_taken.given s.not_taken.seen
       get_untaken _ s = absurd s.not_taken
 
     module _ (u : PagedMachine D) (t : HasTaken key Shared m u) (taken : IsReady story u) (n : PagedMachine D) where
       -- it was read
-      pub get_read : (value : Option ℕ) → IsReady story n → HasReadWarm story key value u n → CallDoes story OnLine m.machine.work.session.own (call.Get key) (answer.Value value) m n
+      pub get_read : (value : Option ℕ) → IsReady story n → HasReadWarm story key value u n → CallDoes story OnLine m.machine.work.session.own (call.Get key) (Ok (answer.Value value)) m n
       get_read value now r g xs workers tied halves line = got l answers coming story lawful m ready key g xs workers tied halves line is_open whole u t r.between r.come n value r.beside
           (ap (λ (y : Session). y.own) r.session) (ap (λ (y : Session). y.is_half_aborted) r.session) (subst (λ w. HasRead w (view_of r.between) (view_of n) key value) (ap (λ (y : Session). y.own) t.takes.session) r.read) now.logged
           (ap (λ (y : Session). y.workers) r.session ∙ (r.come.same.0 ∙ ap (λ (y : Session). y.workers) t.takes.session), ap (λ (y : Session). y.group) r.session ∙ (r.come.same.1 ∙ ap (λ (y : Session). y.group) t.takes.session))
 
       -- pages did not come all
-      pub get_unwarmed : (why : Unwarmed) → (goes_on {A = Option ℕ} (Err why) ≡ true → IsReady story n) → ReadsWarm story key (Err why) u n → Did (refusal_of why) n
+      pub get_unwarmed : (why : Unwarmed) → (goes_on {A = Option ℕ} (Err why) ≡ true → IsReady story n) → ReadsWarm story key (Err why) u n → Did (unserved_answer (unserved_of why)) n
       get_unwarmed stopped.RowSpent now r g xs workers tied halves line = keys.spent l answers coming story lawful m ready key Shared (call.Get key) refl g xs workers tied halves line u t n r.0 (now refl).logged r.1
       get_unwarmed stopped.DiskFault now r g xs workers tied halves line = keys.fault l answers coming story lawful m ready key Shared (call.Get key) refl g xs workers tied halves line u t n r
       get_unwarmed (stopped.Damaged page) now r g xs workers tied halves line = (keys.fault l answers coming story lawful m ready key Shared (call.Get key) refl g xs workers tied halves line u t n r.0, keys.never l answers coming story lawful m ready key Shared (call.Get key) refl g xs workers tied halves line u t r.1)

@@ -2,8 +2,10 @@
 use Rattle.std.proofs.Common.{◌≡◌, ◌∙◌, ◌⊎◌, inl, inr, ◌≤◌, ◌<◌, ◌+◌, ◌*◌, ◌^◌, ◌%◌, ◌-◌, ◌++◌, ◌==◌, ◌&&◌, cond, ℕ, suc, true, false, List, [], ◌∷◌, Option, Some, None, Result, Ok, Err, length, ap, refl, sym, subst, arith, true≢false}
 use Rattle.std.proofs.lemmas.Bool.{and_from, and_parts, eq-eqb}
 use Rattle.map_model.specs.Lists.{Has}
-use Rattle.map_model.specs.declared.call.Refusal.{Refusal}
 use Rattle.map_model.specs.declared.call.Refusal.TheVariants as refusal
+use Rattle.paged_desks.specs.engine_trait.declared.unserved.Unanswered.TheVariants as unanswered
+use Rattle.paged_desks.specs.engine_trait.declared.unserved.Unserved.{Unserved}
+use Rattle.paged_desks.specs.engine_trait.declared.unserved.Unserved.TheVariants as unserved
 use Rattle.paged_desks.specs.core_calls.Warms.{IsWarmFrom}
 use Rattle.paged_desks.specs.core_calls.Room.{EveryRoom, free_list, is_full_at, room_takes}
 use Rattle.paged_desks.specs.core_paging.Paging.{EveryResidence, Residence}
@@ -50,8 +52,7 @@ use Rattle.paged_desks.specs.worker_log.Logs.{Log}
 use Rattle.paged_desks.proofs.call_parts.RunLemmas.{behind_more, run_core}
 use Rattle.paged_desks.proofs.EndingLemmas.{Grounds}
 use Rattle.paged_desks.proofs.StandLemmas.{looked_same, ready_on}
-use Rattle.paged_desks.specs.Calls.{IsAside}
-use Rattle.paged_desks.specs.Calls.{works_behind as is_working}
+use Rattle.paged_desks.specs.Calls.{IsAside, unserved_of, works_behind as is_working}
 use Rattle.paged_desks.specs.Machines.{IsReady, pages, view_of}
 use Rattle.paged_desks.specs.Pages.{HasPaged, IsKept, goes_on, most_a_level}
 use Rattle.paged_desks.specs.Parts.{HasFailed, HasGone, IsSpent, StandsNowhere}
@@ -62,7 +63,6 @@ use Rattle.paged_calls.specs.Changes.{MayStill}
 use Rattle.paged_calls.specs.Growths.{AreLike, HasMade, IsGoing, MayPut}
 use Rattle.paged_calls.specs.Rounds.{GoesOnWarm, HasPut, IsWanted, Rounds, most_a_round, round_of}
 use Rattle.paged_calls.specs.Steps.{IsStill}
-use Rattle.paged_calls.specs.Tests.{refusal_of}
 use Rattle.paged_calls.specs.declared.growing.Round.{Round}
 use Rattle.paged_calls.specs.declared.growing.Round.TheVariants as round
 use Rattle.paged_calls.proofs.ChangeStands.{ready_changed}
@@ -185,12 +185,12 @@ module _ (l : Grounds) (residence : EveryResidence) {D : Type 0} (story : D → 
     step_ready placed (Ok stepped.Grown) w d = ready_grown l story m n a same ready key d.0 law standing fits works (holds works)
     step_ready placed (Ok (stepped.Needs page)) w d = unmoved d.1 d.0.needed.given d.0.needed.seen
     step_ready placed (Err (unmade.Cold cold)) w d = unmoved d.1 d.0.given d.0.seen
-    step_ready placed (Err (unmade.Refused refusal.TooTall)) w d = unmoved d.1 d.0.given d.0.seen
-    step_ready placed (Err (unmade.Refused refusal.NoPages)) w d = unmoved d.1 d.0.given d.0.seen
-    step_ready placed (Err (unmade.Refused refusal.ClockSpent)) w d = ready_grown l story m n a same ready key d.grown law standing fits works (holds works)
-    step_ready placed (Err (unmade.Refused refusal.RowSpent)) w d = ready_missed l story lawful m n a key d.0 d.1 law ready fits (holds works)
-    step_ready placed (Err (unmade.Refused refusal.DiskFault)) w d = absurd (true≢false (sym w))
-    step_ready placed (Err (unmade.Refused _)) w d = absurd d
+    step_ready placed (Err (unmade.Unserved (unserved.Refused refusal.TooTall))) w d = unmoved d.1 d.0.given d.0.seen
+    step_ready placed (Err (unmade.Unserved (unserved.Refused refusal.NoPages))) w d = unmoved d.1 d.0.given d.0.seen
+    step_ready placed (Err (unmade.Unserved (unserved.Refused refusal.ClockSpent))) w d = ready_grown l story m n a same ready key d.grown law standing fits works (holds works)
+    step_ready placed (Err (unmade.Unserved (unserved.Refused refusal.RowSpent))) w d = ready_missed l story lawful m n a key d.0 d.1 law ready fits (holds works)
+    step_ready placed (Err (unmade.Unserved (unserved.Unanswered unanswered.DiskFault))) w d = absurd (true≢false (sym w))
+    step_ready placed (Err (unmade.Unserved _)) w d = absurd d
     step_ready placed (Err unmade.Lost) w d = absurd d
 
   -- ## As a round
@@ -217,10 +217,10 @@ module _ (l : Grounds) (residence : EveryResidence) {D : Type 0} (story : D → 
     takes = d.0.takes;
   }
 
-  pub refused_round : (why : Refusal) (placed : Option Placed) → (works_behind {A = Stepped} (Err (unmade.Refused why)) ≡ true → n.machine.work.session.is_half_aborted ≡ m.machine.work.session.is_half_aborted) → IsGoing m → m.machine.work.session.clock.clock < 2 ^ 62 → Did placed (Err (unmade.Refused why)) → Rounds story key value most_a_step (Err why) m n
-  refused_round refusal.TooTall placed half going small d = record { made = made_at d.0.given d.0.seen d.1; going = going_same m n d.1 going; leaf = d.0.leaf; unfit = d.0.unfit; small = subst (λ (k : Work D). k.session.clock.clock < 2 ^ 62) (sym d.1) small; cause = d.0.cause }
-  refused_round refusal.NoPages placed half going small d = record { made = made_at d.0.given d.0.seen d.1; going = going_same m n d.1 going; leaf = d.0.leaf; unfit = d.0.unfit; small = subst (λ (k : Work D). k.session.clock.clock < 2 ^ 62) (sym d.1) small; cause = d.0.cause }
-  refused_round refusal.ClockSpent placed half going small d = record {
+  pub refused_round : (why : Unserved) (placed : Option Placed) → (works_behind {A = Stepped} (Err (unmade.Unserved why)) ≡ true → n.machine.work.session.is_half_aborted ≡ m.machine.work.session.is_half_aborted) → IsGoing m → m.machine.work.session.clock.clock < 2 ^ 62 → Did placed (Err (unmade.Unserved why)) → Rounds story key value most_a_step (Err why) m n
+  refused_round (unserved.Refused refusal.TooTall) placed half going small d = record { made = made_at d.0.given d.0.seen d.1; going = going_same m n d.1 going; leaf = d.0.leaf; unfit = d.0.unfit; small = subst (λ (k : Work D). k.session.clock.clock < 2 ^ 62) (sym d.1) small; cause = d.0.cause }
+  refused_round (unserved.Refused refusal.NoPages) placed half going small d = record { made = made_at d.0.given d.0.seen d.1; going = going_same m n d.1 going; leaf = d.0.leaf; unfit = d.0.unfit; small = subst (λ (k : Work D). k.session.clock.clock < 2 ^ 62) (sym d.1) small; cause = d.0.cause }
+  refused_round (unserved.Refused refusal.ClockSpent) placed half going small d = record {
     made = made_up story key 1 most_a_step m n (omega arith) (made_grown l story m n a same ready key d.grown (half refl));
     going = record {
       is_open = ap (λ (x : Session). x.is_open) d.grown.session ∙ going.is_open;
@@ -229,14 +229,14 @@ module _ (l : Grounds) (residence : EveryResidence) {D : Type 0} (story : D → 
     };
     spent = d.spent;
   }
-  refused_round refusal.RowSpent placed half going small d = record { made = made_up story key 8 most_a_step m n (omega arith) (made_missed l story lawful m n a key d.0 d.1); spent = inl (inl d.0.many) }
-  refused_round refusal.DiskFault placed half going small d = inl (record { between = m; made = made_self; keeps = d })
+  refused_round (unserved.Refused refusal.RowSpent) placed half going small d = record { made = made_up story key 8 most_a_step m n (omega arith) (made_missed l story lawful m n a key d.0 d.1); spent = inl (inl d.0.many) }
+  refused_round (unserved.Unanswered unanswered.DiskFault) placed half going small d = inl (record { between = m; made = made_self; keeps = d })
   refused_round _ placed half going small d = absurd d
 
 -- ## One round behind another
 
 -- it goes on
-abbrev pub IsGrownRound : Result Round Refusal → Type 0
+abbrev pub IsGrownRound : Result Round Unserved → Type 0
 IsGrownRound (Ok round.Grown) = Unit {0}
 IsGrownRound _ = ⊥
 
@@ -255,7 +255,7 @@ module _ (l : Grounds) (residence : EveryResidence) {D : Type 0} (story : D → 
       nowhere g xs (first ++ events_of d.events) (behind_more g xs first (view_of m) b d.events (view_of u) d.part.given d.part.seen met) s0 r.known
       r.moved.stands r.has
 
-  pub rounds_then : (r : Result Round Refusal) → (IsGrownRound r → room_takes (opening (view_of u).given) (state (view_of u)).core key ≤ room_takes (opening (view_of m).given) (state (view_of m)).core key) → Rounds story key value b r u n → Rounds story key value (a + b) r m n
+  pub rounds_then : (r : Result Round Unserved) → (IsGrownRound r → room_takes (opening (view_of u).given) (state (view_of u)).core key ≤ room_takes (opening (view_of m).given) (state (view_of m)).core key) → Rounds story key value b r u n → Rounds story key value (a + b) r m n
   rounds_then (Ok (round.Done before)) le e = record {
     between = e.between;
     made = both e.between e.made;
@@ -266,26 +266,26 @@ module _ (l : Grounds) (residence : EveryResidence) {D : Type 0} (story : D → 
     is_half_aborted = e.is_half_aborted;
   }
   rounds_then (Ok round.Grown) le e = record { made = both n e.made; may = e.may; small = e.small; warm = e.warm; takes = let x = le tt in let y = e.takes in omega arith }
-  rounds_then (Err refusal.RowSpent) le e = record { made = both n e.made; spent = spent_back e.spent }
-  rounds_then (Err refusal.ClockSpent) le e = record { made = both n e.made; going = e.going; spent = e.spent }
-  rounds_then (Err refusal.TooTall) le e = record { made = both n e.made; going = e.going; leaf = e.leaf; unfit = e.unfit; small = e.small; cause = e.cause }
-  rounds_then (Err refusal.NoPages) le e = record { made = both n e.made; going = e.going; leaf = e.leaf; unfit = e.unfit; small = e.small; cause = e.cause }
-  rounds_then (Err refusal.DiskFault) le (inl f) = inl (record { between = f.between; made = both f.between f.made; keeps = subst (λ w. KeepsLog w f.between.machine.work.log (story f.between.machine.work.disk) (story n.machine.work.disk)) d.turn f.keeps })
-  rounds_then (Err refusal.DiskFault) le (inr f) = inr (record { between = f.between; made = both f.between f.made; failed = f.failed })
-  rounds_then (Err (refusal.Damaged area place)) le e = (record { between = e.0.between; made = both e.0.between e.0.made; failed = e.0.failed }, nowhere_back e.1)
+  rounds_then (Err (unserved.Refused refusal.RowSpent)) le e = record { made = both n e.made; spent = spent_back e.spent }
+  rounds_then (Err (unserved.Refused refusal.ClockSpent)) le e = record { made = both n e.made; going = e.going; spent = e.spent }
+  rounds_then (Err (unserved.Refused refusal.TooTall)) le e = record { made = both n e.made; going = e.going; leaf = e.leaf; unfit = e.unfit; small = e.small; cause = e.cause }
+  rounds_then (Err (unserved.Refused refusal.NoPages)) le e = record { made = both n e.made; going = e.going; leaf = e.leaf; unfit = e.unfit; small = e.small; cause = e.cause }
+  rounds_then (Err (unserved.Unanswered unanswered.DiskFault)) le (inl f) = inl (record { between = f.between; made = both f.between f.made; keeps = subst (λ w. KeepsLog w f.between.machine.work.log (story f.between.machine.work.disk) (story n.machine.work.disk)) d.turn f.keeps })
+  rounds_then (Err (unserved.Unanswered unanswered.DiskFault)) le (inr f) = inr (record { between = f.between; made = both f.between f.made; failed = f.failed })
+  rounds_then (Err (unserved.Unanswered (unanswered.Damaged place))) le e = (record { between = e.0.between; made = both e.0.between e.0.made; failed = e.0.failed }, nowhere_back e.1)
   rounds_then (Err _) le e = absurd e
 
 -- in no more events than so many
-pub rounds_up : {D : Type 0} (story : D → Story) (key value a b : ℕ) (m n : PagedMachine D) → a ≤ b → (r : Result Round Refusal) → Rounds story key value a r m n → Rounds story key value b r m n
+pub rounds_up : {D : Type 0} (story : D → Story) (key value a b : ℕ) (m n : PagedMachine D) → a ≤ b → (r : Result Round Unserved) → Rounds story key value a r m n → Rounds story key value b r m n
 rounds_up story key value a b m n le (Ok (round.Done before)) e = record { between = e.between; made = made_up story key a b m e.between le e.made; changed = e.changed; ready = e.ready; aside = e.aside; session = e.session; is_half_aborted = e.is_half_aborted }
 rounds_up story key value a b m n le (Ok round.Grown) e = record { made = made_up story key a b m n le e.made; may = e.may; small = e.small; warm = e.warm; takes = e.takes }
-rounds_up story key value a b m n le (Err refusal.RowSpent) e = record { made = made_up story key a b m n le e.made; spent = e.spent }
-rounds_up story key value a b m n le (Err refusal.ClockSpent) e = record { made = made_up story key a b m n le e.made; going = e.going; spent = e.spent }
-rounds_up story key value a b m n le (Err refusal.TooTall) e = record { made = made_up story key a b m n le e.made; going = e.going; leaf = e.leaf; unfit = e.unfit; small = e.small; cause = e.cause }
-rounds_up story key value a b m n le (Err refusal.NoPages) e = record { made = made_up story key a b m n le e.made; going = e.going; leaf = e.leaf; unfit = e.unfit; small = e.small; cause = e.cause }
-rounds_up story key value a b m n le (Err refusal.DiskFault) (inl f) = inl (record { between = f.between; made = made_up story key a b m f.between le f.made; keeps = f.keeps })
-rounds_up story key value a b m n le (Err refusal.DiskFault) (inr f) = inr (record { between = f.between; made = made_up story key a b m f.between le f.made; failed = f.failed })
-rounds_up story key value a b m n le (Err (refusal.Damaged area place)) e = (record { between = e.0.between; made = made_up story key a b m e.0.between le e.0.made; failed = e.0.failed }, e.1)
+rounds_up story key value a b m n le (Err (unserved.Refused refusal.RowSpent)) e = record { made = made_up story key a b m n le e.made; spent = e.spent }
+rounds_up story key value a b m n le (Err (unserved.Refused refusal.ClockSpent)) e = record { made = made_up story key a b m n le e.made; going = e.going; spent = e.spent }
+rounds_up story key value a b m n le (Err (unserved.Refused refusal.TooTall)) e = record { made = made_up story key a b m n le e.made; going = e.going; leaf = e.leaf; unfit = e.unfit; small = e.small; cause = e.cause }
+rounds_up story key value a b m n le (Err (unserved.Refused refusal.NoPages)) e = record { made = made_up story key a b m n le e.made; going = e.going; leaf = e.leaf; unfit = e.unfit; small = e.small; cause = e.cause }
+rounds_up story key value a b m n le (Err (unserved.Unanswered unanswered.DiskFault)) (inl f) = inl (record { between = f.between; made = made_up story key a b m f.between le f.made; keeps = f.keeps })
+rounds_up story key value a b m n le (Err (unserved.Unanswered unanswered.DiskFault)) (inr f) = inr (record { between = f.between; made = made_up story key a b m f.between le f.made; failed = f.failed })
+rounds_up story key value a b m n le (Err (unserved.Unanswered (unanswered.Damaged place))) e = (record { between = e.0.between; made = made_up story key a b m e.0.between le e.0.made; failed = e.0.failed }, e.1)
 rounds_up story key value a b m n le (Err _) e = absurd e
 
 -- ## Where a page did not come
@@ -295,7 +295,7 @@ module _ (l : Grounds) (residence : EveryResidence) {D : Type 0} (story : D → 
   made_here = made_none l residence story lawful key m m (still_self story m)
 
   pub unwarmed_rounds : (most bound : ℕ) → most ≤ bound → (why : Unwarmed) → (goes_on {A = Unit {0}} (Err why) ≡ true → HasGone story key most m n) → (goes_on {A = Unit {0}} (Err why) ≡ false → HasFailed story m n) → (why ≡ stopped.RowSpent → IsSpent m n)
-      → ((page : ℕ) → (why ≡ stopped.Damaged page) ⊎ (why ≡ stopped.Altered page) → StandsNowhere story m) → Rounds story key value bound (Err (refusal_of why)) m n
+      → ((page : ℕ) → (why ≡ stopped.Damaged page) ⊎ (why ≡ stopped.Altered page) → StandsNowhere story m) → Rounds story key value bound (Err (unserved_of why)) m n
   unwarmed_rounds most bound up stopped.RowSpent gone failed spent damaged = record { made = made_up story key most bound m n up (made_gone l residence story lawful key most m n (gone refl)); spent = spent refl }
   unwarmed_rounds most bound up stopped.DiskFault gone failed spent damaged = inr (record { between = m; made = made_up story key 0 bound m m (omega arith) made_here; failed = failed refl })
   unwarmed_rounds most bound up (stopped.Damaged page) gone failed spent damaged = (record { between = m; made = made_up story key 0 bound m m (omega arith) made_here; failed = failed refl }, damaged page (inl refl))
@@ -350,18 +350,18 @@ not_other page frame other free a b none = absurd (some_none frame (sym (ap (λ 
 abbrev pub HasStepped : {D : Type 0} → (story : D → Story) → (key value : ℕ) → Option Placed → (m n : PagedMachine D) → Result Stepped Unmade → Type 0
 HasStepped story key value placed m n r = Steps r placed (view_of m) (view_of n) key value m.machine.work.session n.machine.work.session m.machine.work.log n.machine.work.log (story m.machine.work.disk) (story n.machine.work.disk) (n.machine.work ≡ m.machine.work)
 
-pub step_works : {D : Type 0} (story : D → Story) (key value : ℕ) (placed : Option Placed) (m n : PagedMachine D) (A : Type 0) (why : Refusal) → HasStepped story key value placed m n (Err (unmade.Refused why)) → works_behind {A = Stepped} (Err (unmade.Refused why)) ≡ is_working {A = A} (Err why)
-step_works story key value placed m n A refusal.TooTall d = refl
-step_works story key value placed m n A refusal.NoPages d = refl
-step_works story key value placed m n A refusal.ClockSpent d = refl
-step_works story key value placed m n A refusal.RowSpent d = refl
-step_works story key value placed m n A refusal.DiskFault d = refl
+pub step_works : {D : Type 0} (story : D → Story) (key value : ℕ) (placed : Option Placed) (m n : PagedMachine D) (A : Type 0) (why : Unserved) → HasStepped story key value placed m n (Err (unmade.Unserved why)) → works_behind {A = Stepped} (Err (unmade.Unserved why)) ≡ is_working {A = A} (Err why)
+step_works story key value placed m n A (unserved.Refused refusal.TooTall) d = refl
+step_works story key value placed m n A (unserved.Refused refusal.NoPages) d = refl
+step_works story key value placed m n A (unserved.Refused refusal.ClockSpent) d = refl
+step_works story key value placed m n A (unserved.Refused refusal.RowSpent) d = refl
+step_works story key value placed m n A (unserved.Unanswered unanswered.DiskFault) d = refl
 step_works story key value placed m n A _ d = absurd d
 
 pub none_lost : {D : Type 0} (story : D → Story) (key value : ℕ) (placed : Option Placed) (m n : PagedMachine D) (made : Unmade) → HasStepped story key value placed m n (Err made) → IsLost made → ⊥
 none_lost story key value placed m n unmade.Lost d lost = d
 none_lost story key value placed m n (unmade.Cold cold) d lost = lost
-none_lost story key value placed m n (unmade.Refused why) d lost = lost
+none_lost story key value placed m n (unmade.Unserved why) d lost = lost
 
 -- ## Behind the coming of a page
 
@@ -370,12 +370,12 @@ module _ (l : Grounds) (residence : EveryResidence) {D : Type 0} (story : D → 
   came = made_gone l residence story lawful key most m k gone
 
   -- a step, where the leaf was full
-  pub into_round : (leaf : ℕ) → IsUnfit (view_of m) key leaf → (n : PagedMachine D) (r : Result Round Refusal) → Rounds story key value most_a_step r k n → Rounds story key value most_a_round r m n
+  pub into_round : (leaf : ℕ) → IsUnfit (view_of m) key leaf → (n : PagedMachine D) (r : Result Round Unserved) → Rounds story key value most_a_step r k n → Rounds story key value most_a_round r m n
   into_round leaf unfit n r e = rounds_up story key value (most + most_a_step) most_a_round m n few r
       (rounds_then l residence story lawful key value most most_a_step m k n came r (λ _. takes_kept story key most m k ready gone.paged (unfit_full key leaf m unfit)) e)
 
   -- a clock that has come to its end
-  pub stopped_round : (bound : ℕ) → most ≤ bound → IsGoing m → 2 ^ 62 ≤ k.machine.work.session.clock.clock → Rounds story key value bound (Err refusal.ClockSpent) m k
+  pub stopped_round : (bound : ℕ) → most ≤ bound → IsGoing m → 2 ^ 62 ≤ k.machine.work.session.clock.clock → Rounds story key value bound (Err (unserved.Refused refusal.ClockSpent)) m k
   stopped_round bound up going spent = record { made = made_up story key most bound m k up came; going = going_gone story key most m k ready gone.paged going; spent = spent }
 
 -- so few events has the coming of one page
@@ -387,10 +387,10 @@ pub way_few : {D : Type 0} (story : D → Story) (m : PagedMachine D) → IsRead
 way_few story m ready = let w = (holds_of (shape m.machine) (view_of m) (here m.machine) m.machine.desks.items ready.sound.desks).rows.most in omega arith
 
 -- a refusal of a put, by which its last round is refused
-pub never_grown : (why : Refusal) (P : Type 0) → IsGrownRound (Err why) → P
+pub never_grown : (why : Unserved) (P : Type 0) → IsGrownRound (Err why) → P
 never_grown why P e = absurd e
 
-pub put_grown : (r : Result (Option ℕ) Refusal) (P : Type 0) → IsGrownRound (round_of r) → P
+pub put_grown : (r : Result (Option ℕ) Unserved) (P : Type 0) → IsGrownRound (round_of r) → P
 put_grown (Ok before) P e = absurd e
 put_grown (Err why) P e = absurd e
 
@@ -439,7 +439,7 @@ pub warm_same : {D : Type 0} (story : D → Story) (key : ℕ) (m u : PagedMachi
 warm_same story key m u s w = subst (λ (q : Given × Moment). IsWarmFrom (opening q.0) q.1.core key 0) (λ i. (sym s.given i, after_all (sym s.given i) (sym s.seen i))) w
 
 -- so it goes on from there
-pub rounds_from : (l : Grounds) (residence : EveryResidence) {D : Type 0} (story : D → Story) (lawful : (d : D) → IsLawful (story d)) (key value most : ℕ) (m u n : PagedMachine D) → IsStill story m u → (r : Result Round Refusal) → Rounds story key value most r u n → Rounds story key value most r m n
+pub rounds_from : (l : Grounds) (residence : EveryResidence) {D : Type 0} (story : D → Story) (lawful : (d : D) → IsLawful (story d)) (key value most : ℕ) (m u n : PagedMachine D) → IsStill story m u → (r : Result Round Unserved) → Rounds story key value most r u n → Rounds story key value most r m n
 rounds_from l residence story lawful key value most m u n s r e = rounds_up story key value (0 + most) most m n (omega arith) r (rounds_then l residence story lawful key value 0 most m u n (made_none l residence story lawful key m u s) r
     (λ _. let q : room_takes (opening (view_of u).given) (state (view_of u)).core key ≡ room_takes (opening (view_of m).given) (state (view_of m)).core key = (λ i. room_takes (opening (s.given i)) (after_all (s.given i) (s.seen i)).core key) in omega arith) e)
 

@@ -7,6 +7,9 @@ use Rattle.map_model.specs.Maps.{MapAnswer}
 use Rattle.map_model.specs.declared.call.Call.TheVariants as call
 use Rattle.map_model.specs.declared.call.Refusal.{Refusal}
 use Rattle.map_model.specs.declared.call.Refusal.TheVariants as refusal
+use Rattle.paged_desks.specs.engine_trait.declared.unserved.Unanswered.TheVariants as unanswered
+use Rattle.paged_desks.specs.engine_trait.declared.unserved.Unserved.{Unserved}
+use Rattle.paged_desks.specs.engine_trait.declared.unserved.Unserved.TheVariants as unserved
 use Rattle.paged_desks.specs.core_calls.Fronts.{Done, front}
 use Rattle.paged_desks.specs.core_calls.Refusals.{Hinders}
 use Rattle.paged_desks.specs.core_state.Events as happening
@@ -16,6 +19,7 @@ use Rattle.paged_desks.specs.core_state.States.{State, start}
 use Rattle.paged_desks.specs.core_state.Steps.{happens, put_back, run, step}
 use Rattle.paged_desks.specs.engine_calls.Parts.{behind_first}
 use Rattle.paged_desks.specs.engine_trait.Calls.{MayCome}
+use Rattle.paged_desks.specs.engine_trait.Serving.{MayRefuse, refused_by}
 use Rattle.paged_desks.specs.engine_trait.Refusals.{lock_refusal, refusal_in}
 use Rattle.paged_desks.specs.key_locks.declared.mode.Mode.{Mode}
 use Rattle.paged_desks.specs.key_locks.Rows.{core_mode, event_mode}
@@ -39,48 +43,48 @@ use Rattle.paged_calls.proofs.GoingLemmas.{going}
 
 -- ## The tests
 
-pub some_is : (r q : Refusal) → Some r ≡ Some q → r ≡ q
+pub some_is : {A : Type 0} (r q : A) → Some r ≡ Some q → r ≡ q
 some_is r q e = cc
 
-pub none_is : (r : Refusal) → None ≡ Some r → ⊥
+pub none_is : {A : Type 0} (r : A) → None ≡ Some r → ⊥
 none_is r e = absurd (cc)
 
 -- no test refuses it
 pub call_open : (x : Session) → call_test x ≡ None → (x.works ≡ true) × (x.is_open ≡ true) × (x.is_half_aborted ≡ false)
 call_open x e = works_case x.works refl e
   where
-    open_case : x.works ≡ true → (b : Bool) → is_going x ≡ b → cond b None (Some refusal.NoTransaction) ≡ None → (x.works ≡ true) × (x.is_open ≡ true) × (x.is_half_aborted ≡ false)
+    open_case : x.works ≡ true → (b : Bool) → is_going x ≡ b → refused_by (cond b None (Some refusal.NoTransaction)) ≡ None → (x.works ≡ true) × (x.is_open ≡ true) × (x.is_half_aborted ≡ false)
     open_case w true q r = let k = going x q in (w, k.is_open, k.whole)
     open_case w false q r = absurd (none_is _ (sym r))
 
-    works_case : (b : Bool) → x.works ≡ b → cond b (cond (is_going x) None (Some refusal.NoTransaction)) (Some refusal.Broken) ≡ None → (x.works ≡ true) × (x.is_open ≡ true) × (x.is_half_aborted ≡ false)
+    works_case : (b : Bool) → x.works ≡ b → cond b (refused_by (cond (is_going x) None (Some refusal.NoTransaction))) (Some (unserved.Unanswered unanswered.Broken)) ≡ None → (x.works ≡ true) × (x.is_open ≡ true) × (x.is_half_aborted ≡ false)
     works_case true q r = open_case q (is_going x) refl r
     works_case false q r = absurd (none_is _ (sym r))
 
 -- why one does
-pub call_closed : (x : Session) (why : Refusal) → call_test x ≡ Some why → ((x.works ≡ false) × (why ≡ refusal.Broken)) ⊎ ((x.works ≡ true) × (is_going x ≡ false) × (why ≡ refusal.NoTransaction))
+pub call_closed : (x : Session) (why : Unserved) → call_test x ≡ Some why → ((x.works ≡ false) × (why ≡ unserved.Unanswered unanswered.Broken)) ⊎ ((x.works ≡ true) × (is_going x ≡ false) × (why ≡ unserved.Refused refusal.NoTransaction))
 call_closed x why e = works_case x.works refl e
   where
-    open_case : x.works ≡ true → (b : Bool) → is_going x ≡ b → cond b None (Some refusal.NoTransaction) ≡ Some why → (x.works ≡ true) × (is_going x ≡ false) × (why ≡ refusal.NoTransaction)
+    open_case : x.works ≡ true → (b : Bool) → is_going x ≡ b → refused_by (cond b None (Some refusal.NoTransaction)) ≡ Some why → (x.works ≡ true) × (is_going x ≡ false) × (why ≡ unserved.Refused refusal.NoTransaction)
     open_case w true q r = absurd (none_is why r)
     open_case w false q r = (w, q, sym (some_is _ why r))
 
-    works_case : (b : Bool) → x.works ≡ b → cond b (cond (is_going x) None (Some refusal.NoTransaction)) (Some refusal.Broken) ≡ Some why → ((x.works ≡ false) × (why ≡ refusal.Broken)) ⊎ ((x.works ≡ true) × (is_going x ≡ false) × (why ≡ refusal.NoTransaction))
+    works_case : (b : Bool) → x.works ≡ b → cond b (refused_by (cond (is_going x) None (Some refusal.NoTransaction))) (Some (unserved.Unanswered unanswered.Broken)) ≡ Some why → ((x.works ≡ false) × (why ≡ unserved.Unanswered unanswered.Broken)) ⊎ ((x.works ≡ true) × (is_going x ≡ false) × (why ≡ unserved.Refused refusal.NoTransaction))
     works_case true q r = inr (open_case q (is_going x) refl r)
     works_case false q r = inl (q, sym (some_is _ why r))
 
 -- what is told of it then
-module _ (x : Session) (why : Refusal) (e : call_test x ≡ Some why) where
+module _ (x : Session) (why : Unserved) (e : call_test x ≡ Some why) where
   pub closed_works : (A : Type 0) → x.works ≡ works_behind {A = A} (Err why)
-  closed_works A = elim (call_closed x why e) [ inl q ↦ q.0 ∙ ap (λ (r : Refusal). works_behind {A = A} (Err r)) (sym q.1) | inr q ↦ q.0 ∙ ap (λ (r : Refusal). works_behind {A = A} (Err r)) (sym q.2) ]
+  closed_works A = elim (call_closed x why e) [ inl q ↦ q.0 ∙ ap (λ (r : Unserved). works_behind {A = A} (Err r)) (sym q.1) | inr q ↦ q.0 ∙ ap (λ (r : Unserved). works_behind {A = A} (Err r)) (sym q.2) ]
 
-  pub closed_come : (workers : ℕ) → MayCome workers why ⊎ EndsWork why
-  closed_come workers = elim (call_closed x why e) [ inl q ↦ inr (ap ends_work q.1) | inr q ↦ inl (subst (MayCome workers) (sym q.2) tt) ]
+  pub closed_come : (workers : ℕ) → MayRefuse workers why ⊎ EndsWork why
+  closed_come workers = elim (call_closed x why e) [ inl q ↦ inr (ap ends_work q.1) | inr q ↦ inl (subst (MayRefuse workers) (sym q.2) tt) ]
 
-  pub closed_broken : (A : Type 0) → ◌≡◌ {A = Result A Refusal} (Err why) (Err refusal.Broken) ↔ (x.works ≡ false)
-  closed_broken A = elim (call_closed x why e) [ inl q ↦ ((λ _. q.0), (λ _. ap (λ (r : Refusal). Err r) q.1)) | inr q ↦ ((λ r. absurd (differs (sym q.2) r)), (λ f. absurd (true≢false (sym q.0 ∙ f)))) ]
+  pub closed_broken : (A : Type 0) → ◌≡◌ {A = Result A Unserved} (Err why) (Err (unserved.Unanswered unanswered.Broken)) ↔ (x.works ≡ false)
+  closed_broken A = elim (call_closed x why e) [ inl q ↦ ((λ _. q.0), (λ _. ap (λ (r : Unserved). Err r) q.1)) | inr q ↦ ((λ r. absurd (differs (sym q.2) r)), (λ f. absurd (true≢false (sym q.0 ∙ f)))) ]
     where
-      differs : refusal.NoTransaction ≡ why → ◌≡◌ {A = Result A Refusal} (Err why) (Err refusal.Broken) → ⊥
+      differs : unserved.Refused refusal.NoTransaction ≡ why → ◌≡◌ {A = Result A Unserved} (Err why) (Err (unserved.Unanswered unanswered.Broken)) → ⊥
       differs p r = absurd (cc)
 
 -- ## The row

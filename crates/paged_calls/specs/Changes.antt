@@ -1,8 +1,10 @@
 -- Words of private functions: what a call that changes its key did behind the taking of its row, where the pages of the key's way may have come first.
 use Rattle.std.specs.Prelude.{◌≡◌, ◌⊎◌, ◌≤◌, ◌<◌, ◌%◌, ◌^◌, ℕ, true, false, length, Option, Some, None, Result, Ok, Err}
 use Rattle.page_model.specs.Limits.{transaction_changes}
-use Rattle.map_model.specs.declared.call.Refusal.{Refusal}
 use Rattle.map_model.specs.declared.call.Refusal.TheVariants as refusal
+use Rattle.paged_desks.specs.engine_trait.declared.unserved.Unanswered.TheVariants as unanswered
+use Rattle.paged_desks.specs.engine_trait.declared.unserved.Unserved.{Unserved}
+use Rattle.paged_desks.specs.engine_trait.declared.unserved.Unserved.TheVariants as unserved
 use Rattle.paged_desks.specs.core_state.Needs.{is_held_by}
 use Rattle.paged_desks.specs.btree_descent.declared.descent.TheConstants.{TOMBSTONE}
 use Rattle.lean_disk.specs.Story.{Story}
@@ -61,9 +63,9 @@ pub record FailsStaging {D : Type 0} (story : D → Story) (key : ℕ) (m n : Pa
   pub keeps : KeepsLog m.machine.work.session.own between.machine.work.log (story between.machine.work.disk) (story n.machine.work.disk)
 
 -- a refusal of the call, as one of a try
-abbrev pub as_made : Result (Option ℕ) Refusal → Result (Option ℕ) Unmade
+abbrev pub as_made : Result (Option ℕ) Unserved → Result (Option ℕ) Unmade
 as_made (Ok was) = Ok was
-as_made (Err why) = Err (unmade.Refused why)
+as_made (Err why) = Err (unmade.Unserved why)
 
 -- or a sync had brought its clock to its end
 pub record HasStopped {D : Type 0} (story : D → Story) (key : ℕ) (m n : PagedMachine D) : Type 0 where
@@ -72,11 +74,11 @@ pub record HasStopped {D : Type 0} (story : D → Story) (key : ℕ) (m n : Page
   pub spent : 2 ^ 62 ≤ n.machine.work.session.clock.clock
 
 -- of a del, by answer
-abbrev pub DelsWarm : {D : Type 0} → (story : D → Story) → (key : ℕ) → Result (Option ℕ) Refusal → (m n : PagedMachine D) → Type 0
+abbrev pub DelsWarm : {D : Type 0} → (story : D → Story) → (key : ℕ) → Result (Option ℕ) Unserved → (m n : PagedMachine D) → Type 0
 DelsWarm story key (Ok (Some before)) m n = HasChanged story key TOMBSTONE (Some before) m n
 DelsWarm story key (Ok None) m n = HasFoundNone story key m n
-DelsWarm story key (Err refusal.RowSpent) m n = HasCome story key m n × IsSpent m n
-DelsWarm story key (Err refusal.ClockSpent) m n = HasStopped story key m n
-DelsWarm story key (Err refusal.DiskFault) m n = FailsWarm story m n ⊎ FailsStaging story key m n
-DelsWarm story key (Err (refusal.Damaged area place)) m n = FailsWarm story m n × StandsNowhere story m
+DelsWarm story key (Err (unserved.Refused refusal.RowSpent)) m n = HasCome story key m n × IsSpent m n
+DelsWarm story key (Err (unserved.Refused refusal.ClockSpent)) m n = HasStopped story key m n
+DelsWarm story key (Err (unserved.Unanswered unanswered.DiskFault)) m n = FailsWarm story m n ⊎ FailsStaging story key m n
+DelsWarm story key (Err (unserved.Unanswered (unanswered.Damaged place))) m n = FailsWarm story m n × StandsNowhere story m
 DelsWarm story key (Err why) m n = ⊥

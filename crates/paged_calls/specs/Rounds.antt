@@ -2,6 +2,9 @@
 use Rattle.std.specs.Prelude.{◌≡◌, ◌⊎◌, ◌≤◌, ◌<◌, ◌*◌, ◌^◌, ℕ, suc, Option, Some, None, Result, Ok, Err}
 use Rattle.map_model.specs.declared.call.Refusal.{Refusal}
 use Rattle.map_model.specs.declared.call.Refusal.TheVariants as refusal
+use Rattle.paged_desks.specs.engine_trait.declared.unserved.Unanswered.TheVariants as unanswered
+use Rattle.paged_desks.specs.engine_trait.declared.unserved.Unserved.{Unserved}
+use Rattle.paged_desks.specs.engine_trait.declared.unserved.Unserved.TheVariants as unserved
 use Rattle.paged_desks.specs.core_calls.Room.{room_takes}
 use Rattle.paged_desks.specs.engine_trait.Refusals.{room_refusal}
 use Rattle.lean_disk.specs.Story.{Story}
@@ -99,23 +102,23 @@ pub record FailsComing {D : Type 0} (story : D → Story) (key most : ℕ) (m n 
   pub failed : HasFailed story between n
 
 -- of a round
-abbrev pub Rounds : {D : Type 0} → (story : D → Story) → (key value most : ℕ) → Result Round Refusal → (m n : PagedMachine D) → Type 0
+abbrev pub Rounds : {D : Type 0} → (story : D → Story) → (key value most : ℕ) → Result Round Unserved → (m n : PagedMachine D) → Type 0
 Rounds story key value most (Ok (round.Done before)) m n = HasPut story key value before most m n
 Rounds story key value most (Ok round.Grown) m n = GoesOnWarm story key most m n
-Rounds story key value most (Err refusal.RowSpent) m n = IsPutSpent story key most m n
-Rounds story key value most (Err refusal.ClockSpent) m n = IsPutStopped story key most m n
-Rounds story key value most (Err refusal.TooTall) m n = IsPutCrowded story key most refusal.TooTall m n
-Rounds story key value most (Err refusal.NoPages) m n = IsPutCrowded story key most refusal.NoPages m n
-Rounds story key value most (Err refusal.DiskFault) m n = FailsPutting story key most m n ⊎ FailsComing story key most m n
-Rounds story key value most (Err (refusal.Damaged area place)) m n = FailsComing story key most m n × StandsNowhere story m
+Rounds story key value most (Err (unserved.Refused refusal.RowSpent)) m n = IsPutSpent story key most m n
+Rounds story key value most (Err (unserved.Refused refusal.ClockSpent)) m n = IsPutStopped story key most m n
+Rounds story key value most (Err (unserved.Refused refusal.TooTall)) m n = IsPutCrowded story key most refusal.TooTall m n
+Rounds story key value most (Err (unserved.Refused refusal.NoPages)) m n = IsPutCrowded story key most refusal.NoPages m n
+Rounds story key value most (Err (unserved.Unanswered unanswered.DiskFault)) m n = FailsPutting story key most m n ⊎ FailsComing story key most m n
+Rounds story key value most (Err (unserved.Unanswered (unanswered.Damaged place))) m n = FailsComing story key most m n × StandsNowhere story m
 Rounds story key value most (Err why) m n = ⊥
 
 -- the last round of a put with this answer
-abbrev pub round_of : Result (Option ℕ) Refusal → Result Round Refusal
+abbrev pub round_of : Result (Option ℕ) Unserved → Result Round Unserved
 round_of (Ok before) = Ok (round.Done before)
 round_of (Err why) = Err why
 
 -- a refusal of a step, as one of a try
-abbrev pub as_stepped : Result Stepped Refusal → Result Stepped Unmade
+abbrev pub as_stepped : Result Stepped Unserved → Result Stepped Unmade
 as_stepped (Ok stepped) = Ok stepped
-as_stepped (Err why) = Err (unmade.Refused why)
+as_stepped (Err why) = Err (unmade.Unserved why)

@@ -1,6 +1,6 @@
 // The deleting of a key whose row is held alone, wherever the pages of its way are.
 ghost use Rattle.std.specs.Prelude.{◌≡◌, ◌<◌, ◌-◌, ◌^◌, IsErrAnd, Err, true};
-ghost use Rattle.map_model.specs.declared.call.Refusal.{Refusal};
+ghost use Rattle.paged_desks.specs.engine_trait.Serving.{disk_fault};
 ghost use Rattle.lean_disk.specs.Faults.{HasCause};
 ghost use Rattle.paged_desks.specs.Machines.{IsReady, pages, view_of};
 ghost use Rattle.paged_desks.specs.paged_rows.Paged.{IsWarm};
@@ -15,9 +15,7 @@ ghost use Rattle.paged_calls.specs.Changes.{DelsWarm, MayStill, as_made};
 ghost use Rattle.paged_desks.specs.Calls.{IsAside};
 
 use crate::laws::laws;
-use crate::tests::refusal_of;
-use map_model::Refusal;
-use paged_desks::{PagedMachine, Stages};
+use paged_desks::{PagedMachine, Stages, Unserved, unserved_of};
 use row_changes::{Unmade, clock_refusal, del_held};
 
 // Takes the value of the key away in its leaf, unless a page of its way is not hot.
@@ -35,7 +33,7 @@ fn del_in_leaf<D: Stages>(machine: &mut PagedMachine<D>, key: u64) -> Result<Opt
     ensures is_half_aborted { machine.new.machine.work.session.works ≡ true → machine.new.machine.work.session.is_half_aborted ≡ machine.old.machine.work.session.is_half_aborted }
 
     ensures cause_cold { IsWarm (pages machine.old) key 0 → IsErrAnd result IsCut → ⊥ }
-    ensures cause_disk_fault { HasCause (D.faults machine.old.machine.work.disk) (D.faults machine.new.machine.work.disk) (result ≡ Err (Unmade.Refused Refusal.DiskFault)) }
+    ensures cause_disk_fault { HasCause (D.faults machine.old.machine.work.disk) (D.faults machine.new.machine.work.disk) (result ≡ Err (Unmade.Unserved disk_fault)) }
 {
     laws();
     del_held(
@@ -47,7 +45,7 @@ fn del_in_leaf<D: Stages>(machine: &mut PagedMachine<D>, key: u64) -> Result<Opt
 }
 
 // Takes it away in its leaf, where each page of its way is hot.
-fn del_hot<D: Stages>(machine: &mut PagedMachine<D>, key: u64) -> Result<Option<u64>, Refusal>
+fn del_hot<D: Stages>(machine: &mut PagedMachine<D>, key: u64) -> Result<Option<u64>, Unserved>
     requires ready { IsReady D.story machine.old }
     requires may { MayStill key machine.old }
     requires small { machine.old.machine.work.session.clock.clock < 2 ^ 62 }
@@ -61,16 +59,16 @@ fn del_hot<D: Stages>(machine: &mut PagedMachine<D>, key: u64) -> Result<Option<
     ensures session { IsSameSession machine.old.machine.work.session machine.new.machine.work.session }
     ensures is_half_aborted { machine.new.machine.work.session.works ≡ true → machine.new.machine.work.session.is_half_aborted ≡ machine.old.machine.work.session.is_half_aborted }
 
-    ensures cause_disk_fault { HasCause (D.faults machine.old.machine.work.disk) (D.faults machine.new.machine.work.disk) (as_made result ≡ Err (Unmade.Refused Refusal.DiskFault)) }
+    ensures cause_disk_fault { HasCause (D.faults machine.old.machine.work.disk) (D.faults machine.new.machine.work.disk) (as_made result ≡ Err (Unmade.Unserved disk_fault)) }
 {
     match del_in_leaf(machine, key) {
         Ok(was) => Ok(was),
-        Err(unmade) => Err(row_changes::refusal_of(unmade)),
+        Err(unmade) => Err(row_changes::unserved_of(unmade)),
     }
 }
 
 // Takes it away behind the coming of the pages of the key's way.
-fn del_behind<D: Stages>(machine: &mut PagedMachine<D>, key: u64) -> Result<Option<u64>, Refusal>
+fn del_behind<D: Stages>(machine: &mut PagedMachine<D>, key: u64) -> Result<Option<u64>, Unserved>
     requires ready { IsReady D.story machine.old }
     requires may { MayStill key machine.old }
     requires key { key < 2 ^ 64 - 1 }
@@ -81,15 +79,15 @@ fn del_behind<D: Stages>(machine: &mut PagedMachine<D>, key: u64) -> Result<Opti
     ensures session { AreAsMany machine.old.machine machine.new.machine }
     ensures turn { works_behind result ≡ true → machine.new.machine.work.session.own ≡ machine.old.machine.work.session.own }
 
-    ensures cause_disk_fault { HasCause (D.faults machine.old.machine.work.disk) (D.faults machine.new.machine.work.disk) (result ≡ Err Refusal.DiskFault) }
+    ensures cause_disk_fault { HasCause (D.faults machine.old.machine.work.disk) (D.faults machine.new.machine.work.disk) (result ≡ Err disk_fault) }
 {
     laws();
     if let Err(why) = machine.warm(key) {
-        return Err(refusal_of(why));
+        return Err(unserved_of(why));
     }
     // A sync may have raised the clock to its end.
     if let Some(why) = clock_refusal(&machine.machine.work.session) {
-        return Err(why);
+        return Err(Unserved::Refused(why));
     }
     del_hot(machine, key)
 }
@@ -98,7 +96,7 @@ fn del_behind<D: Stages>(machine: &mut PagedMachine<D>, key: u64) -> Result<Opti
 pub(crate) fn del_warm<D: Stages>(
     machine: &mut PagedMachine<D>,
     key: u64,
-) -> Result<Option<u64>, Refusal>
+) -> Result<Option<u64>, Unserved>
     requires ready { IsReady D.story machine.old }
     requires may { MayStill key machine.old }
     requires small { machine.old.machine.work.session.clock.clock < 2 ^ 62 }
@@ -110,12 +108,12 @@ pub(crate) fn del_warm<D: Stages>(
     ensures session { AreAsMany machine.old.machine machine.new.machine }
     ensures turn { works_behind result ≡ true → machine.new.machine.work.session.own ≡ machine.old.machine.work.session.own }
 
-    ensures cause_disk_fault { HasCause (D.faults machine.old.machine.work.disk) (D.faults machine.new.machine.work.disk) (result ≡ Err Refusal.DiskFault) }
+    ensures cause_disk_fault { HasCause (D.faults machine.old.machine.work.disk) (D.faults machine.new.machine.work.disk) (result ≡ Err disk_fault) }
 {
     laws();
     match del_in_leaf(machine, key) {
         Ok(was) => Ok(was),
-        Err(Unmade::Refused(why)) => Err(why),
+        Err(Unmade::Unserved(why)) => Err(why),
         Err(Unmade::Cold(_)) => del_behind(machine, key),
         // Nothing is put back.
         Err(Unmade::Lost) => unreachable!(),

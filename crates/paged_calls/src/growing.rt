@@ -1,7 +1,7 @@
 // A put of a key whose row is held alone, wherever the pages of its way are: room is made by one change of the tree after another.
 ghost use Rattle.std.specs.Prelude.{◌≡◌, ◌<◌, ◌-◌, ◌^◌, ◌*◌, IsErrAnd, IfOk, Err, None, Some, true};
 ghost use Rattle.page_model.specs.Limits.{tombstone};
-ghost use Rattle.map_model.specs.declared.call.Refusal.{Refusal};
+ghost use Rattle.paged_desks.specs.engine_trait.Serving.{disk_fault};
 ghost use Rattle.lean_disk.specs.Faults.{HasCause};
 ghost use Rattle.paged_desks.specs.Calls.{IsAside, works_behind};
 ghost use Rattle.paged_desks.specs.Machines.{IsReady, pages, view_of};
@@ -18,9 +18,7 @@ ghost use Rattle.paged_calls.specs.Growths.{MayPut};
 ghost use Rattle.paged_calls.specs.Rounds.{GoesOnWarm, IsWanted, Rounds, as_stepped, most_a_put, most_a_round, most_rounds, round_of};
 
 use crate::laws::laws;
-use crate::tests::refusal_of;
-use map_model::Refusal;
-use paged_desks::{PagedMachine, Stages};
+use paged_desks::{PagedMachine, Stages, Unserved, unserved_of};
 use row_changes::{Unmade, clock_refusal};
 use row_growth::{Placed, Stepped, put_step};
 
@@ -55,7 +53,7 @@ fn step<D: Stages>(
     ensures is_half_aborted { machine.new.machine.work.session.works ≡ true → machine.new.machine.work.session.is_half_aborted ≡ machine.old.machine.work.session.is_half_aborted }
 
     ensures cause_cold { IsWarm (pages machine.old) key 0 → IsErrAnd result IsCut → ⊥ }
-    ensures cause_disk_fault { HasCause (D.faults machine.old.machine.work.disk) (D.faults machine.new.machine.work.disk) (result ≡ Err (Unmade.Refused Refusal.DiskFault)) }
+    ensures cause_disk_fault { HasCause (D.faults machine.old.machine.work.disk) (D.faults machine.new.machine.work.disk) (result ≡ Err (Unmade.Unserved disk_fault)) }
 {
     laws();
     put_step(
@@ -74,7 +72,7 @@ fn step_hot<D: Stages>(
     key: u64,
     value: u64,
     placed: Option<Placed>,
-) -> Result<Stepped, Refusal>
+) -> Result<Stepped, Unserved>
     requires ready { IsReady D.story machine.old }
     requires may { MayPut key machine.old }
     requires small { machine.old.machine.work.session.clock.clock < 2 ^ 62 }
@@ -90,11 +88,11 @@ fn step_hot<D: Stages>(
     ensures session { IsSameSession machine.old.machine.work.session machine.new.machine.work.session }
     ensures is_half_aborted { machine.new.machine.work.session.works ≡ true → machine.new.machine.work.session.is_half_aborted ≡ machine.old.machine.work.session.is_half_aborted }
 
-    ensures cause_disk_fault { HasCause (D.faults machine.old.machine.work.disk) (D.faults machine.new.machine.work.disk) (as_stepped result ≡ Err (Unmade.Refused Refusal.DiskFault)) }
+    ensures cause_disk_fault { HasCause (D.faults machine.old.machine.work.disk) (D.faults machine.new.machine.work.disk) (as_stepped result ≡ Err (Unmade.Unserved disk_fault)) }
 {
     match step(machine, key, value, placed) {
         Ok(stepped) => Ok(stepped),
-        Err(unmade) => Err(row_changes::refusal_of(unmade)),
+        Err(unmade) => Err(row_changes::unserved_of(unmade)),
     }
 }
 
@@ -104,7 +102,7 @@ fn round_into<D: Stages>(
     key: u64,
     value: u64,
     page: u32,
-) -> Result<Round, Refusal>
+) -> Result<Round, Unserved>
     requires ready { IsReady D.story machine.old }
     requires may { MayPut key machine.old }
     requires key { key < 2 ^ 64 - 1 }
@@ -118,16 +116,16 @@ fn round_into<D: Stages>(
     ensures session { AreAsMany machine.old.machine machine.new.machine }
     ensures turn { works_behind result ≡ true → machine.new.machine.work.session.own ≡ machine.old.machine.work.session.own }
 
-    ensures cause_disk_fault { HasCause (D.faults machine.old.machine.work.disk) (D.faults machine.new.machine.work.disk) (result ≡ Err Refusal.DiskFault) }
+    ensures cause_disk_fault { HasCause (D.faults machine.old.machine.work.disk) (D.faults machine.new.machine.work.disk) (result ≡ Err disk_fault) }
 {
     laws();
     let frame = match machine.frame_for(key, page) {
         Ok(frame) => frame,
-        Err(why) => return Err(refusal_of(why)),
+        Err(why) => return Err(unserved_of(why)),
     };
     // A sync may have raised the clock to its end.
     if let Some(why) = clock_refusal(&machine.machine.work.session) {
-        return Err(why);
+        return Err(Unserved::Refused(why));
     }
     match step_hot(machine, key, value, Some(Placed { page, frame })) {
         Err(why) => Err(why),
@@ -143,7 +141,7 @@ fn one_round<D: Stages>(
     machine: &mut PagedMachine<D>,
     key: u64,
     value: u64,
-) -> Result<Round, Refusal>
+) -> Result<Round, Unserved>
     requires ready { IsReady D.story machine.old }
     requires may { MayPut key machine.old }
     requires small { machine.old.machine.work.session.clock.clock < 2 ^ 62 }
@@ -157,7 +155,7 @@ fn one_round<D: Stages>(
     ensures session { AreAsMany machine.old.machine machine.new.machine }
     ensures turn { works_behind result ≡ true → machine.new.machine.work.session.own ≡ machine.old.machine.work.session.own }
 
-    ensures cause_disk_fault { HasCause (D.faults machine.old.machine.work.disk) (D.faults machine.new.machine.work.disk) (result ≡ Err Refusal.DiskFault) }
+    ensures cause_disk_fault { HasCause (D.faults machine.old.machine.work.disk) (D.faults machine.new.machine.work.disk) (result ≡ Err disk_fault) }
 {
     laws();
     match step_hot(machine, key, value, None) {
@@ -173,7 +171,7 @@ fn put_hot<D: Stages>(
     machine: &mut PagedMachine<D>,
     key: u64,
     value: u64,
-) -> Result<Option<u64>, Refusal>
+) -> Result<Option<u64>, Unserved>
     requires ready { IsReady D.story machine.old }
     requires may { MayPut key machine.old }
     requires small { machine.old.machine.work.session.clock.clock < 2 ^ 62 }
@@ -187,7 +185,7 @@ fn put_hot<D: Stages>(
     ensures session { AreAsMany machine.old.machine machine.new.machine }
     ensures turn { works_behind result ≡ true → machine.new.machine.work.session.own ≡ machine.old.machine.work.session.own }
 
-    ensures cause_disk_fault { HasCause (D.faults machine.old.machine.work.disk) (D.faults machine.new.machine.work.disk) (result ≡ Err Refusal.DiskFault) }
+    ensures cause_disk_fault { HasCause (D.faults machine.old.machine.work.disk) (D.faults machine.new.machine.work.disk) (result ≡ Err disk_fault) }
 {
     laws();
     'room: loop {
@@ -204,7 +202,7 @@ pub(crate) fn put_warm<D: Stages>(
     machine: &mut PagedMachine<D>,
     key: u64,
     value: u64,
-) -> Result<Option<u64>, Refusal>
+) -> Result<Option<u64>, Unserved>
     requires ready { IsReady D.story machine.old }
     requires may { MayStill key machine.old }
     requires key { key < 2 ^ 64 - 1 }
@@ -216,15 +214,15 @@ pub(crate) fn put_warm<D: Stages>(
     ensures session { AreAsMany machine.old.machine machine.new.machine }
     ensures turn { works_behind result ≡ true → machine.new.machine.work.session.own ≡ machine.old.machine.work.session.own }
 
-    ensures cause_disk_fault { HasCause (D.faults machine.old.machine.work.disk) (D.faults machine.new.machine.work.disk) (result ≡ Err Refusal.DiskFault) }
+    ensures cause_disk_fault { HasCause (D.faults machine.old.machine.work.disk) (D.faults machine.new.machine.work.disk) (result ≡ Err disk_fault) }
 {
     laws();
     if let Err(why) = machine.warm(key) {
-        return Err(refusal_of(why));
+        return Err(unserved_of(why));
     }
     // A sync may have raised the clock to its end.
     if let Some(why) = clock_refusal(&machine.machine.work.session) {
-        return Err(why);
+        return Err(Unserved::Refused(why));
     }
     put_hot(machine, key, value)
 }

@@ -21,10 +21,10 @@ pub use puts::put;
 // Passed on to the crates above.
 pub use paged_desks::{
     Body, Desk, DiskFault, Heads, Master, MasterStoreDiskFault, Node, PageRef, PagedMachine,
-    Record, SessionDesksMachine as Machine, Stages, Staging, Unread, Unwarmed, Work, WorkerLog,
-    block_bytes, choose, every_agreement, every_answer, every_block_in, every_coming, every_frame,
-    every_kept, every_line_count, every_master_in, every_met, every_need, every_other,
+    Record, SessionDesksMachine as Machine, Stages, Staging, Unanswered, Unread, Unserved, Work,
+    WorkerLog, block_bytes, choose, every_agreement, every_answer, every_block_in, every_coming,
+    every_frame, every_kept, every_line_count, every_master_in, every_met, every_need, every_other,
     every_prefix, every_printed, every_reached, every_residence, every_rise, every_run_crash,
     every_sealed, every_shown, every_told, every_undone, every_version, fetch, master_bytes,
-    page_bytes, save, spare, stage_end, write_next,
+    page_bytes, save, spare, stage_end, unserved_of, write_next,
 };

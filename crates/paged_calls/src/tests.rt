@@ -1,11 +1,11 @@
-// What a session asks of itself before a call, and how a call is answered where the pages of a way did not come.
+// What a session asks of itself before a call.
 ghost use Rattle.std.specs.Prelude.{None, ◌≡◌};
 ghost use Rattle.paged_desks.specs.engine_trait.Refusals.{log_refusal};
-ghost use Rattle.paged_calls.specs.Tests.{call_test, change_test, is_going, refusal_of};
+ghost use Rattle.paged_calls.specs.Tests.{call_test, change_test, is_going};
 
 use map_model::Refusal;
 use page_model::limits::TRANSACTION_CHANGES;
-use paged_desks::{Session, Unwarmed, WorkerLog};
+use paged_desks::{Session, Unanswered, Unserved, WorkerLog};
 use row_changes::CLOCK_END;
 
 // Whether a transaction is open, and its abort is not half done.
@@ -16,14 +16,14 @@ fn is_going(session: &Session) -> bool
 }
 
 // Why a call within a transaction is refused before it is begun.
-pub(crate) fn call_refusal(session: &Session) -> Option<Refusal>
+pub(crate) fn call_refusal(session: &Session) -> Option<Unserved>
     ensures { result ≡ call_test session.now }
 {
     if !session.works {
-        return Some(Refusal::Broken);
+        return Some(Unserved::Unanswered(Unanswered::Broken));
     }
     if !is_going(session) {
-        return Some(Refusal::NoTransaction);
+        return Some(Unserved::Refused(Refusal::NoTransaction));
     }
     None
 }
@@ -44,28 +44,17 @@ fn log_refusal(clock: u64, log: &WorkerLog) -> Option<Refusal>
 }
 
 // Why a call that changes its key is refused before it is begun.
-pub(crate) fn change_refusal(session: &Session, log: &WorkerLog) -> Option<Refusal>
+pub(crate) fn change_refusal(session: &Session, log: &WorkerLog) -> Option<Unserved>
     ensures { result ≡ change_test session.now log.now }
 {
     if let Some(why) = call_refusal(session) {
         return Some(why);
     }
     if TRANSACTION_CHANGES <= session.undo.len() {
-        return Some(Refusal::TooLong);
+        return Some(Unserved::Refused(Refusal::TooLong));
     }
-    log_refusal(session.clock.clock, log)
-}
-
-// Why the pages of a way were not brought into frames, as a call is answered.
-pub(crate) fn refusal_of(why: Unwarmed) -> Refusal
-    ensures { result ≡ refusal_of why }
-{
-    match why {
-        Unwarmed::RowSpent => Refusal::RowSpent,
-        Unwarmed::DiskFault => Refusal::DiskFault,
-        Unwarmed::Damaged { page } | Unwarmed::Altered { page } => Refusal::Damaged {
-            area: 1,
-            place: u64::from(page),
-        },
+    match log_refusal(session.clock.clock, log) {
+        Some(why) => Some(Unserved::Refused(why)),
+        None => None,
     }
 }

@@ -1,10 +1,12 @@
 -- In which run a machine whose pages need not be in memory stands, and what a call of the session whose turn it is did in each such run.
 use Rattle.std.specs.Prelude.{◌≡◌, ◌≤◌, ◌<◌, ℕ, Bool, true, false, List, [], ◌∷◌, Result, Ok, Err}
 use Rattle.map_model.specs.declared.call.Answer.{Answer}
-use Rattle.map_model.specs.declared.call.Answer.TheVariants as answer
 use Rattle.map_model.specs.declared.call.Call.{Call}
-use Rattle.map_model.specs.declared.call.Refusal.{Refusal}
 use Rattle.map_model.specs.declared.call.Refusal.TheVariants as refusal
+use Rattle.desk_parts.specs.engine_trait.declared.unserved.Unanswered.{Unanswered}
+use Rattle.desk_parts.specs.engine_trait.declared.unserved.Unanswered.TheVariants as unanswered
+use Rattle.desk_parts.specs.engine_trait.declared.unserved.Unserved.{Unserved}
+use Rattle.desk_parts.specs.engine_trait.declared.unserved.Unserved.TheVariants as unserved
 use Rattle.desk_parts.specs.core_state.Openings.{Opening}
 use Rattle.desk_parts.specs.core_state.Steps.{state_after}
 use Rattle.desk_parts.specs.core_calls.Fronts.{Done, front, outcomes}
@@ -23,6 +25,8 @@ use Rattle.desk_parts.specs.session_desks.Parts.{here, shape}
 use Rattle.desk_parts.specs.session_desks.declared.machine.Machine.{Machine}
 use Rattle.paged_desks.specs.Machines.{memory, view_of}
 use Rattle.paged_desks.specs.declared.machine.PagedMachine.{PagedMachine}
+use Rattle.paged_desks.specs.declared.warming.Unwarmed.{Unwarmed}
+use Rattle.paged_desks.specs.declared.warming.Unwarmed.TheVariants as stopped
 
 -- ## In a run
 
@@ -48,16 +52,17 @@ pub record DoesTied {D : Type 0} (g : Opening) (group : ℕ) (xs : List Done) (o
 abbrev pub StandsNot : (g : Opening) (group : ℕ) → List Done → Memory → Story → Type 0
 StandsNot g group xs was old = (s0 : Crash) (k : Known) → Between limits g group xs s0 k old → IsOf g was k → ⊥
 
--- where the disk failed this; where a page of it is damaged this too, and it stood for no run; and else that
-abbrev pub Comes : Answer → (does fails never : Type 0) → Type 0
-Comes (answer.Refused refusal.DiskFault) does fails never = fails
-Comes (answer.Refused (refusal.Damaged area place)) does fails never = fails × never
-Comes _ does fails never = does
+-- it was answered so; or the disk failed, and then this; or a page of it is damaged, and then this too, and it stood for no run
+abbrev pub Comes : Result Answer Unanswered → (does : Answer → Type 0) → (fails never : Type 0) → Type 0
+Comes (Ok a) does fails never = does a
+Comes (Err unanswered.DiskFault) does fails never = fails
+Comes (Err (unanswered.Damaged place)) does fails never = fails × never
+Comes (Err unanswered.Broken) does fails never = ⊥
 
 -- In each run of so many sessions to which the view is tied, and in which it may come, the call of session `own` did so.
-abbrev pub CallDoes : {D : Type 0} → (story : D → Story) → (May : Opening → List Done → Type 0) → (own : ℕ) → Call → Answer → (m n : PagedMachine D) → Type 0
-CallDoes story May own c a m n = (g : Opening) (xs : List Done) → g.workers ≡ m.machine.work.session.workers → Tied g m.machine.work.session.group xs (view_of m) (memory m) → AreHalf g.workers xs m.machine → May g xs
-    → Comes a (DoesTied g m.machine.work.session.group xs own c a (memory m) n (story m.machine.work.disk) (story n.machine.work.disk))
+abbrev pub CallDoes : {D : Type 0} → (story : D → Story) → (May : Opening → List Done → Type 0) → (own : ℕ) → Call → Result Answer Unanswered → (m n : PagedMachine D) → Type 0
+CallDoes story May own c r m n = (g : Opening) (xs : List Done) → g.workers ≡ m.machine.work.session.workers → Tied g m.machine.work.session.group xs (view_of m) (memory m) → AreHalf g.workers xs m.machine → May g xs
+    → Comes r (λ a. DoesTied g m.machine.work.session.group xs own c a (memory m) n (story m.machine.work.disk) (story n.machine.work.disk))
     (Fails g m.machine.work.session.group xs own c (memory m) (story m.machine.work.disk) (story n.machine.work.disk)) (StandsNot g m.machine.work.session.group xs (memory m) (story m.machine.work.disk))
 
 -- on a new line
@@ -65,22 +70,25 @@ abbrev pub OnLine : Opening → List Done → Type 0
 OnLine g xs = IsNewLine (outcomes xs)
 
 -- behind it the machine works no longer
-abbrev pub ends_work : Refusal → Bool
-ends_work refusal.Broken = true
-ends_work refusal.DiskFault = true
-ends_work (refusal.Damaged area place) = true
-ends_work why = false
+abbrev pub ends_work : Unserved → Bool
+ends_work (unserved.Refused why) = false
+ends_work (unserved.Unanswered why) = true
 
-abbrev pub EndsWork : Refusal → Type 0
+abbrev pub EndsWork : Unserved → Type 0
 EndsWork why = ends_work why ≡ true
 
 -- whether the machine works on
-abbrev pub works_behind : {A : Type 0} → Result A Refusal → Bool
+abbrev pub works_behind : {A : Type 0} → Result A Unserved → Bool
 works_behind (Ok a) = true
-works_behind (Err refusal.Broken) = false
-works_behind (Err refusal.DiskFault) = false
-works_behind (Err (refusal.Damaged area place)) = false
-works_behind (Err why) = true
+works_behind (Err (unserved.Refused why)) = true
+works_behind (Err (unserved.Unanswered why)) = false
+
+-- why pages did not come, as a call is answered
+abbrev pub unserved_of : Unwarmed → Unserved
+unserved_of stopped.RowSpent = unserved.Refused refusal.RowSpent
+unserved_of stopped.DiskFault = unserved.Unanswered unanswered.DiskFault
+unserved_of (stopped.Damaged page) = unserved.Unanswered (unanswered.Damaged page)
+unserved_of (stopped.Altered page) = unserved.Unanswered (unanswered.Damaged page)
 
 -- ## A piece of a call
 

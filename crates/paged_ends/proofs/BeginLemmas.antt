@@ -5,6 +5,10 @@ use Rattle.map_model.specs.declared.call.Answer.TheVariants as answer
 use Rattle.map_model.specs.declared.call.Call.TheVariants as call
 use Rattle.map_model.specs.declared.call.Refusal.{Refusal}
 use Rattle.map_model.specs.declared.call.Refusal.TheVariants as refusal
+use Rattle.paged_desks.specs.engine_trait.Serving.{MayRefuse, refused_by}
+use Rattle.paged_desks.specs.engine_trait.declared.unserved.Unserved.{Unserved}
+use Rattle.paged_desks.specs.engine_trait.declared.unserved.Unanswered.TheVariants as unanswered
+use Rattle.paged_desks.specs.engine_trait.declared.unserved.Unserved.TheVariants as unserved
 use Rattle.paged_desks.specs.core_calls.Fronts.{Done, front}
 use Rattle.paged_desks.specs.core_calls.LogEvents.{Prepares, PreparesBy, is_log}
 use Rattle.paged_desks.specs.core_calls.Steps.{is_step, is_structure}
@@ -15,7 +19,7 @@ use Rattle.paged_desks.specs.disk_runs.MasterLaws.{raised}
 use Rattle.paged_desks.specs.engine_calls.Answers.{EveryAnswer}
 use Rattle.paged_desks.specs.engine_calls.Clauses.{EveryComing}
 use Rattle.paged_desks.specs.engine_calls.Parts.{behind_first}
-use Rattle.paged_desks.specs.engine_trait.Calls.{IsTold, MayCome, is_half_done}
+use Rattle.paged_desks.specs.engine_trait.Calls.{IsTold, is_half_done}
 use Rattle.paged_desks.specs.engine_trait.Limits.{limits}
 use Rattle.paged_desks.specs.engine_trait.Refusals.{log_refusal, refusal_in}
 use Rattle.paged_desks.specs.engine_trait.Rooms.{needs_sync}
@@ -25,6 +29,7 @@ use Rattle.paged_desks.specs.row_words.Moments.{events_of}
 use Rattle.paged_desks.specs.rows_trait.Views.{state}
 use Rattle.row_ends.proofs.BeginLemmas.{begin_told, test_is}
 use Rattle.row_ends.specs.Tests.{begin_test}
+use Rattle.paged_desks.proofs.session_state.ServingLemmas.{refused_none, refused_not, refused_was}
 use Rattle.paged_desks.specs.session_state.Holds.{Holds, IsOf}
 use Rattle.paged_desks.specs.session_state.Syncs.{flushed_of}
 use Rattle.paged_desks.specs.session_state.declared.session.Session.{Session}
@@ -54,22 +59,10 @@ use Rattle.paged_ends.proofs.BeginStands.{same_begun}
 use Rattle.paged_ends.specs.Ends.{KeepsFlushed, OnBegin, begin_answer}
 use Rattle.paged_ends.specs.Pieces.{HasBegun}
 
--- where a script is told of it, no disk failed
-pub comes_told : (d f n : Type 0) (why : Refusal) → IsTold why → d → calls.Comes (answer.Refused why) d f n
-comes_told d f n refusal.InTransaction t x = x
-comes_told d f n refusal.NoTransaction t x = x
-comes_told d f n refusal.TooLong t x = x
-comes_told d f n (refusal.LogFull u k) t x = x
-comes_told d f n refusal.ClockSpent t x = x
-comes_told d f n refusal.RowSpent t x = x
-comes_told d f n refusal.TooTall t x = x
-comes_told d f n refusal.NoPages t x = x
-comes_told d f n _ t x = absurd t
-
-some_is : (r q : Refusal) → Some r ≡ Some q → r ≡ q
+some_is : {A : Type 0} (r q : A) → Some r ≡ Some q → r ≡ q
 some_is r q e = cc
 
-none_is : (r : Refusal) → None ≡ Some r → ⊥
+none_is : {A : Type 0} (r : A) → None ≡ Some r → ⊥
 none_is r e = absurd (cc)
 
 -- nothing is due where few ends wait
@@ -124,7 +117,7 @@ module _ (l : Grounds) (answers : EveryAnswer) (coming : EveryComing) {D : Type 
     of_s : IsOf x (s.worker own)
     of_s = of_core l story m ready s core_m
 
-    test_in : (log : Log) → begin_test x log ≡ refusal_in g s own (is_half_done own xs) log call.Begin
+    test_in : (log : Log) → begin_test x log ≡ refused_by (refusal_in g s own (is_half_done own xs) log call.Begin)
     test_in log = test_is g s (is_half_done own xs) x log ready.works of_s
 
     prepares : (s.worker own).is_open ≡ false → Prepares limits g xs own []
@@ -139,25 +132,29 @@ module _ (l : Grounds) (answers : EveryAnswer) (coming : EveryComing) {D : Type 
         (prepares (of_s.is_open ∙ closed)) (λ q e. none_is q (sym none ∙ (sym (λ i. refusal_in g s own (is_half_done own xs) (log_own l story m ready i) call.Begin) ∙ e)))
       where
         none : refusal_in g s own (is_half_done own xs) m.machine.work.log call.Begin ≡ None
-        none = sym (test_in m.machine.work.log) ∙ b.free
+        none = refused_none (refusal_in g s own (is_half_done own xs) m.machine.work.log call.Begin) (sym (test_in m.machine.work.log) ∙ b.free)
 
         closed : x.is_open ≡ false
-        closed = open_case x.is_open ((λ i. cond (sym ready.works i) (cond x.is_open (Some refusal.InTransaction) (log_refusal x.clock.clock m.machine.work.log None)) (Some refusal.Broken)) ∙ b.free)
+        closed = open_case x.is_open (refused_none (cond x.is_open (Some refusal.InTransaction) (log_refusal x.clock.clock m.machine.work.log None)) ((λ i. cond (sym ready.works i) (refused_by (cond x.is_open (Some refusal.InTransaction) (log_refusal x.clock.clock m.machine.work.log None))) (Some (unserved.Unanswered unanswered.Broken))) ∙ b.free))
           where
             open_case : (b : Bool) → cond b (Some refusal.InTransaction) (log_refusal x.clock.clock m.machine.work.log None) ≡ None → b ≡ false
             open_case false e = refl
             open_case true e = absurd (none_is refusal.InTransaction (sym e))
 
-    refused_now : (why : Refusal) → begin_test x m.machine.work.log ≡ Some why → DoesTied g x.group xs own call.Begin (answer.Refused why) (memory m) m (story m.machine.work.disk) (story m.machine.work.disk)
-    refused_now why e = not_begun l answers coming story lawful m m g xs many tied halves may.0 [] nothing (low_own l story m ready) (high_own l story m ready) ready m.machine.work.log why (sym (test_in m.machine.work.log) ∙ e)
-        ((λ i. refusal_in g (state_after g (append-nil (front xs) i)) own (is_half_done own xs) (log_own l story m ready i) call.Begin) ∙ (sym (test_in m.machine.work.log) ∙ e))
-        (λ q k. some_is why q (sym e ∙ (test_in m.machine.work.log ∙ ((λ i. refusal_in g s own (is_half_done own xs) (sym (log_own l story m ready) i) call.Begin) ∙ k))))
+    refused_now : (why : Refusal) → begin_test x m.machine.work.log ≡ Some (unserved.Refused why) → DoesTied g x.group xs own call.Begin (answer.Refused why) (memory m) m (story m.machine.work.disk) (story m.machine.work.disk)
+    refused_now why e = not_begun l answers coming story lawful m m g xs many tied halves may.0 [] nothing (low_own l story m ready) (high_own l story m ready) ready m.machine.work.log why now
+        ((λ i. refusal_in g (state_after g (append-nil (front xs) i)) own (is_half_done own xs) (log_own l story m ready i) call.Begin) ∙ now)
+        (λ q k. some_is why q (sym now ∙ ((λ i. refusal_in g s own (is_half_done own xs) (sym (log_own l story m ready) i) call.Begin) ∙ k)))
         prepares (λ _. refl)
+      where
+        now : refusal_in g s own (is_half_done own xs) m.machine.work.log call.Begin ≡ Some why
+        now = refused_was (refusal_in g s own (is_half_done own xs) m.machine.work.log call.Begin) why (sym (test_in m.machine.work.log) ∙ e)
 
-    pub at_once : (n : PagedMachine D) (r : Result ℕ Refusal) → IsReady story n → IfOk r (HasBegun m n) → IfErr r (λ why. (begin_test x m.machine.work.log ≡ Some why) × (n ≡ m))
-        → calls.Comes (begin_answer r) (DoesTied g x.group xs own call.Begin (begin_answer r) (memory m) n (story m.machine.work.disk) (story n.machine.work.disk)) (Fails g x.group xs own call.Begin (memory m) (story m.machine.work.disk) (story n.machine.work.disk)) (calls.StandsNot g x.group xs (memory m) (story m.machine.work.disk))
+    pub at_once : (n : PagedMachine D) (r : Result ℕ Unserved) → IsReady story n → IfOk r (HasBegun m n) → IfErr r (λ why. (begin_test x m.machine.work.log ≡ Some why) × (n ≡ m))
+        → calls.Comes (begin_answer r) (λ a. DoesTied g x.group xs own call.Begin a (memory m) n (story m.machine.work.disk) (story n.machine.work.disk)) (Fails g x.group xs own call.Begin (memory m) (story m.machine.work.disk) (story n.machine.work.disk)) (calls.StandsNot g x.group xs (memory m) (story m.machine.work.disk))
     at_once n (Ok number) ready_n b e = begun_now n ready_n number b
-    at_once n (Err why) ready_n b e = comes_told _ _ _ why (begin_told x m.machine.work.log why ready.works e.0) (subst (λ (k : PagedMachine D). DoesTied g x.group xs own call.Begin (answer.Refused why) (memory m) k (story m.machine.work.disk) (story k.machine.work.disk)) (sym e.1) (refused_now why e.0))
+    at_once n (Err (unserved.Refused why)) ready_n b e = subst (λ (k : PagedMachine D). DoesTied g x.group xs own call.Begin (answer.Refused why) (memory m) k (story m.machine.work.disk) (story k.machine.work.disk)) (sym e.1) (refused_now why e.0)
+    at_once n (Err (unserved.Unanswered fault)) ready_n b e = absurd (refused_not (refusal_in g s own (is_half_done own xs) m.machine.work.log call.Begin) fault (sym (test_in m.machine.work.log) ∙ e.0))
 
   -- ## Behind a sync
 
@@ -215,16 +212,16 @@ module _ (l : Grounds) (answers : EveryAnswer) (coming : EveryComing) {D : Type 
       half : Bool
       half = is_half_done own xs
 
-      test_1 : begin_test y p.machine.work.log ≡ refusal_in g s1 own half p.machine.work.log call.Begin
-      test_1 = test_is g s1 half y p.machine.work.log ready_p.works (of_core l story p ready_p s1 core_1) ∙ ap (λ (w : ℕ). refusal_in g s1 w half p.machine.work.log call.Begin) made.turn
+      test_1 : begin_test y p.machine.work.log ≡ refused_by (refusal_in g s1 own half p.machine.work.log call.Begin)
+      test_1 = test_is g s1 half y p.machine.work.log ready_p.works (of_core l story p ready_p s1 core_1) ∙ ap (λ (w : ℕ). refused_by (refusal_in g s1 w half p.machine.work.log call.Begin)) made.turn
 
       -- the log was as full before
       log_kept : refusal_in g s1 own half ((memory m).log own) call.Begin ≡ refusal_in g s1 own half p.machine.work.log call.Begin
       log_kept = (λ i. refusal_in g s1 own half (log_own l story m ready i) call.Begin)
           ∙ (ap (λ (u : ℕ). begin_by s1 own u (limit m.machine.work.log)) (sym used_same) ∙ ap (λ (k : ℕ). begin_by s1 own (used p.machine.work.log) k) (sym limit_same))
 
-      stays : (q : Refusal) → refusal_in g s0 own half ((memory m).log own) call.Begin ≡ Some q → begin_test y p.machine.work.log ≡ Some q
-      stays q e = test_1 ∙ stays_closed (s0.worker own).clock (s1.worker own).clock m.machine.work.log p.machine.work.log (s0.worker own).is_open (s1.worker own).is_open (of_0.is_open ∙ closed) (of_1.is_open ∙ (ap (λ (k : Session). k.is_open) kept.session ∙ closed))
+      stays : (q : Refusal) → refusal_in g s0 own half ((memory m).log own) call.Begin ≡ Some q → refusal_in g s1 own half p.machine.work.log call.Begin ≡ Some q
+      stays q e = stays_closed (s0.worker own).clock (s1.worker own).clock m.machine.work.log p.machine.work.log (s0.worker own).is_open (s1.worker own).is_open (of_0.is_open ∙ closed) (of_1.is_open ∙ (ap (λ (k : Session). k.is_open) kept.session ∙ closed))
           used_same limit_same (let a = of_0.clock in let b = of_1.clock in let c = kept.clock in omega arith) q ((λ i. refusal_in g s0 own half (sym (log_own l story m ready) i) call.Begin) ∙ e)
 
       prepared : Prepares limits g xs own (keep is_log (events_of made.events))
@@ -232,55 +229,61 @@ module _ (l : Grounds) (answers : EveryAnswer) (coming : EveryComing) {D : Type 
 
       begun_behind : (n : PagedMachine D) → IsReady story n → (number : ℕ) → HasBegun p n number → DoesTied g x.group xs own call.Begin (answer.Begun number) (memory m) n (story m.machine.work.disk) (story n.machine.work.disk)
       begun_behind n ready_n number b = began l answers coming story lawful m p g xs many tied halves may.0 made.events synced (low_own l story m ready) (high_own l story m ready) n ready_p ready_n number b prepared
-          (λ q e. none_is q (sym b.free ∙ stays q e))
+          (λ q e. none_is q (sym (refused_none (refusal_in g s1 own half p.machine.work.log call.Begin) (sym test_1 ∙ b.free)) ∙ stays q e))
 
-      refused_behind : (why : Refusal) → begin_test y p.machine.work.log ≡ Some why → DoesTied g x.group xs own call.Begin (answer.Refused why) (memory m) p (story m.machine.work.disk) (story p.machine.work.disk)
-      refused_behind why e = not_begun l answers coming story lawful m p g xs many tied halves may.0 made.events synced (low_own l story m ready) (high_own l story m ready) ready_p p.machine.work.log why (sym test_1 ∙ e)
-          (ap (λ (k : State). refusal_in g k own half ((memory m).log own) call.Begin) (front_is g xs (events_of made.events)) ∙ (log_kept ∙ (sym test_1 ∙ e)))
-          (λ q k. some_is why q (sym e ∙ stays q k)) (λ _. prepared) (λ h. absurd (true≢false (sym h ∙ (of_1.is_open ∙ (ap (λ (k : Session). k.is_open) kept.session ∙ closed)))))
+      refused_behind : (why : Refusal) → begin_test y p.machine.work.log ≡ Some (unserved.Refused why) → DoesTied g x.group xs own call.Begin (answer.Refused why) (memory m) p (story m.machine.work.disk) (story p.machine.work.disk)
+      refused_behind why e = not_begun l answers coming story lawful m p g xs many tied halves may.0 made.events synced (low_own l story m ready) (high_own l story m ready) ready_p p.machine.work.log why now
+          (ap (λ (k : State). refusal_in g k own half ((memory m).log own) call.Begin) (front_is g xs (events_of made.events)) ∙ (log_kept ∙ now))
+          (λ q k. some_is why q (sym now ∙ stays q k)) (λ _. prepared) (λ h. absurd (true≢false (sym h ∙ (of_1.is_open ∙ (ap (λ (k : Session). k.is_open) kept.session ∙ closed)))))
+        where
+          now : refusal_in g s1 own half p.machine.work.log call.Begin ≡ Some why
+          now = refused_was (refusal_in g s1 own half p.machine.work.log call.Begin) why (sym test_1 ∙ e)
 
-      pub behind_sync : (n : PagedMachine D) (r : Result ℕ Refusal) → IsReady story n → IfOk r (HasBegun p n) → IfErr r (λ why. (begin_test y p.machine.work.log ≡ Some why) × (n ≡ p))
-          → calls.Comes (begin_answer r) (DoesTied g x.group xs own call.Begin (begin_answer r) (memory m) n (story m.machine.work.disk) (story n.machine.work.disk)) (Fails g x.group xs own call.Begin (memory m) (story m.machine.work.disk) (story n.machine.work.disk)) (calls.StandsNot g x.group xs (memory m) (story m.machine.work.disk))
+      pub behind_sync : (n : PagedMachine D) (r : Result ℕ Unserved) → IsReady story n → IfOk r (HasBegun p n) → IfErr r (λ why. (begin_test y p.machine.work.log ≡ Some why) × (n ≡ p))
+          → calls.Comes (begin_answer r) (λ a. DoesTied g x.group xs own call.Begin a (memory m) n (story m.machine.work.disk) (story n.machine.work.disk)) (Fails g x.group xs own call.Begin (memory m) (story m.machine.work.disk) (story n.machine.work.disk)) (calls.StandsNot g x.group xs (memory m) (story m.machine.work.disk))
       behind_sync n (Ok number) ready_n b e = begun_behind n ready_n number b
-      behind_sync n (Err why) ready_n b e = comes_told _ _ _ why (begin_told y p.machine.work.log why ready_p.works e.0) (subst (λ (k : PagedMachine D). DoesTied g x.group xs own call.Begin (answer.Refused why) (memory m) k (story m.machine.work.disk) (story k.machine.work.disk)) (sym e.1) (refused_behind why e.0))
+      behind_sync n (Err (unserved.Refused why)) ready_n b e = subst (λ (k : PagedMachine D). DoesTied g x.group xs own call.Begin (answer.Refused why) (memory m) k (story m.machine.work.disk) (story k.machine.work.disk)) (sym e.1) (refused_behind why e.0)
+      behind_sync n (Err (unserved.Unanswered fault)) ready_n b e = absurd (refused_not (refusal_in g s1 own half p.machine.work.log call.Begin) fault (sym test_1 ∙ e.0))
 
 -- ## What is told, and what stays the same
 
 begin_open : (x : Session) (log : Log) → begin_test x log ≡ None → x.works ≡ true
 begin_open x log e = go x.works refl e
   where
-    go : (b : Bool) → x.works ≡ b → cond b (cond x.is_open (Some refusal.InTransaction) (log_refusal x.clock.clock log None)) (Some refusal.Broken) ≡ None → x.works ≡ true
+    go : (b : Bool) → x.works ≡ b → cond b (refused_by (cond x.is_open (Some refusal.InTransaction) (log_refusal x.clock.clock log None))) (Some (unserved.Unanswered unanswered.Broken)) ≡ None → x.works ≡ true
     go true q k = q
-    go false q k = absurd (none_is refusal.Broken (sym k))
+    go false q k = absurd (none_is (unserved.Unanswered unanswered.Broken) (sym k))
+
+-- a refusal that a script is told
+abbrev Told : Unserved → Type 0
+Told (unserved.Refused why) = IsTold why
+Told (unserved.Unanswered fault) = ⊥
 
 -- where the machine works, a test that refuses is told of
-begin_where : (x : Session) (log : Log) (why : Refusal) → begin_test x log ≡ Some why → ((x.works ≡ true) × IsTold why) ⊎ ((x.works ≡ false) × (why ≡ refusal.Broken))
+begin_where : (x : Session) (log : Log) (why : Unserved) → begin_test x log ≡ Some why → ((x.works ≡ true) × Told why) ⊎ ((x.works ≡ false) × (why ≡ unserved.Unanswered unanswered.Broken))
 begin_where x log why e = go x.works refl
   where
-    go : (b : Bool) → x.works ≡ b → ((x.works ≡ true) × IsTold why) ⊎ ((x.works ≡ false) × (why ≡ refusal.Broken))
-    go true q = inl (q, begin_told x log why q e)
-    go false q = inr (q, sym (some_is _ why ((λ i. cond (sym q i) (cond x.is_open (Some refusal.InTransaction) (log_refusal x.clock.clock log None)) (Some refusal.Broken)) ∙ e)))
+    told : x.works ≡ true → (r : Unserved) → begin_test x log ≡ Some r → Told r
+    told w (unserved.Refused r) h = begin_told x log r w h
+    told w (unserved.Unanswered fault) h = absurd (refused_not (cond x.is_open (Some refusal.InTransaction) (log_refusal x.clock.clock log None)) fault ((λ i. cond (sym w i) (refused_by (cond x.is_open (Some refusal.InTransaction) (log_refusal x.clock.clock log None))) (Some (unserved.Unanswered unanswered.Broken))) ∙ h))
 
-told_works : (why : Refusal) → IsTold why → calls.works_behind {A = ℕ} (Err why) ≡ true
-told_works refusal.InTransaction t = refl
-told_works refusal.NoTransaction t = refl
-told_works refusal.TooLong t = refl
-told_works (refusal.LogFull u k) t = refl
-told_works refusal.ClockSpent t = refl
-told_works refusal.RowSpent t = refl
-told_works refusal.TooTall t = refl
-told_works refusal.NoPages t = refl
-told_works _ t = absurd t
+    go : (b : Bool) → x.works ≡ b → ((x.works ≡ true) × Told why) ⊎ ((x.works ≡ false) × (why ≡ unserved.Unanswered unanswered.Broken))
+    go true q = inl (q, told q why e)
+    go false q = inr (q, sym (some_is (unserved.Unanswered unanswered.Broken) why ((λ i. cond (sym q i) (refused_by (cond x.is_open (Some refusal.InTransaction) (log_refusal x.clock.clock log None))) (Some (unserved.Unanswered unanswered.Broken))) ∙ e)))
 
-told_may : (why : Refusal) → IsTold why → MayCome 1 why
-told_may refusal.InTransaction t = tt
-told_may refusal.NoTransaction t = tt
-told_may refusal.TooLong t = tt
-told_may (refusal.LogFull u k) t = tt
-told_may refusal.ClockSpent t = tt
-told_may refusal.RowSpent t = tt
-told_may refusal.TooTall t = tt
-told_may refusal.NoPages t = tt
+told_works : (why : Unserved) → Told why → calls.works_behind {A = ℕ} (Err why) ≡ true
+told_works (unserved.Refused why) t = refl
+told_works (unserved.Unanswered fault) t = absurd t
+
+told_may : (why : Unserved) → Told why → MayRefuse 1 why
+told_may (unserved.Refused refusal.InTransaction) t = tt
+told_may (unserved.Refused refusal.NoTransaction) t = tt
+told_may (unserved.Refused refusal.TooLong) t = tt
+told_may (unserved.Refused (refusal.LogFull u k)) t = tt
+told_may (unserved.Refused refusal.ClockSpent) t = tt
+told_may (unserved.Refused refusal.RowSpent) t = tt
+told_may (unserved.Refused refusal.TooTall) t = tt
+told_may (unserved.Refused refusal.NoPages) t = tt
 told_may _ t = absurd t
 
 -- where no transaction is open, its log or its clock refuses it
@@ -291,55 +294,63 @@ late_by false true u k why e (inl q) = absurd (cc)
 late_by false true u k why e (inr q) = absurd (cc)
 late_by false false u k why e q = none_is why e
 
-test_late : (x : Session) (log : Log) → x.works ≡ true → x.is_open ≡ false → (why : Refusal) → begin_test x log ≡ Some why → (why ≡ refusal.InTransaction) ⊎ (why ≡ refusal.RowSpent) → ⊥
-test_late x log works closed why e = late_by (leb (limit log) (used log)) (leb (2 ^ 62) x.clock.clock) (used log) (limit log) why
-    ((λ i. cond (sym works i) (cond (sym closed i) (Some refusal.InTransaction) (log_refusal x.clock.clock log None)) (Some refusal.Broken)) ∙ e)
+was_refused : (a b : Refusal) → unserved.Refused a ≡ unserved.Refused b → a ≡ b
+was_refused a b e = cc
 
-err_is : (a b : Refusal) → ◌≡◌ {A = Result ℕ Refusal} (Err a) (Err b) → a ≡ b
+test_late : (x : Session) (log : Log) → x.works ≡ true → x.is_open ≡ false → (why : Unserved) → begin_test x log ≡ Some why → (why ≡ unserved.Refused refusal.InTransaction) ⊎ (why ≡ unserved.Refused refusal.RowSpent) → ⊥
+test_late x log works closed (unserved.Unanswered fault) e q = refused_not (cond x.is_open (Some refusal.InTransaction) (log_refusal x.clock.clock log None)) fault ((λ i. cond (sym works i) (refused_by (cond x.is_open (Some refusal.InTransaction) (log_refusal x.clock.clock log None))) (Some (unserved.Unanswered unanswered.Broken))) ∙ e)
+test_late x log works closed (unserved.Refused why) e (inl q) =
+    late_by (leb (limit log) (used log)) (leb (2 ^ 62) x.clock.clock) (used log) (limit log) why
+    (refused_was (cond false (Some refusal.InTransaction) (log_refusal x.clock.clock log None)) why ((λ i. cond (sym works i) (refused_by (cond (sym closed i) (Some refusal.InTransaction) (log_refusal x.clock.clock log None))) (Some (unserved.Unanswered unanswered.Broken))) ∙ e)) (inl (was_refused why refusal.InTransaction q))
+test_late x log works closed (unserved.Refused why) e (inr q) =
+    late_by (leb (limit log) (used log)) (leb (2 ^ 62) x.clock.clock) (used log) (limit log) why
+    (refused_was (cond false (Some refusal.InTransaction) (log_refusal x.clock.clock log None)) why ((λ i. cond (sym works i) (refused_by (cond (sym closed i) (Some refusal.InTransaction) (log_refusal x.clock.clock log None))) (Some (unserved.Unanswered unanswered.Broken))) ∙ e)) (inr (was_refused why refusal.RowSpent q))
+
+err_is : (a b : Unserved) → ◌≡◌ {A = Result ℕ Unserved} (Err a) (Err b) → a ≡ b
 err_is a b e = cc
 
-ok_err : (a : ℕ) (b : Refusal) → ◌≡◌ {A = Result ℕ Refusal} (Ok a) (Err b) → ⊥
+ok_err : (a : ℕ) (b : Unserved) → ◌≡◌ {A = Result ℕ Unserved} (Ok a) (Err b) → ⊥
 ok_err a b e = absurd (cc)
 
 module _ {D : Type 0} (m n : PagedMachine D) where
-  abbrev Turned : Refusal → Type 0
+  abbrev Turned : Unserved → Type 0
   Turned why = (begin_test m.machine.work.session m.machine.work.log ≡ Some why) × (n ≡ m)
 
-  pub begun_same : (r : Result ℕ Refusal) → IfErr r Turned → IsErr r → n ≡ m
+  pub begun_same : (r : Result ℕ Unserved) → IfErr r Turned → IsErr r → n ≡ m
   begun_same (Ok a) e i = absurd (true≢false (sym i))
   begun_same (Err why) e i = e.1
 
-  pub begun_disk : (r : Result ℕ Refusal) → IfOk r (HasBegun m n) → IfErr r Turned → n.machine.work.disk ≡ m.machine.work.disk
+  pub begun_disk : (r : Result ℕ Unserved) → IfOk r (HasBegun m n) → IfErr r Turned → n.machine.work.disk ≡ m.machine.work.disk
   begun_disk (Ok a) b e = b.beside.disk
   begun_disk (Err why) b e = ap (λ (k : PagedMachine D). k.machine.work.disk) e.1
 
-  pub begun_fault : (r : Result ℕ Refusal) → IfErr r Turned → r ≡ Err refusal.DiskFault → ⊥
-  begun_fault (Ok a) e q = ok_err a refusal.DiskFault q
-  begun_fault (Err why) e q = elim (begin_where m.machine.work.session m.machine.work.log why e.0) [ inl t ↦ subst IsTold (err_is why refusal.DiskFault q) t.1 | inr t ↦ differs (sym t.1 ∙ err_is why refusal.DiskFault q) ]
+  pub begun_fault : (r : Result ℕ Unserved) → IfErr r Turned → r ≡ Err (unserved.Unanswered unanswered.DiskFault) → ⊥
+  begun_fault (Ok a) e q = ok_err a (unserved.Unanswered unanswered.DiskFault) q
+  begun_fault (Err why) e q = elim (begin_where m.machine.work.session m.machine.work.log why e.0) [ inl t ↦ subst Told (err_is why (unserved.Unanswered unanswered.DiskFault) q) t.1 | inr t ↦ differs (sym t.1 ∙ err_is why (unserved.Unanswered unanswered.DiskFault) q) ]
     where
-      differs : refusal.Broken ≡ refusal.DiskFault → ⊥
+      differs : (unserved.Unanswered unanswered.Broken) ≡ (unserved.Unanswered unanswered.DiskFault) → ⊥
       differs k = absurd (cc)
 
-  pub begun_works : (r : Result ℕ Refusal) → IfOk r (HasBegun m n) → IfErr r Turned → n.machine.work.session.works ≡ m.machine.work.session.works → n.machine.work.session.works ≡ calls.works_behind r
+  pub begun_works : (r : Result ℕ Unserved) → IfOk r (HasBegun m n) → IfErr r Turned → n.machine.work.session.works ≡ m.machine.work.session.works → n.machine.work.session.works ≡ calls.works_behind r
   begun_works (Ok a) b e same = same ∙ begin_open m.machine.work.session m.machine.work.log b.free
-  begun_works (Err why) b e same = same ∙ elim (begin_where m.machine.work.session m.machine.work.log why e.0) [ inl t ↦ t.0 ∙ sym (told_works why t.1) | inr t ↦ t.0 ∙ ap (λ (k : Refusal). calls.works_behind {A = ℕ} (Err k)) (sym t.1) ]
+  begun_works (Err why) b e same = same ∙ elim (begin_where m.machine.work.session m.machine.work.log why e.0) [ inl t ↦ t.0 ∙ sym (told_works why t.1) | inr t ↦ t.0 ∙ ap (λ (k : Unserved). calls.works_behind {A = ℕ} (Err k)) (sym t.1) ]
 
-  pub begun_comes : (r : Result ℕ Refusal) → IfErr r Turned → IfErr r (λ why. MayCome 1 why ⊎ calls.EndsWork why)
+  pub begun_comes : (r : Result ℕ Unserved) → IfErr r Turned → IfErr r (λ why. MayRefuse 1 why ⊎ calls.EndsWork why)
   begun_comes (Ok a) e = tt
   begun_comes (Err why) e = elim (begin_where m.machine.work.session m.machine.work.log why e.0) [ inl t ↦ inl (told_may why t.1) | inr t ↦ inr (ap calls.ends_work t.1) ]
 
-  pub begun_broken : (r : Result ℕ Refusal) → IfOk r (HasBegun m n) → IfErr r Turned → (r ≡ Err refusal.Broken) ↔ (m.machine.work.session.works ≡ false)
-  begun_broken (Ok a) b e = ((λ q. absurd (ok_err a refusal.Broken q)), (λ q. absurd (true≢false (sym (begin_open m.machine.work.session m.machine.work.log b.free) ∙ q))))
+  pub begun_broken : (r : Result ℕ Unserved) → IfOk r (HasBegun m n) → IfErr r Turned → (r ≡ Err (unserved.Unanswered unanswered.Broken)) ↔ (m.machine.work.session.works ≡ false)
+  begun_broken (Ok a) b e = ((λ q. absurd (ok_err a (unserved.Unanswered unanswered.Broken) q)), (λ q. absurd (true≢false (sym (begin_open m.machine.work.session m.machine.work.log b.free) ∙ q))))
   begun_broken (Err why) b e = elim (begin_where m.machine.work.session m.machine.work.log why e.0) [
-    | inl t ↦ ((λ q. absurd (subst IsTold (err_is why refusal.Broken q) t.1)), (λ q. absurd (true≢false (sym t.0 ∙ q))))
-    | inr t ↦ ((λ q. t.0), (λ q. ap (λ (k : Refusal). Err k) t.1))
+    | inl t ↦ ((λ q. absurd (subst Told (err_is why (unserved.Unanswered unanswered.Broken) q) t.1)), (λ q. absurd (true≢false (sym t.0 ∙ q))))
+    | inr t ↦ ((λ q. t.0), (λ q. ap (λ (k : Unserved). Err k) t.1))
   ]
 
-  pub begun_late : m.machine.work.session.works ≡ true → m.machine.work.session.is_open ≡ false → (r : Result ℕ Refusal) → IfErr r Turned → (r ≡ Err refusal.InTransaction) ⊎ (r ≡ Err refusal.RowSpent) → ⊥
-  begun_late works closed (Ok a) e (inl q) = ok_err a refusal.InTransaction q
-  begun_late works closed (Ok a) e (inr q) = ok_err a refusal.RowSpent q
-  begun_late works closed (Err why) e (inl q) = test_late m.machine.work.session m.machine.work.log works closed why e.0 (inl (err_is why refusal.InTransaction q))
-  begun_late works closed (Err why) e (inr q) = test_late m.machine.work.session m.machine.work.log works closed why e.0 (inr (err_is why refusal.RowSpent q))
+  pub begun_late : m.machine.work.session.works ≡ true → m.machine.work.session.is_open ≡ false → (r : Result ℕ Unserved) → IfErr r Turned → (r ≡ Err (unserved.Refused refusal.InTransaction)) ⊎ (r ≡ Err (unserved.Refused refusal.RowSpent)) → ⊥
+  begun_late works closed (Ok a) e (inl q) = ok_err a (unserved.Refused refusal.InTransaction) q
+  begun_late works closed (Ok a) e (inr q) = ok_err a (unserved.Refused refusal.RowSpent) q
+  begun_late works closed (Err why) e (inl q) = test_late m.machine.work.session m.machine.work.log works closed why e.0 (inl (err_is why (unserved.Refused refusal.InTransaction) q))
+  begun_late works closed (Err why) e (inr q) = test_late m.machine.work.session m.machine.work.log works closed why e.0 (inr (err_is why (unserved.Refused refusal.RowSpent) q))
 
 -- a sync is due, so what refuses it before one is not its answer
 pub same_none : (is_long : Bool) → is_long ≡ true → (A B P : Type 0) → (A → ⊥) → (B → ⊥) → (is_long ≡ false) ⊎ (A ⊎ B) → P
@@ -348,15 +359,15 @@ same_none is_long long A B P a b (inr (inl q)) = absurd (a q)
 same_none is_long long A B P a b (inr (inr q)) = absurd (b q)
 
 module _ {D : Type 0} (story : D → Story) (m n : PagedMachine D) where
-  pub begun_turn : (r : Result ℕ Refusal) → IfOk r (HasBegun m n) → IfErr r (Turned m n) → n.machine.work.session.own ≡ m.machine.work.session.own
+  pub begun_turn : (r : Result ℕ Unserved) → IfOk r (HasBegun m n) → IfErr r (Turned m n) → n.machine.work.session.own ≡ m.machine.work.session.own
   begun_turn (Ok a) b e = (same_begun story m n a b.begins).0
   begun_turn (Err why) b e = ap (λ (k : PagedMachine D). k.machine.work.session.own) e.1
 
-  pub begun_many : (r : Result ℕ Refusal) → IfOk r (HasBegun m n) → IfErr r (Turned m n) → AreAsMany m.machine n.machine
+  pub begun_many : (r : Result ℕ Unserved) → IfOk r (HasBegun m n) → IfErr r (Turned m n) → AreAsMany m.machine n.machine
   begun_many (Ok a) b e = let s = same_begun story m n a b.begins in (s.1, s.2)
   begun_many (Err why) b e = (ap (λ (k : PagedMachine D). k.machine.work.session.workers) e.1, ap (λ (k : PagedMachine D). k.machine.work.session.group) e.1)
 
-  pub begun_flushed : (r : Result ℕ Refusal) → IfOk r (HasBegun m n) → IfErr r (Turned m n) → KeepsFlushed m n
+  pub begun_flushed : (r : Result ℕ Unserved) → IfOk r (HasBegun m n) → IfErr r (Turned m n) → KeepsFlushed m n
   begun_flushed (Ok a) b e w = ap (λ (k : Memory). (k.log w).flushed) (memory_is story m n b.beside (same_begun story m n a b.begins).0)
   begun_flushed (Err why) b e w = ap (λ (k : PagedMachine D). ((memory k).log w).flushed) e.1
 

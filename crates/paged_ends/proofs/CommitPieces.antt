@@ -7,6 +7,10 @@ use Rattle.map_model.specs.declared.call.Call.{Call}
 use Rattle.map_model.specs.declared.call.Call.TheVariants as call
 use Rattle.map_model.specs.declared.call.Refusal.{Refusal}
 use Rattle.map_model.specs.declared.call.Refusal.TheVariants as refusal
+use Rattle.paged_desks.specs.engine_trait.Serving.{MayRefuse}
+use Rattle.paged_desks.specs.engine_trait.declared.unserved.Unanswered.TheVariants as unanswered
+use Rattle.paged_desks.specs.engine_trait.declared.unserved.Unserved.{Unserved}
+use Rattle.paged_desks.specs.engine_trait.declared.unserved.Unserved.TheVariants as unserved
 use Rattle.paged_desks.proofs.core_calls.WhereLemmas.{refused_kept}
 use Rattle.paged_desks.specs.core_calls.Deeds.{marks_by}
 use Rattle.paged_desks.specs.core_calls.Fronts.{Done, front, outcomes}
@@ -23,7 +27,7 @@ use Rattle.paged_desks.specs.engine_calls.Answers.{EveryAnswer}
 use Rattle.paged_desks.specs.engine_calls.Clauses.{EveryComing, IsNewLine}
 use Rattle.paged_desks.specs.engine_calls.Parts.{behind_first}
 use Rattle.paged_desks.specs.engine_calls.Refused.{TakesRows, refused_by}
-use Rattle.paged_desks.specs.engine_trait.Calls.{MayCome, is_half_done}
+use Rattle.paged_desks.specs.engine_trait.Calls.{is_half_done}
 use Rattle.paged_desks.specs.engine_trait.Limits.{limits}
 use Rattle.paged_desks.specs.engine_trait.Refusals.{refusal_in}
 use Rattle.paged_desks.specs.engine_trait.Rooms.{MakesItsRoom}
@@ -72,7 +76,7 @@ module _ {D : Type 0} (story : D → Story) (law : EveryOther) (m n : PagedMachi
   abbrev y : Session
   y = n.machine.work.session
 
-  abbrev Did : Result replies.Ended Refusal → Type 0
+  abbrev Did : Result replies.Ended Unserved → Type 0
   Did r = Commits story r (view_of m) (view_of n) x y m.machine.work.log n.machine.work.log m.machine.work.disk n.machine.work.disk
 
   spent_core : (s : IsSpent (view_of m) (view_of n) x y m.machine.work.log n.machine.work.log m.machine.work.disk n.machine.work.disk) → (state (view_of n)).core ≡ (state (view_of m)).core
@@ -88,44 +92,44 @@ module _ {D : Type 0} (story : D → Story) (law : EveryOther) (m n : PagedMachi
         b : IsBeside m n
         b = record { shape = a.shape; disk = s.disk; log = s.log; desks = a.desks; latches = a.latches; master = a.master; pager = a.pager }
 
-    by_answer : (r : Result replies.Ended Refusal) → Did r → works_behind r ≡ true → IsReady story n
+    by_answer : (r : Result replies.Ended Unserved) → Did r → works_behind r ≡ true → IsReady story n
     by_answer (Ok told) c on = ready_committed story m n ready opened a same law told c steps fits works holds
-    by_answer (Err refusal.RowSpent) c on = spent c
-    by_answer (Err refusal.DiskFault) c on = absurd (true≢false (sym on))
+    by_answer (Err (unserved.Refused refusal.RowSpent)) c on = spent c
+    by_answer (Err (unserved.Unanswered unanswered.DiskFault)) c on = absurd (true≢false (sym on))
     by_answer (Err _) c on = absurd c
 
   -- ## What is told
 
-  fault_is : ◌≡◌ {A = Result replies.Ended Refusal} (Err refusal.RowSpent) (Err refusal.DiskFault) → ⊥
+  fault_is : ◌≡◌ {A = Result replies.Ended Unserved} (Err (unserved.Refused refusal.RowSpent)) (Err (unserved.Unanswered unanswered.DiskFault)) → ⊥
   fault_is e = absurd (cc)
 
-  ok_err : (told : replies.Ended) → ◌≡◌ {A = Result replies.Ended Refusal} (Ok told) (Err refusal.DiskFault) → ⊥
+  ok_err : (told : replies.Ended) → ◌≡◌ {A = Result replies.Ended Unserved} (Ok told) (Err (unserved.Unanswered unanswered.DiskFault)) → ⊥
   ok_err told e = absurd (cc)
 
-  pub works_by : (r : Result replies.Ended Refusal) → Did r → (y.works ≡ true) ↔ (r ≡ Err refusal.DiskFault → ⊥) → y.works ≡ works_behind r
+  pub works_by : (r : Result replies.Ended Unserved) → Did r → (y.works ≡ true) ↔ (r ≡ Err (unserved.Unanswered unanswered.DiskFault) → ⊥) → y.works ≡ works_behind r
   works_by (Ok told) c w = w.1 (ok_err told)
-  works_by (Err refusal.RowSpent) c w = w.1 fault_is
-  works_by (Err refusal.DiskFault) c w = go y.works refl
+  works_by (Err (unserved.Refused refusal.RowSpent)) c w = w.1 fault_is
+  works_by (Err (unserved.Unanswered unanswered.DiskFault)) c w = go y.works refl
     where
       go : (b : Bool) → y.works ≡ b → y.works ≡ false
       go true e = absurd (w.0 e refl)
       go false e = e
   works_by (Err _) c w = absurd c
 
-  pub comes_by : (r : Result replies.Ended Refusal) → Did r → IfErr r (λ why. MayCome 1 why ⊎ EndsWork why)
+  pub comes_by : (r : Result replies.Ended Unserved) → Did r → IfErr r (λ why. MayRefuse 1 why ⊎ EndsWork why)
   comes_by (Ok told) c = tt
-  comes_by (Err refusal.RowSpent) c = inl tt
-  comes_by (Err refusal.DiskFault) c = inr refl
+  comes_by (Err (unserved.Refused refusal.RowSpent)) c = inl tt
+  comes_by (Err (unserved.Unanswered unanswered.DiskFault)) c = inr refl
   comes_by (Err _) c = absurd c
 
-  pub not_broken : (r : Result replies.Ended Refusal) → Did r → r ≡ Err refusal.Broken → ⊥
+  pub not_broken : (r : Result replies.Ended Unserved) → Did r → r ≡ Err (unserved.Unanswered unanswered.Broken) → ⊥
   not_broken (Ok told) c e = absurd (cc)
-  not_broken (Err refusal.RowSpent) c e = absurd (cc)
-  not_broken (Err refusal.DiskFault) c e = absurd (cc)
+  not_broken (Err (unserved.Refused refusal.RowSpent)) c e = absurd (cc)
+  not_broken (Err (unserved.Unanswered unanswered.DiskFault)) c e = absurd (cc)
   not_broken (Err _) c e = absurd c
 
-pub ready_by : {D : Type 0} (story : D → Story) → EveryOther → (m n : PagedMachine D) → IsReady story m → m.machine.work.session.is_open ≡ true → (r : Result replies.Ended Refusal) → Commits story r (view_of m) (view_of n) m.machine.work.session n.machine.work.session m.machine.work.log n.machine.work.log m.machine.work.disk n.machine.work.disk → works_behind r ≡ true
-    → SeatFits n.machine × (shape n.machine ≡ shape m.machine) → IsSameSession m.machine.work.session n.machine.work.session → (n.machine.work.session.works ≡ true) ↔ (r ≡ Err refusal.DiskFault → ⊥) → (n.machine.work.session.works ≡ true → Holds (shape n.machine) (view_of n) n.machine.work.session n.machine.work.log)
+pub ready_by : {D : Type 0} (story : D → Story) → EveryOther → (m n : PagedMachine D) → IsReady story m → m.machine.work.session.is_open ≡ true → (r : Result replies.Ended Unserved) → Commits story r (view_of m) (view_of n) m.machine.work.session n.machine.work.session m.machine.work.log n.machine.work.log m.machine.work.disk n.machine.work.disk → works_behind r ≡ true
+    → SeatFits n.machine × (shape n.machine ≡ shape m.machine) → IsSameSession m.machine.work.session n.machine.work.session → (n.machine.work.session.works ≡ true) ↔ (r ≡ Err (unserved.Unanswered unanswered.DiskFault) → ⊥) → (n.machine.work.session.works ≡ true → Holds (shape n.machine) (view_of n) n.machine.work.session n.machine.work.log)
     → (n.machine.work.session.works ≡ true → Steps m.machine.work.session.own (view_of m) (view_of n)) → (n.machine.work.session.works ≡ true → n.machine.latches ≡ m.machine.latches) → n.machine.desks ≡ m.machine.desks → n.machine.master ≡ m.machine.master → n.pager ≡ m.pager → IsReady story n
 ready_by story law m n ready opened r c on fits same works holds steps unmarked desks master pager =
     by_answer story law m n ready opened (record { shape = fits.1; desks = desks; latches = unmarked w; master = master; pager = pager }) fits.0 same w (holds w) (steps w) r c on

@@ -1,9 +1,11 @@
 -- A begin, a commit and a sync: where a begin may come, and results as answers.
+use Rattle.paged_desks.specs.engine_trait.Serving.{unserved_answer}
+use Rattle.paged_desks.specs.engine_trait.declared.unserved.Unanswered.{Unanswered}
 use Rattle.std.specs.Prelude.{◌≡◌, ℕ, Bool, List, Result, Ok, Err}
 use Rattle.map_model.specs.declared.call.Answer.{Answer}
 use Rattle.map_model.specs.declared.call.Answer.TheVariants as answer
 use Rattle.map_model.specs.declared.call.Call.TheVariants as call
-use Rattle.map_model.specs.declared.call.Refusal.{Refusal}
+use Rattle.paged_desks.specs.engine_trait.declared.unserved.Unserved.{Unserved}
 use Rattle.paged_desks.specs.core_state.Openings.{Opening}
 use Rattle.paged_desks.specs.core_calls.Fronts.{Done, outcomes}
 use Rattle.paged_desks.specs.engine_calls.Clauses.{IsNewLine}
@@ -22,14 +24,14 @@ KeepsFlushed m n = (w : ℕ) → (logs n.machine w).flushed ≡ (logs m.machine 
 
 -- ## Answers
 
-abbrev pub begin_answer : Result ℕ Refusal → Answer
-begin_answer (Ok number) = answer.Begun number
-begin_answer (Err why) = answer.Refused why
+abbrev pub begin_answer : Result ℕ Unserved → Result Answer Unanswered
+begin_answer (Ok number) = Ok (answer.Begun number)
+begin_answer (Err why) = unserved_answer why
 
-abbrev pub commit_answer : Result Ended Refusal → Answer
-commit_answer (Ok ended) = answer.Committed ended.number ended.at
-commit_answer (Err why) = answer.Refused why
+abbrev pub commit_answer : Result Ended Unserved → Result Answer Unanswered
+commit_answer (Ok ended) = Ok (answer.Committed ended.number ended.at)
+commit_answer (Err why) = unserved_answer why
 
-abbrev pub sync_answer : Result ℕ Refusal → Answer
-sync_answer (Ok at) = answer.Synced at
-sync_answer (Err why) = answer.Refused why
+abbrev pub sync_answer : Result ℕ Unserved → Result Answer Unanswered
+sync_answer (Ok at) = Ok (answer.Synced at)
+sync_answer (Err why) = unserved_answer why

@@ -1,6 +1,6 @@
 -- Words of private functions: what the pieces of a begin and a commit did to a machine.
 use Rattle.std.specs.Prelude.{◌≡◌, ℕ, None, Result}
-use Rattle.map_model.specs.declared.call.Refusal.{Refusal}
+use Rattle.paged_desks.specs.engine_trait.declared.unserved.Unserved.{Unserved}
 use Rattle.lean_disk.specs.Story.{Story}
 use Rattle.row_ends.specs.Begins.{Begins}
 use Rattle.row_ends.specs.Outcomes.{Commits}
@@ -17,5 +17,5 @@ pub record HasBegun {D : Type 0} (m n : PagedMachine D) (number : ℕ) : Type 0 
   pub beside : IsBeside m n
 
 -- what the commit of the session whose turn it is did, behind its tests
-abbrev pub CommitsOn : {D : Type 0} → (story : D → Story) → Result Ended Refusal → (m n : PagedMachine D) → Type 0
+abbrev pub CommitsOn : {D : Type 0} → (story : D → Story) → Result Ended Unserved → (m n : PagedMachine D) → Type 0
 CommitsOn story r m n = Commits story r (view_of m) (view_of n) m.machine.work.session n.machine.work.session m.machine.work.log n.machine.work.log m.machine.work.disk n.machine.work.disk

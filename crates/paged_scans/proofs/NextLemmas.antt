@@ -4,8 +4,10 @@ use Rattle.std.proofs.lemmas.Bool.{and_from, and_parts, eq-eqb}
 use Rattle.std.proofs.lemmas.List.{length-append}
 use Rattle.map_model.specs.Lists.{all, any, keep}
 use Rattle.map_model.specs.Maps.{MapAnswer}
-use Rattle.map_model.specs.declared.call.Refusal.{Refusal}
 use Rattle.map_model.specs.declared.call.Refusal.TheVariants as refusal
+use Rattle.paged_calls.specs.engine_trait.declared.unserved.Unserved.{Unserved}
+use Rattle.paged_calls.specs.engine_trait.declared.unserved.Unanswered.TheVariants as unanswered
+use Rattle.paged_calls.specs.engine_trait.declared.unserved.Unserved.TheVariants as unserved
 use Rattle.paged_calls.specs.core_calls.Fronts.{Done, front}
 use Rattle.paged_calls.specs.core_calls.LogEvents.{IsTight, IsTightSomewhere, SyncsWhere}
 use Rattle.paged_calls.specs.core_calls.Scans.{TakesMet, rows_met}
@@ -257,11 +259,11 @@ module _ {D : Type 0} (story : D → Story) (from to at : ℕ) (m u n : PagedMac
   pub next_over : (key value : ℕ) → to < key → MeetsWarm story at (Ok (met.Pair key value)) u n → Nexts story from to (Ok None) m n
   next_over key value lt k = inr (key, value, lt, behinds (λ a v w. Then story a (λ b c. HasMet v.machine.work.session.own (view_of b) (view_of c) a (met.Pair key value)) v w) k)
 
-  pub next_refused : (why : Refusal) → MeetsWarm story at (Err why) u n → Nexts story from to (Err why) m n
-  next_refused (refusal.Conflict h) k = behinds (λ a v w. Then story a (λ b c. HasMetConflict v.machine.work.session.own (view_of b) (view_of c) a h) v w) k
-  next_refused refusal.RowSpent k = behinds (λ a v w. IsSpentWarm story a v w) k
-  next_refused refusal.DiskFault k = behinds (λ a v w. FailsWarm story v w) k
-  next_refused (refusal.Damaged area place) k = behinds (λ a v w. FailsWarm story v w × StandsNowhere story v) k
+  pub next_refused : (why : Unserved) → MeetsWarm story at (Err why) u n → Nexts story from to (Err why) m n
+  next_refused (unserved.Refused (refusal.Conflict h)) k = behinds (λ a v w. Then story a (λ b c. HasMetConflict v.machine.work.session.own (view_of b) (view_of c) a h) v w) k
+  next_refused (unserved.Refused refusal.RowSpent) k = behinds (λ a v w. IsSpentWarm story a v w) k
+  next_refused (unserved.Unanswered unanswered.DiskFault) k = behinds (λ a v w. FailsWarm story v w) k
+  next_refused (unserved.Unanswered (unanswered.Damaged place)) k = behinds (λ a v w. FailsWarm story v w × StandsNowhere story v) k
   next_refused _ k = absurd k
 
 -- by another name of what was met

@@ -1,5 +1,5 @@
 -- A step of a scan, in each run to which its machine is tied.
-use Rattle.std.proofs.Common.{◌≡◌, ◌∙◌, ◌⊎◌, inl, inr, ◌≤◌, ◌<◌, ◌+◌, ◌^◌, ◌++◌, ◌==◌, ◌||◌, ◌&&◌, leb, ltb, ℕ, suc, Bool, true, false, cond, List, [], ◌∷◌, map, length, Option, Some, None, Ok, Err, append-nil, ap, refl, sym, subst, arith, true≢false}
+use Rattle.std.proofs.Common.{◌≡◌, ◌∙◌, ◌⊎◌, inl, inr, ◌≤◌, ◌<◌, ◌+◌, ◌^◌, ◌++◌, ◌==◌, ◌||◌, ◌&&◌, leb, ltb, ℕ, suc, Bool, true, false, cond, List, [], ◌∷◌, map, length, Option, Some, None, Ok, Err, append-nil, ap, refl, sym, subst, arith, true≢false, Result}
 use Rattle.std.proofs.lemmas.Bool.{and_parts, leb-true, ltb-true}
 use Rattle.std.proofs.lemmas.List.{append_assoc, length-append}
 use Rattle.map_model.specs.Lists.{Has, all, any, keep}
@@ -10,6 +10,11 @@ use Rattle.map_model.specs.declared.call.Call.{Call}
 use Rattle.map_model.specs.declared.call.Call.TheVariants as call
 use Rattle.map_model.specs.declared.call.Refusal.{Refusal}
 use Rattle.map_model.specs.declared.call.Refusal.TheVariants as refusal
+use Rattle.paged_calls.specs.engine_trait.declared.unserved.Unanswered.{Unanswered}
+use Rattle.paged_calls.specs.engine_trait.declared.unserved.Unserved.{Unserved}
+use Rattle.paged_calls.specs.engine_trait.Serving.{MayRefuse, unserved_answer}
+use Rattle.paged_calls.specs.engine_trait.declared.unserved.Unanswered.TheVariants as unanswered
+use Rattle.paged_calls.specs.engine_trait.declared.unserved.Unserved.TheVariants as unserved
 use Rattle.paged_calls.proofs.call_parts.RunLemmas.{behind_more, core_is}
 use Rattle.paged_calls.specs.call_parts.Areas.{is_save}
 use Rattle.paged_calls.specs.call_parts.Deeds.{Answers, Fails}
@@ -739,28 +744,28 @@ on_way_sixty story n now at rows (inl none) = let a = ap (λ (ks : List ℕ). le
 on_way_sixty story n now at rows (inr k) = way_sixty story n now at rows k.0 k.1
 
 module _ (l : Grounds) (answers : EveryAnswer) (coming : EveryComing) (frames : EveryFrame) {D : Type 0} (story : D → Story) (lawful : (d : D) → IsLawful (story d)) (m : PagedMachine D) (ready : IsReady story m) (scan : Scan) (within : IsIn scan) where
-  abbrev pub Does : Answer → PagedMachine D → Type 0
+  abbrev pub Does : Result Answer Unanswered → PagedMachine D → Type 0
   Does a n = CallDoes story (StandsAt m.machine.work.session.own scan) m.machine.work.session.own (call.Scan scan.from scan.to) a m n
 
-  pub scan_closed : is_going m.machine.work.session ≡ false → Does (answer.Refused refusal.NoTransaction) m
+  pub scan_closed : is_going m.machine.work.session ≡ false → Does (Ok (answer.Refused refusal.NoTransaction)) m
   scan_closed shut g xs workers tied halves stands = not_begun l answers coming frames story lawful m ready scan within g xs workers tied halves stands shut
 
   module _ (is_open : m.machine.work.session.is_open ≡ true) (whole : m.machine.work.session.is_half_aborted ≡ false) where
-    pub scan_above : scan.to < scan.at → Does answer.End m
+    pub scan_above : scan.to < scan.at → Does (Ok answer.End) m
     scan_above lt g xs workers tied halves stands = above l answers coming frames story lawful m ready scan within g xs workers tied halves stands is_open whole lt
 
-    pub scan_paused : scan.met ≡ 64 → scan.at ≤ scan.to → Does (answer.More scan.at) m
+    pub scan_paused : scan.met ≡ 64 → scan.at ≤ scan.to → Does (Ok (answer.More scan.at)) m
     scan_paused full le g xs workers tied halves stands = paused l answers coming frames story lawful m ready scan within g xs workers tied halves stands is_open whole full le
 
     module _ (n : PagedMachine D) (fewer : scan.met < 64) (le : scan.at ≤ scan.to) where
-      pub scan_pair : (key value : ℕ) → IsReady story n → Nexts story scan.at scan.to (Ok (Some (key, value))) m n → Does (answer.Pair key value) n
+      pub scan_pair : (key value : ℕ) → IsReady story n → Nexts story scan.at scan.to (Ok (Some (key, value))) m n → Does (Ok (answer.Pair key value)) n
       scan_pair key value now q g xs workers tied halves stands =
           let b = q.1 in
           let t = b.is in
           met_pair l answers coming frames story lawful m ready scan within g xs workers tied halves stands is_open whole b.at b.low b.between b.passed t.between t.come n t.beside t.session t.ready now.logged key value
           (subst (λ w. HasMet w (view_of t.between) (view_of n) b.at (met.Pair key value)) b.passed.turn t.is) fewer q.0
 
-      pub scan_over : IsReady story n → Nexts story scan.at scan.to (Ok None) m n → Does answer.End n
+      pub scan_over : IsReady story n → Nexts story scan.at scan.to (Ok None) m n → Does (Ok answer.End) n
       scan_over now (inl q) g xs workers tied halves stands =
           let a = le in let b = q.1 in
           gaps_over l answers coming frames story lawful m ready scan within g xs workers tied halves stands is_open whole q.0 (omega arith) n q.2 now.logged fewer q.1
@@ -770,14 +775,14 @@ module _ (l : Grounds) (answers : EveryAnswer) (coming : EveryComing) (frames : 
           beyond_pair l answers coming frames story lawful m ready scan within g xs workers tied halves stands is_open whole b.at b.low b.between b.passed t.between t.come n t.beside t.session t.ready now.logged q.0 q.1
           (subst (λ w. HasMet w (view_of t.between) (view_of n) b.at (met.Pair q.0 q.1)) b.passed.turn t.is) fewer q.2
 
-      pub scan_refused : (why : Refusal) → (works_behind {A = Unit {0}} (Err why) ≡ true → IsReady story n) → Nexts story scan.at scan.to (Err why) m n → Does (answer.Refused why) n
-      scan_refused (refusal.Conflict h) ready_n b g xs workers tied halves stands =
+      pub scan_refused : (why : Unserved) → (works_behind {A = Unit {0}} (Err why) ≡ true → IsReady story n) → Nexts story scan.at scan.to (Err why) m n → Does (unserved_answer why) n
+      scan_refused (unserved.Refused (refusal.Conflict h)) ready_n b g xs workers tied halves stands =
           let now = ready_n refl in
           let t = b.is in
           let d = subst (λ w. HasMetConflict w (view_of t.between) (view_of n) b.at h) b.passed.turn t.is in
           walk_conflict l answers coming frames story lawful m ready scan within g xs workers tied halves stands is_open whole b.at b.low b.between b.passed t.between t.come n now t.beside t.session d.rows d.taken
           (way_sixty story n now b.at d.rows (d.hindered.0 ∷ d.hindered.1) d.hindered.2) h d.hindered
-      scan_refused refusal.RowSpent ready_n b g xs workers tied halves stands = go b.is
+      scan_refused (unserved.Refused refusal.RowSpent) ready_n b g xs workers tied halves stands = go b.is
         where
           go : IsSpentWarm story b.at b.between n → DoesTied g m.machine.work.session.group xs m.machine.work.session.own (call.Scan scan.from scan.to) (answer.Refused refusal.RowSpent) (memory m) n (story m.machine.work.disk) (story n.machine.work.disk)
           go (inl t) =
@@ -786,8 +791,8 @@ module _ (l : Grounds) (answers : EveryAnswer) (coming : EveryComing) (frames : 
               walk_spent l answers coming frames story lawful m ready scan within g xs workers tied halves stands is_open whole b.at b.low b.between b.passed t.between t.come n now t.beside t.session d.rows d.taken
               (on_way_sixty story n now b.at d.rows d.way) d.way d.many
           go (inr q) = come_spent l answers coming frames story lawful m ready scan within g xs workers tied halves stands is_open whole b.at b.low b.between b.passed n q.0 (ready_n refl) q.1
-      scan_refused refusal.DiskFault ready_n b g xs workers tied halves stands = fault l answers coming frames story lawful m ready scan within g xs workers tied halves stands is_open whole b.at b.low b.between b.passed n b.is
-      scan_refused (refusal.Damaged area place) ready_n b g xs workers tied halves stands = (
+      scan_refused (unserved.Unanswered unanswered.DiskFault) ready_n b g xs workers tied halves stands = fault l answers coming frames story lawful m ready scan within g xs workers tied halves stands is_open whole b.at b.low b.between b.passed n b.is
+      scan_refused (unserved.Unanswered (unanswered.Damaged place)) ready_n b g xs workers tied halves stands = (
         fault l answers coming frames story lawful m ready scan within g xs workers tied halves stands is_open whole b.at b.low b.between b.passed n b.is.0,
         never l answers coming frames story lawful m ready scan within g xs workers tied halves stands is_open whole b.at b.low b.between b.passed b.is.1,
       )
@@ -800,17 +805,17 @@ pub next_as : {D : Type 0} (story : D → Story) (from to : ℕ) (m n : PagedMac
 next_as story from to m n a b e k = subst (λ (o : Option (ℕ × ℕ)). Nexts story from to (Ok o) m n) e k
 
 -- the seat is that of the rows still
-pub fits_refused : {D : Type 0} (story : D → Story) (from to : ℕ) (m n : PagedMachine D) (why : Refusal) → (works_behind {A = Unit {0}} (Err why) ≡ true → IsReady story n) → Nexts story from to (Err why) m n → SeatFits n.machine
-fits_refused story from to m n (refusal.Conflict h) ready b = (ready refl).sound.fits
-fits_refused story from to m n refusal.RowSpent ready b = (ready refl).sound.fits
-fits_refused story from to m n refusal.DiskFault ready b = b.is.failed.fits
-fits_refused story from to m n (refusal.Damaged area place) ready b = b.is.0.failed.fits
+pub fits_refused : {D : Type 0} (story : D → Story) (from to : ℕ) (m n : PagedMachine D) (why : Unserved) → (works_behind {A = Unit {0}} (Err why) ≡ true → IsReady story n) → Nexts story from to (Err why) m n → SeatFits n.machine
+fits_refused story from to m n (unserved.Refused (refusal.Conflict h)) ready b = (ready refl).sound.fits
+fits_refused story from to m n (unserved.Refused refusal.RowSpent) ready b = (ready refl).sound.fits
+fits_refused story from to m n (unserved.Unanswered unanswered.DiskFault) ready b = b.is.failed.fits
+fits_refused story from to m n (unserved.Unanswered (unanswered.Damaged place)) ready b = b.is.0.failed.fits
 fits_refused story from to m n _ ready b = absurd b
 
 -- why it is refused may come, a conflict where there are several sessions
-pub come_refused : {D : Type 0} (story : D → Story) (from to : ℕ) (m n : PagedMachine D) (workers : ℕ) (why : Refusal) → (workers ≡ 1 → NoOther why) → Nexts story from to (Err why) m n → trait_calls.MayCome workers why ⊎ EndsWork why
-come_refused story from to m n workers (refusal.Conflict h) only b = inl only
-come_refused story from to m n workers refusal.RowSpent only b = inl tt
-come_refused story from to m n workers refusal.DiskFault only b = inr refl
-come_refused story from to m n workers (refusal.Damaged area place) only b = inr refl
+pub come_refused : {D : Type 0} (story : D → Story) (from to : ℕ) (m n : PagedMachine D) (workers : ℕ) (why : Unserved) → (workers ≡ 1 → NoOther why) → Nexts story from to (Err why) m n → MayRefuse workers why ⊎ EndsWork why
+come_refused story from to m n workers (unserved.Refused (refusal.Conflict h)) only b = inl only
+come_refused story from to m n workers (unserved.Refused refusal.RowSpent) only b = inl tt
+come_refused story from to m n workers (unserved.Unanswered unanswered.DiskFault) only b = inr refl
+come_refused story from to m n workers (unserved.Unanswered (unanswered.Damaged place)) only b = inr refl
 come_refused story from to m n workers _ only b = absurd b

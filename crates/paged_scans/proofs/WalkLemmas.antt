@@ -4,6 +4,9 @@ use Rattle.std.proofs.lemmas.List.{length-append}
 use Rattle.lean_disk.specs.Story.{Story}
 use Rattle.map_model.specs.declared.call.Refusal.{Refusal}
 use Rattle.map_model.specs.declared.call.Refusal.TheVariants as refusal
+use Rattle.paged_calls.specs.engine_trait.declared.unserved.Unanswered.TheVariants as unanswered
+use Rattle.paged_calls.specs.engine_trait.declared.unserved.Unserved.{Unserved}
+use Rattle.paged_calls.specs.engine_trait.declared.unserved.Unserved.TheVariants as unserved
 use Rattle.paged_calls.specs.page_pool.Counts.{hot_pages}
 use Rattle.paged_calls.specs.row_words.declared.event.Event.{Event}
 use Rattle.paged_calls.specs.row_words.Openings.{opening}
@@ -15,7 +18,7 @@ use Rattle.row_scans.specs.Meets.{HasMet, HasMetConflict, HasMetSpent, IsButRows
 use Rattle.row_scans.specs.declared.meets.Met.{Met}
 use Rattle.row_scans.specs.declared.meets.Unmet.{Unmet}
 use Rattle.row_scans.specs.declared.meets.Unmet.TheVariants as unmet
-use Rattle.paged_calls.specs.paged_desks.Calls.{IsBeside, works_behind}
+use Rattle.paged_calls.specs.paged_desks.Calls.{IsBeside, unserved_of, works_behind}
 use Rattle.paged_calls.specs.paged_desks.Machines.{IsReady, view_of}
 use Rattle.paged_calls.specs.paged_desks.Pages.{goes_on, hot_in}
 use Rattle.paged_calls.specs.paged_desks.Parts.{HasGone}
@@ -23,7 +26,6 @@ use Rattle.paged_calls.specs.paged_desks.declared.machine.PagedMachine.{PagedMac
 use Rattle.paged_calls.specs.paged_desks.declared.warming.Unwarmed.{Unwarmed}
 use Rattle.paged_calls.specs.paged_desks.declared.warming.Unwarmed.TheVariants as stopped
 use Rattle.paged_calls.specs.Steps.{HasCome, IsStill, ReadsWarm}
-use Rattle.paged_calls.specs.Tests.{refusal_of}
 use Rattle.paged_scans.specs.Steps.{MeetsWarm, Then, most_a_come}
 
 -- ## How many events
@@ -62,31 +64,28 @@ module _ {D : Type 0} (story : D → Story) (key : ℕ) (m u n : PagedMachine D)
   pub met_then : (x : Met) → HasMet m.machine.work.session.own (view_of u) (view_of n) key x → MeetsWarm story key (Ok x) m n
   met_then x k = then_is (λ a b. HasMet m.machine.work.session.own (view_of a) (view_of b) key x) k
 
-  pub refused_then : (why : Refusal) (same : Type 0) → Meets (Err (unmet.Refused why)) m.machine.work.session.own (view_of u) (view_of n) key same → MeetsWarm story key (Err why) m n
+  pub refused_then : (why : Refusal) (same : Type 0) → Meets (Err (unmet.Refused why)) m.machine.work.session.own (view_of u) (view_of n) key same → MeetsWarm story key (Err (unserved.Refused why)) m n
   refused_then (refusal.Conflict h) same k = then_is (λ a b. HasMetConflict m.machine.work.session.own (view_of a) (view_of b) key h) k
   refused_then refusal.RowSpent same k = inl (then_is (λ a b. HasMetSpent m.machine.work.session.own (view_of a) (view_of b) key) k)
   refused_then _ same k = absurd k
 
 -- pages did not come all
-pub unwarmed_as : {D : Type 0} (story : D → Story) (key : ℕ) (m n : PagedMachine D) (why : Unwarmed) → ReadsWarm story key (Err why) m n → MeetsWarm story key (Err (refusal_of why)) m n
+pub unwarmed_as : {D : Type 0} (story : D → Story) (key : ℕ) (m n : PagedMachine D) (why : Unwarmed) → ReadsWarm story key (Err why) m n → MeetsWarm story key (Err (unserved_of why)) m n
 unwarmed_as story key m n stopped.RowSpent r = inr r
 unwarmed_as story key m n stopped.DiskFault r = r
 unwarmed_as story key m n (stopped.Damaged page) r = r
 unwarmed_as story key m n (stopped.Altered page) r = r
 
 -- the machine works on where they may come again
-pub ready_as : (A : Type 0) {D : Type 0} (story : D → Story) (n : PagedMachine D) (why : Unwarmed) → (goes_on {A = Unit {0}} (Err why) ≡ true → IsReady story n) → works_behind {A = A} (Err (refusal_of why)) ≡ true → IsReady story n
+pub ready_as : (A : Type 0) {D : Type 0} (story : D → Story) (n : PagedMachine D) (why : Unwarmed) → (goes_on {A = Unit {0}} (Err why) ≡ true → IsReady story n) → works_behind {A = A} (Err (unserved_of why)) ≡ true → IsReady story n
 ready_as A story n stopped.RowSpent ready e = ready refl
 ready_as A story n stopped.DiskFault ready e = absurd (true≢false (sym e))
 ready_as A story n (stopped.Damaged page) ready e = absurd (true≢false (sym e))
 ready_as A story n (stopped.Altered page) ready e = absurd (true≢false (sym e))
 
 -- a walk tells of no fault
-pub no_fault : (A : Type 0) (why : Refusal) (own key : ℕ) (v w : View) (same : Type 0) → Meets (Err (unmet.Refused why)) own v w key same → ◌≡◌ {A = Result A Refusal} (Err why) (Err refusal.DiskFault) → ⊥
-no_fault A why own key v w same k e = subst (λ (q : Refusal). Meets (Err (unmet.Refused q)) own v w key same) (why_is why refusal.DiskFault e) k
-  where
-    why_is : (p q : Refusal) → ◌≡◌ {A = Result A Refusal} (Err p) (Err q) → p ≡ q
-    why_is p q e = cc
+pub no_fault : (A : Type 0) (why : Refusal) (own key : ℕ) (v w : View) (same : Type 0) → Meets (Err (unmet.Refused why)) own v w key same → ◌≡◌ {A = Result A Unserved} (Err (unserved.Refused why)) (Err (unserved.Unanswered unanswered.DiskFault)) → ⊥
+no_fault A why own key v w same k e = absurd (cc)
 
 -- as another session's number names it
 pub met_as : (a b : ℕ) (v w : View) (key : ℕ) (x : Met) → a ≡ b → HasMet a v w key x → HasMet b v w key x

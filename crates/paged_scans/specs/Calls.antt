@@ -1,11 +1,13 @@
 -- Where in a run a scan stands, and what its steps answer.
+use Rattle.paged_calls.specs.engine_trait.Serving.{unserved_answer}
+use Rattle.paged_calls.specs.engine_trait.declared.unserved.Unanswered.{Unanswered}
 use Rattle.std.specs.Prelude.{◌≡◌, ◌⊎◌, ◌≤◌, ◌<◌, ◌-◌, ◌^◌, ℕ, suc, false, List, [], ◌∷◌, None, Result, Ok, Err}
 use Rattle.map_model.specs.Pairings.{is_last}
 use Rattle.map_model.specs.declared.call.Answer.{Answer}
 use Rattle.map_model.specs.declared.call.Answer.TheVariants as answer
 use Rattle.map_model.specs.declared.call.Call.{Call}
 use Rattle.map_model.specs.declared.call.Call.TheVariants as call
-use Rattle.map_model.specs.declared.call.Refusal.{Refusal}
+use Rattle.paged_calls.specs.engine_trait.declared.unserved.Unserved.{Unserved}
 use Rattle.paged_calls.specs.core_state.Openings.{Opening}
 use Rattle.paged_calls.specs.core_calls.Deeds.{Outcome, answered, asked}
 use Rattle.paged_calls.specs.core_calls.Fronts.{Done, outcomes}
@@ -34,13 +36,13 @@ pub record StandsAt (own : ℕ) (x : Scan) (g : Opening) (xs : List Done) : Type
   pub at : scan_from (outcomes xs) x.from ≡ x.at
   pub met : met_last (outcomes xs) ≡ x.met
 
-abbrev pub step_answer : Result Step Refusal → Answer
-step_answer (Ok (step.Pair key value)) = answer.Pair key value
-step_answer (Ok (step.More from)) = answer.More from
-step_answer (Ok step.End) = answer.End
-step_answer (Err why) = answer.Refused why
+abbrev pub step_answer : Result Step Unserved → Result Answer Unanswered
+step_answer (Ok (step.Pair key value)) = Ok (answer.Pair key value)
+step_answer (Ok (step.More from)) = Ok (answer.More from)
+step_answer (Ok step.End) = Ok answer.End
+step_answer (Err why) = unserved_answer why
 
 -- where it stands behind a step
-abbrev pub step_behind : Result Step Refusal → Scan → Scan
+abbrev pub step_behind : Result Step Unserved → Scan → Scan
 step_behind (Ok (step.Pair key value)) x = record x { at = suc key; met = suc x.met }
 step_behind _ x = x

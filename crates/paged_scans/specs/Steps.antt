@@ -1,8 +1,10 @@
 -- Words of private functions: what a scan did, leaf by leaf.
 use Rattle.std.specs.Prelude.{◌≡◌, ◌⊎◌, ◌≤◌, ◌<◌, ◌+◌, ◌*◌, ◌^◌, ℕ, false, ltb, List, [], length, Option, Some, None, Result, Ok, Err}
 use Rattle.map_model.specs.Lists.{any, keep}
-use Rattle.map_model.specs.declared.call.Refusal.{Refusal}
 use Rattle.map_model.specs.declared.call.Refusal.TheVariants as refusal
+use Rattle.paged_calls.specs.engine_trait.declared.unserved.Unanswered.TheVariants as unanswered
+use Rattle.paged_calls.specs.engine_trait.declared.unserved.Unserved.{Unserved}
+use Rattle.paged_calls.specs.engine_trait.declared.unserved.Unserved.TheVariants as unserved
 use Rattle.paged_calls.specs.core_state.Events as happening
 use Rattle.paged_calls.specs.core_state.Lists.{count_below}
 use Rattle.paged_calls.specs.core_state.Openings.{Opening}
@@ -34,8 +36,8 @@ use Rattle.paged_calls.specs.paged_desks.declared.machine.PagedMachine.{PagedMac
 use Rattle.paged_calls.specs.Steps.{FailsWarm, HasCome}
 
 -- no other session stands in the way
-abbrev pub NoOther : Refusal → Type 0
-NoOther (refusal.Conflict h) = ⊥
+abbrev pub NoOther : Unserved → Type 0
+NoOther (unserved.Refused (refusal.Conflict h)) = ⊥
 NoOther why = Unit {0}
 
 -- ## How many events
@@ -72,12 +74,12 @@ abbrev pub IsSpentWarm : {D : Type 0} → (story : D → Story) → (key : ℕ) 
 IsSpentWarm story key m n = Then story key (λ u k. HasMetSpent m.machine.work.session.own (view_of u) (view_of k) key) m n ⊎ (HasCome story key m n × IsSpent m n)
 
 -- by answer
-abbrev pub MeetsWarm : {D : Type 0} → (story : D → Story) → (key : ℕ) → Result Met Refusal → (m n : PagedMachine D) → Type 0
+abbrev pub MeetsWarm : {D : Type 0} → (story : D → Story) → (key : ℕ) → Result Met Unserved → (m n : PagedMachine D) → Type 0
 MeetsWarm story key (Ok x) m n = Then story key (λ u k. HasMet m.machine.work.session.own (view_of u) (view_of k) key x) m n
-MeetsWarm story key (Err (refusal.Conflict h)) m n = Then story key (λ u k. HasMetConflict m.machine.work.session.own (view_of u) (view_of k) key h) m n
-MeetsWarm story key (Err refusal.RowSpent) m n = IsSpentWarm story key m n
-MeetsWarm story key (Err refusal.DiskFault) m n = FailsWarm story m n
-MeetsWarm story key (Err (refusal.Damaged area place)) m n = FailsWarm story m n × StandsNowhere story m
+MeetsWarm story key (Err (unserved.Refused (refusal.Conflict h))) m n = Then story key (λ u k. HasMetConflict m.machine.work.session.own (view_of u) (view_of k) key h) m n
+MeetsWarm story key (Err (unserved.Refused refusal.RowSpent)) m n = IsSpentWarm story key m n
+MeetsWarm story key (Err (unserved.Unanswered unanswered.DiskFault)) m n = FailsWarm story m n
+MeetsWarm story key (Err (unserved.Unanswered (unanswered.Damaged place))) m n = FailsWarm story m n × StandsNowhere story m
 MeetsWarm story key (Err why) m n = ⊥
 
 -- ## From leaf to leaf
@@ -116,11 +118,11 @@ abbrev pub IsOver : {D : Type 0} → (story : D → Story) → (from to : ℕ) �
 IsOver story from to m n = ((at : ℕ) × (to < at) × HasPassed story from at m n) ⊎ ((key : ℕ) × (value : ℕ) × (to < key) × IsNext story from to key value m n)
 
 -- by answer
-abbrev pub Nexts : {D : Type 0} → (story : D → Story) → (from to : ℕ) → Result (Option (ℕ × ℕ)) Refusal → (m n : PagedMachine D) → Type 0
+abbrev pub Nexts : {D : Type 0} → (story : D → Story) → (from to : ℕ) → Result (Option (ℕ × ℕ)) Unserved → (m n : PagedMachine D) → Type 0
 Nexts story from to (Ok (Some pair)) m n = (pair.0 ≤ to) × IsNext story from to pair.0 pair.1 m n
 Nexts story from to (Ok None) m n = IsOver story from to m n
-Nexts story from to (Err (refusal.Conflict h)) m n = Behinds story from to (λ at u k. Then story at (λ a b. HasMetConflict u.machine.work.session.own (view_of a) (view_of b) at h) u k) m n
-Nexts story from to (Err refusal.RowSpent) m n = Behinds story from to (λ at u k. IsSpentWarm story at u k) m n
-Nexts story from to (Err refusal.DiskFault) m n = Behinds story from to (λ at u k. FailsWarm story u k) m n
-Nexts story from to (Err (refusal.Damaged area place)) m n = Behinds story from to (λ at u k. FailsWarm story u k × StandsNowhere story u) m n
+Nexts story from to (Err (unserved.Refused (refusal.Conflict h))) m n = Behinds story from to (λ at u k. Then story at (λ a b. HasMetConflict u.machine.work.session.own (view_of a) (view_of b) at h) u k) m n
+Nexts story from to (Err (unserved.Refused refusal.RowSpent)) m n = Behinds story from to (λ at u k. IsSpentWarm story at u k) m n
+Nexts story from to (Err (unserved.Unanswered unanswered.DiskFault)) m n = Behinds story from to (λ at u k. FailsWarm story u k) m n
+Nexts story from to (Err (unserved.Unanswered (unanswered.Damaged place))) m n = Behinds story from to (λ at u k. FailsWarm story u k × StandsNowhere story u) m n
 Nexts story from to (Err why) m n = ⊥

@@ -2,8 +2,9 @@
 ghost use Rattle.std.specs.Prelude.{◌≡◌, ◌⊎◌, ◌↔◌, ◌≤◌, ◌<◌, ◌-◌, ◌^◌, true, false, Err, IfErr};
 ghost use Rattle.map_model.specs.declared.call.Call.TheVariants as call;
 ghost use Rattle.map_model.specs.declared.call.Refusal.{Refusal};
+ghost use Rattle.paged_calls.specs.engine_trait.declared.unserved.Unserved.{Unserved};
+ghost use Rattle.paged_calls.specs.engine_trait.Serving.{MayRefuse, broken, disk_fault};
 ghost use Rattle.lean_disk.specs.Faults.{HasCause};
-ghost use Rattle.paged_calls.specs.engine_trait.Calls.{MayCome};
 ghost use Rattle.paged_calls.specs.session_desks.Parts.{AreAsMany, SeatFits, Works};
 ghost use Rattle.paged_calls.specs.paged_desks.Machines.{IsReady};
 ghost use Rattle.paged_calls.specs.paged_desks.Calls.{CallDoes, EndsWork, works_behind};
@@ -11,8 +12,7 @@ ghost use Rattle.paged_scans.specs.Calls.{IsIn, StandsAt, step_answer, step_behi
 
 use crate::laws::laws;
 use crate::nexts::next;
-use map_model::Refusal;
-use paged_calls::{PagedMachine, Stages};
+use paged_calls::{PagedMachine, Stages, Unserved};
 use row_ends::call_refusal;
 
 /// How many pairs a scan tells, before it stops.
@@ -54,21 +54,21 @@ impl Scan {
 
 /// The next step of a scan of the session whose turn it is. A step takes the rows of the entries that it meets, shared, tombstones' too, and behind the last
 /// pair those up to the next live one in its leaf, whatever its key is. A scan whose first key is above the last one takes none.
-pub fn scan_on<D: Stages>(machine: &mut PagedMachine<D>, scan: &mut Scan) -> Result<Step, Refusal>
+pub fn scan_on<D: Stages>(machine: &mut PagedMachine<D>, scan: &mut Scan) -> Result<Step, Unserved>
     requires ready { Works machine.old.machine → IsReady D.story machine.old }
     requires within { IsIn scan.old }
     ensures ready { Works machine.new.machine → IsReady D.story machine.new }
     ensures fits { SeatFits machine.old.machine → SeatFits machine.new.machine }
     ensures does { Works machine.old.machine → CallDoes D.story (StandsAt machine.old.machine.work.session.own scan.old) machine.old.machine.work.session.own (call.Scan scan.old.from scan.old.to) (step_answer result) machine.old machine.new }
     ensures behind { (scan.new ≡ step_behind result scan.old) × IsIn scan.new }
-    ensures same { (result ≡ Err Refusal.Broken) ⊎ (result ≡ Err Refusal.NoTransaction) → machine.new ≡ machine.old }
+    ensures same { (result ≡ Err broken) ⊎ (result ≡ Err (Unserved.Refused Refusal.NoTransaction)) → machine.new ≡ machine.old }
     ensures session { AreAsMany machine.old.machine machine.new.machine }
     ensures turn { Works machine.new.machine → machine.new.machine.work.session.own ≡ machine.old.machine.work.session.own }
     ensures works { machine.new.machine.work.session.works ≡ works_behind result }
-    ensures come { IfErr result (λ why. MayCome machine.old.machine.work.session.workers why ⊎ EndsWork why) }
+    ensures come { IfErr result (λ why. MayRefuse machine.old.machine.work.session.workers why ⊎ EndsWork why) }
 
-    ensures cause_broken { (result ≡ Err Refusal.Broken) ↔ (machine.old.machine.work.session.works ≡ false) }
-    ensures cause_disk_fault { HasCause (D.faults machine.old.machine.work.disk) (D.faults machine.new.machine.work.disk) (result ≡ Err Refusal.DiskFault) }
+    ensures cause_broken { (result ≡ Err broken) ↔ (machine.old.machine.work.session.works ≡ false) }
+    ensures cause_disk_fault { HasCause (D.faults machine.old.machine.work.disk) (D.faults machine.new.machine.work.disk) (result ≡ Err disk_fault) }
 {
     laws();
     if let Some(why) = call_refusal(&machine.machine.work.session) {

@@ -1,32 +1,16 @@
 // The walk in one leaf, wherever the pages of its way are.
 ghost use Rattle.std.specs.Prelude.{◌≡◌, ◌<◌, ◌-◌, ◌^◌, true, Err, IfErr, IsErrAnd, OnOk};
 ghost use Rattle.lean_disk.specs.Faults.{HasCause};
-ghost use Rattle.map_model.specs.declared.call.Refusal.{Refusal};
+ghost use Rattle.paged_calls.specs.engine_trait.Serving.{disk_fault};
 ghost use Rattle.row_scans.specs.Meets.{IsButRows, IsCut, IsNoConflict, Meets};
 ghost use Rattle.paged_calls.specs.paged_rows.Paged.{IsWarm};
 ghost use Rattle.paged_calls.specs.paged_desks.Calls.{IsBeside, works_behind};
 ghost use Rattle.paged_calls.specs.paged_desks.Machines.{IsReady, pages, view_of};
-ghost use Rattle.paged_calls.specs.Tests.{refusal_of};
 ghost use Rattle.paged_scans.specs.Steps.{MeetsWarm, NoOther};
 
 use crate::laws::laws;
-use map_model::Refusal;
-use paged_calls::{PagedMachine, Stages, Unwarmed};
+use paged_calls::{PagedMachine, Stages, Unserved, unserved_of};
 use row_scans::{Met, Unmet, meet};
-
-// Why the pages of a way did not come, as a scan is answered.
-fn refusal_of(why: Unwarmed) -> Refusal
-    ensures { result ≡ refusal_of why }
-{
-    match why {
-        Unwarmed::RowSpent => Refusal::RowSpent,
-        Unwarmed::DiskFault => Refusal::DiskFault,
-        Unwarmed::Damaged { page } | Unwarmed::Altered { page } => Refusal::Damaged {
-            area: 1,
-            place: u64::from(page),
-        },
-    }
-}
 
 // Walks from the key on in its leaf, unless a page of its way is not hot.
 fn walk<D: Stages>(machine: &mut PagedMachine<D>, key: u64) -> Result<Met, Unmet>
@@ -53,7 +37,7 @@ fn walk<D: Stages>(machine: &mut PagedMachine<D>, key: u64) -> Result<Met, Unmet
 }
 
 // Walks from the key on in its leaf; where a page of its way is not hot, behind the coming of these pages.
-pub(crate) fn walk_warm<D: Stages>(machine: &mut PagedMachine<D>, key: u64) -> Result<Met, Refusal>
+pub(crate) fn walk_warm<D: Stages>(machine: &mut PagedMachine<D>, key: u64) -> Result<Met, Unserved>
     requires ready { IsReady D.story machine.old }
     requires open_is { machine.old.machine.work.session.is_open ≡ true }
     requires key { key < 2 ^ 64 - 1 }
@@ -63,20 +47,20 @@ pub(crate) fn walk_warm<D: Stages>(machine: &mut PagedMachine<D>, key: u64) -> R
     ensures open_is { OnOk result (machine.new.machine.work.session.is_open ≡ true) }
     ensures only { machine.old.machine.work.session.workers ≡ 1 → IfErr result NoOther }
 
-    ensures cause_disk_fault { HasCause (D.faults machine.old.machine.work.disk) (D.faults machine.new.machine.work.disk) (result ≡ Err Refusal.DiskFault) }
+    ensures cause_disk_fault { HasCause (D.faults machine.old.machine.work.disk) (D.faults machine.new.machine.work.disk) (result ≡ Err disk_fault) }
 {
     laws();
     match walk(machine, key) {
         Ok(met) => return Ok(met),
-        Err(Unmet::Refused(why)) => return Err(why),
+        Err(Unmet::Refused(why)) => return Err(Unserved::Refused(why)),
         Err(Unmet::Cold(_)) => {}
     }
     if let Err(why) = machine.warm(key) {
-        return Err(refusal_of(why));
+        return Err(unserved_of(why));
     }
     match walk(machine, key) {
         Ok(met) => Ok(met),
-        Err(Unmet::Refused(why)) => Err(why),
+        Err(Unmet::Refused(why)) => Err(Unserved::Refused(why)),
         // The way is hot.
         Err(Unmet::Cold(_)) => unreachable!(),
     }

@@ -9,7 +9,7 @@ use crate::wrong::Wrong;
 use lean_disk::{Choice, MemDisk};
 use map_model::Refusal;
 use page_model::limits::TRANSACTION_CHANGES;
-use quiet_engine::Engine;
+use quiet_engine::{Engine, Unserved};
 use rand_pcg::Pcg32;
 use std::alloc::Global;
 
@@ -24,7 +24,7 @@ pub struct Walk {
 /// What was seen, or at which step what was wrong.
 pub type Seen = Result<Counts, (u32, Wrong)>;
 
-fn same<T: PartialEq + Copy>(answer: Result<T, Refusal>, wanted: T) -> Result<(), Wrong> {
+fn same<T: PartialEq + Copy>(answer: Result<T, Unserved>, wanted: T) -> Result<(), Wrong> {
     match answer {
         Ok(answer) if answer == wanted => Ok(()),
         Ok(_) => Err(Wrong::Answer),
@@ -77,7 +77,10 @@ impl Walk {
         if self.plain.changed as usize != TRANSACTION_CHANGES {
             return Ok(());
         }
-        if !matches!(self.engine.put(slot.key(), 0), Err(Refusal::TooLong)) {
+        if !matches!(
+            self.engine.put(slot.key(), 0),
+            Err(Unserved::Refused(Refusal::TooLong))
+        ) {
             return Err(Wrong::Refused);
         }
         self.commit(alloc)?;

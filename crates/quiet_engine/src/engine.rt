@@ -4,8 +4,7 @@ ghost use Rattle.page_model.specs.Limits.{tombstone};
 ghost use Rattle.paged_calls.specs.paged_desks.Calls.{works_behind};
 
 use lean_disk::MemDisk;
-use map_model::Refusal;
-use paged_calls::{Machine, PagedMachine, Work};
+use paged_calls::{Machine, PagedMachine, Unserved, Work};
 use paged_engine::{Opened, Size, Unopened, open};
 use quiet_disk::QuietDisk;
 use std::alloc::Global;
@@ -67,14 +66,14 @@ impl Engine {
     }
 
     /// The number of a transaction that begins, behind a sync if one is due.
-    pub fn begin(&mut self, is_long: bool) -> Result<u64, Refusal>
+    pub fn begin(&mut self, is_long: bool) -> Result<u64, Unserved>
         ensures { self.new ≡ works_behind result }
     {
         paged_ends::begin(&mut self.machine, is_long)
     }
 
     /// The number of the end.
-    pub fn commit(&mut self) -> Result<u64, Refusal>
+    pub fn commit(&mut self) -> Result<u64, Unserved>
         ensures { self.new ≡ works_behind result }
     {
         match paged_ends::commit(&mut self.machine) {
@@ -83,20 +82,20 @@ impl Engine {
         }
     }
 
-    pub fn sync(&mut self) -> Result<u64, Refusal>
+    pub fn sync(&mut self) -> Result<u64, Unserved>
         ensures { self.new ≡ works_behind result }
     {
         paged_ends::sync(&mut self.machine)
     }
 
-    pub fn get(&mut self, key: u64) -> Result<Option<u64>, Refusal>
+    pub fn get(&mut self, key: u64) -> Result<Option<u64>, Unserved>
         requires { key < 2 ^ 64 - 1 }
         ensures { self.new ≡ works_behind result }
     {
         paged_calls::get(&mut self.machine, key)
     }
 
-    pub fn put(&mut self, key: u64, value: u64) -> Result<Option<u64>, Refusal>
+    pub fn put(&mut self, key: u64, value: u64) -> Result<Option<u64>, Unserved>
         requires key { key < 2 ^ 64 - 1 }
         requires value { value < tombstone }
         ensures { self.new ≡ works_behind result }
@@ -104,7 +103,7 @@ impl Engine {
         paged_calls::put(&mut self.machine, key, value)
     }
 
-    pub fn del(&mut self, key: u64) -> Result<Option<u64>, Refusal>
+    pub fn del(&mut self, key: u64) -> Result<Option<u64>, Unserved>
         requires { key < 2 ^ 64 - 1 }
         ensures { self.new ≡ works_behind result }
     {

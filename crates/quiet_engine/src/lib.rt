@@ -4,3 +4,6 @@
 mod engine;
 
 pub use engine::Engine;
+
+// Passed on to the crates above.
+pub use paged_calls::Unserved;

@@ -44,7 +44,7 @@ same_then x y z p q = (q.0 ∙ p.0, q.1 ∙ p.1, q.2 ∙ p.2)
 pub none_lost_by_del : (k : Unmade) (own : ℕ) (v w : View) (key : ℕ) (was is : Log) (old new : Story) (same same_disk : Type 0) → Dels (Err k) own v w key was is old new same same_disk → IsLost k → ⊥
 none_lost_by_del unmade.Lost own v w key was is old new same same_disk d lost = d
 none_lost_by_del (unmade.Cold cold) own v w key was is old new same same_disk d lost = lost
-none_lost_by_del (unmade.Refused why) own v w key was is old new same same_disk d lost = lost
+none_lost_by_del (unmade.Unserved why) own v w key was is old new same same_disk d lost = lost
 
 -- ## No value
 

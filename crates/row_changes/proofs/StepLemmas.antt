@@ -3,6 +3,9 @@ use Rattle.std.proofs.Common.{◌≡◌, ◌≤◌, ◌<◌, ◌^◌, ℕ, Bool,
 use Rattle.std.proofs.lemmas.Bool.{leb-false, leb-true}
 use Rattle.map_model.specs.declared.call.Refusal.{Refusal}
 use Rattle.map_model.specs.declared.call.Refusal.TheVariants as refusal
+use Rattle.session_state.specs.engine_trait.declared.unserved.Unanswered.TheVariants as unanswered
+use Rattle.session_state.specs.engine_trait.declared.unserved.Unserved.{Unserved}
+use Rattle.session_state.specs.engine_trait.declared.unserved.Unserved.TheVariants as unserved
 use Rattle.session_state.specs.engine_trait.Refusals.{clock_refusal}
 use Rattle.lean_disk.specs.Faults.{HasCause}
 
@@ -31,12 +34,12 @@ clock_at_end clock why e = go (leb (2 ^ 62) clock) refl e
     go false q r = absurd (cc)
 
 -- the answer of a fault
-abbrev pub the_fault : (A : Type 0) → Result A Refusal
-the_fault A = Err refusal.DiskFault
+abbrev pub the_fault : (A : Type 0) → Result A Unserved
+the_fault A = Err (unserved.Unanswered unanswered.DiskFault)
 
 -- whoever is refused by it has met no fault
-pub not_fault : (A : Type 0) (clock : ℕ) (why : Refusal) → clock_refusal clock None ≡ Some why → (Err why ≡ the_fault A) → ⊥
-not_fault A clock why e = subst (λ k. (Err k ≡ the_fault A) → ⊥) (sym (clock_at_end clock why e).is) (λ p. absurd (cc))
+pub not_fault : (A : Type 0) (clock : ℕ) (why : Refusal) → clock_refusal clock None ≡ Some why → (Err (unserved.Refused why) ≡ the_fault A) → ⊥
+not_fault A clock why e = subst (λ k. (Err (unserved.Refused k) ≡ the_fault A) → ⊥) (sym (clock_at_end clock why e).is) (λ p. absurd (cc))
 
 pub ok_calm : {A E : Type 0} (a : A) (why : E) → Ok a ≡ Err why → ⊥
 ok_calm a why e = absurd (cc)
@@ -46,8 +49,8 @@ pub cause_from : (a b c : ℕ) (P Q : Type 0) → b ≡ a → HasCause b c P →
 cause_from a b c P Q same h back on = subst (λ n. HasCause n c Q) same (record { later = h.later; cause = λ q. h.cause (back q); calm = λ no. h.calm (λ p. no (on p)) })
 
 -- a refusal, as an answer
-abbrev pub refused_by : (A : Type 0) → Refusal → Result A Refusal
-refused_by A why = Err why
+abbrev pub refused_as : (A : Type 0) → Refusal → Result A Unserved
+refused_as A why = Err (unserved.Refused why)
 
 -- two calls without a fault are one
 pub calm_then : (a b c : ℕ) (P Q R : Type 0) → HasCause a b P → (P → ⊥) → HasCause b c Q → (Q → ⊥) → (R → ⊥) → HasCause a c R

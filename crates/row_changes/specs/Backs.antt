@@ -1,6 +1,8 @@
 -- What the putting back of a change does, by answer.
 use Rattle.std.specs.Prelude.{◌≡◌, ◌++◌, ℕ, suc, true, [], ◌∷◌, length, Some, None, Result, Ok, Err}
 use Rattle.map_model.specs.declared.call.Refusal.TheVariants as refusal
+use Rattle.session_state.specs.engine_trait.declared.unserved.Unanswered.TheVariants as unanswered
+use Rattle.session_state.specs.engine_trait.declared.unserved.Unserved.TheVariants as unserved
 use Rattle.session_state.specs.core_state.Events as happening
 use Rattle.session_state.specs.core_state.Needs.{may}
 use Rattle.session_state.specs.core_state.Steps.{happens}
@@ -64,8 +66,8 @@ IsWarmBack v x = (u : Undone) → newest_of x.undo ≡ Some u → IsWarm v u.key
 -- by answer
 abbrev pub StepsBack : Result (Unit {0}) Unmade → (v w : View) → (x y : Session) → (was is : Log) → (old new : Story) → (same : Type 0) → Type 0
 StepsBack (Ok u) v w x y was is old new same = IsPutBack v w x y was is old new
-StepsBack (Err (unmade.Refused refusal.RowSpent)) v w x y was is old new same = IsSpent v w × same
-StepsBack (Err (unmade.Refused refusal.DiskFault)) v w x y was is old new same = KeepsLog x.own was old new
+StepsBack (Err (unmade.Unserved (unserved.Refused refusal.RowSpent))) v w x y was is old new same = IsSpent v w × same
+StepsBack (Err (unmade.Unserved (unserved.Unanswered unanswered.DiskFault))) v w x y was is old new same = KeepsLog x.own was old new
 StepsBack (Err (unmade.Cold cold)) v w x y was is old new same = IsColdBack cold.page v w x × same
 StepsBack (Err unmade.Lost) v w x y was is old new same = IsLostBack v w x × same
 StepsBack (Err why) v w x y was is old new same = ⊥

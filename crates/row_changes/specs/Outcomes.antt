@@ -1,6 +1,8 @@
 -- What a try to put does behind the taking of its row, by answer.
 use Rattle.std.specs.Prelude.{◌≡◌, ℕ, List, Result, Ok, Err}
 use Rattle.map_model.specs.declared.call.Refusal.TheVariants as refusal
+use Rattle.session_state.specs.engine_trait.declared.unserved.Unanswered.TheVariants as unanswered
+use Rattle.session_state.specs.engine_trait.declared.unserved.Unserved.TheVariants as unserved
 use Rattle.lean_disk.specs.Story.{Story}
 use Rattle.session_state.specs.rows_trait.declared.view.View.{View}
 use Rattle.session_state.specs.worker_log.Logs.{Log}
@@ -24,7 +26,7 @@ pub record HasNoRoom (v w : View) (frames key : ℕ) (path : List ℕ) : Type 0 
 abbrev pub Tries : Result Tried Unmade → (v w : View) → (key value : ℕ) → (x y : Session) → (was is : Log) → (old new : Story) → (path : List ℕ) → (same broken : Type 0) → Type 0
 Tries (Ok (tried.Done before)) v w key value x y was is old new path same broken = IsChanged x.own v w key value before was is old new
 Tries (Ok tried.Full) v w key value x y was is old new path same broken = HasNoRoom v w x.frames key path × same
-Tries (Err (unmade.Refused refusal.RowSpent)) v w key value x y was is old new path same broken = IsSpent v w × same
-Tries (Err (unmade.Refused refusal.DiskFault)) v w key value x y was is old new path same broken = KeepsLog x.own was old new × broken
+Tries (Err (unmade.Unserved (unserved.Refused refusal.RowSpent))) v w key value x y was is old new path same broken = IsSpent v w × same
+Tries (Err (unmade.Unserved (unserved.Unanswered unanswered.DiskFault))) v w key value x y was is old new path same broken = KeepsLog x.own was old new × broken
 Tries (Err (unmade.Cold cold)) v w key value x y was is old new path same broken = HasMetCold key cold.page v w × same
 Tries (Err why) v w key value x y was is old new path same broken = ⊥

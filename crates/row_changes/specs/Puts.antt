@@ -1,8 +1,8 @@
 -- What a put does behind the taking of its row.
 use Rattle.std.specs.Prelude.{◌≡◌, ◌<◌, ◌%◌, ◌-◌, ◌^◌, ℕ, suc, Bool, ◌++◌, true, false, [], ◌∷◌, length, Option, Result, Ok, Err}
 use Rattle.page_model.specs.Limits.{transaction_changes}
-use Rattle.map_model.specs.declared.call.Refusal.{Refusal}
-use Rattle.map_model.specs.declared.call.Refusal.TheVariants as refusal
+use Rattle.session_state.specs.engine_trait.declared.unserved.Unserved.{Unserved}
+use Rattle.session_state.specs.engine_trait.declared.unserved.Unserved.TheVariants as unserved
 use Rattle.session_state.specs.core_state.Events as happening
 use Rattle.session_state.specs.core_state.Needs.{is_held_by, may, value_in}
 use Rattle.session_state.specs.core_calls.Room.{room_takes}
@@ -46,18 +46,17 @@ pub record IsChanged (own : ℕ) (v w : View) (key value : ℕ) (before : Option
   pub stands : StagesOn own entry was is old new
   pub keeps : KeepsLog own was old new
 
--- whether the engine works behind this refusal
-abbrev pub goes_on : Refusal → Bool
-goes_on refusal.Broken = false
-goes_on refusal.DiskFault = false
-goes_on _ = true
+-- whether the engine works where a call was not served for this
+abbrev pub goes_on : Unserved → Bool
+goes_on (unserved.Refused why) = true
+goes_on (unserved.Unanswered why) = false
 
 -- and behind this answer
-abbrev pub works_after : {A : Type 0} → Result A Refusal → Bool
+abbrev pub works_after : {A : Type 0} → Result A Unserved → Bool
 works_after (Ok a) = true
 works_after (Err why) = goes_on why
 
 -- and where a page of the way may not be hot
 abbrev pub works_behind : {A : Type 0} → Result A Unmade → Bool
-works_behind (Err (unmade.Refused why)) = goes_on why
+works_behind (Err (unmade.Unserved why)) = goes_on why
 works_behind _ = true

@@ -1,7 +1,7 @@
 // A change that an abort puts back.
 ghost use Rattle.std.specs.Prelude.{◌≡◌, ◌<◌, ◌-◌, ◌^◌, Err, IsErrAnd, Some, true, length};
 ghost use Rattle.lean_disk.specs.Faults.{HasCause};
-ghost use Rattle.map_model.specs.declared.call.Refusal.{Refusal};
+ghost use Rattle.session_state.specs.engine_trait.Serving.{disk_fault};
 ghost use Rattle.row_changes.specs.Backs.{IsWarmBack, StepsBack};
 ghost use Rattle.session_state.specs.Holds.{Holds, IsSameSession};
 ghost use Rattle.row_changes.specs.Puts.{works_behind};
@@ -12,7 +12,8 @@ ghost use Rattle.session_state.specs.Undo.{newest_of};
 use crate::ways::{Cold, Unmade};
 use map_model::Refusal;
 use session_state::{
-    Path, Put, Rows, Session, Stages, Undone, Unstaged, Work, leaf_put_back, next_fits,
+    Path, Put, Rows, Session, Stages, Unanswered, Undone, Unserved, Unstaged, Work, leaf_put_back,
+    next_fits,
 };
 
 // The newest change that is left.
@@ -47,7 +48,7 @@ pub fn put_back<R: Rows, D: Stages>(
     ensures cause_cold { IsWarmBack (R.view seat.old) work.old.session → IsErrAnd result IsCut → ⊥ }
     // A page that was read again may have lost entries.
     ensures cause_lost { (R.view seat.old).given.faithful ≡ true → IsErrAnd result IsLost → ⊥ }
-    ensures cause_disk_fault { HasCause (D.faults work.old.disk) (D.faults work.new.disk) (result ≡ Err (Unmade.Refused Refusal.DiskFault)) }
+    ensures cause_disk_fault { HasCause (D.faults work.old.disk) (D.faults work.new.disk) (result ≡ Err (Unmade.Unserved disk_fault)) }
 {
     session_state::every_room();
     session_state::every_low();
@@ -75,11 +76,11 @@ pub fn put_back<R: Rows, D: Stages>(
         Put::RowSpent { row: _ } => {
             work.session.is_half_aborted = is_half_aborted;
             rows.versions(seat);
-            Err(Unmade::Refused(Refusal::RowSpent))
+            Err(Unmade::Unserved(Unserved::Refused(Refusal::RowSpent)))
         }
         Put::Unstaged(Unstaged::DiskFault) => {
             work.session.works = false;
-            Err(Unmade::Refused(Refusal::DiskFault))
+            Err(Unmade::Unserved(Unserved::Unanswered(Unanswered::DiskFault)))
         }
         Put::Cold(page) => {
             work.session.is_half_aborted = is_half_aborted;

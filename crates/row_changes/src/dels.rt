@@ -1,6 +1,6 @@
 // The deleting of a key behind its lock.
 ghost use Rattle.std.specs.Prelude.{◌≡◌, Err, IsErrAnd, true};
-ghost use Rattle.map_model.specs.declared.call.Refusal.{Refusal};
+ghost use Rattle.session_state.specs.engine_trait.Serving.{disk_fault};
 ghost use Rattle.lean_disk.specs.Faults.{HasCause};
 ghost use Rattle.session_state.specs.Holds.{Holds, IsSameSession};
 ghost use Rattle.row_changes.specs.Dels.{Dels};
@@ -10,7 +10,9 @@ ghost use Rattle.row_changes.specs.declared.ways.Unmade.{Unmade};
 
 use crate::ways::{Cold, Unmade};
 use map_model::Refusal;
-use session_state::{Del, Path, Rows, Stages, Unstaged, Work, leaf_del, next_fits};
+use session_state::{
+    Del, Path, Rows, Stages, Unanswered, Unserved, Unstaged, Work, leaf_del, next_fits,
+};
 
 /// The value of the key, whose row is held, is taken away, if it has one.
 pub fn del_held<R: Rows, D: Stages>(
@@ -30,7 +32,7 @@ pub fn del_held<R: Rows, D: Stages>(
     ensures works { work.new.session.works ≡ works_behind result }
 
     ensures cause_cold { IsWarm (R.view seat.old) key → IsErrAnd result IsCut → ⊥ }
-    ensures cause_disk_fault { HasCause (D.faults work.old.disk) (D.faults work.new.disk) (result ≡ Err (Unmade.Refused Refusal.DiskFault)) }
+    ensures cause_disk_fault { HasCause (D.faults work.old.disk) (D.faults work.new.disk) (result ≡ Err (Unmade.Unserved disk_fault)) }
 {
     session_state::every_room();
     session_state::every_low();
@@ -45,11 +47,11 @@ pub fn del_held<R: Rows, D: Stages>(
         Del::Absent => Ok(None),
         Del::RowSpent { row: _ } => {
             rows.versions(seat);
-            Err(Unmade::Refused(Refusal::RowSpent))
+            Err(Unmade::Unserved(Unserved::Refused(Refusal::RowSpent)))
         }
         Del::Unstaged(Unstaged::DiskFault) => {
             work.session.works = false;
-            Err(Unmade::Refused(Refusal::DiskFault))
+            Err(Unmade::Unserved(Unserved::Unanswered(Unanswered::DiskFault)))
         }
         Del::Cold(page) => Err(Unmade::Cold(Cold { page })),
         // The log has a block, no number is above the clock, and nobody else steps.

@@ -19,4 +19,4 @@ pub use dels::del_held;
 pub use puts::{Tried, put_in_leaf};
 pub use reads::read_held;
 pub use taking::take_row;
-pub use ways::{Cold, Unmade, refusal_of};
+pub use ways::{Cold, Unmade, unserved_of};

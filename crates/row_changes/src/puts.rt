@@ -2,7 +2,7 @@
 ghost use Rattle.std.specs.Prelude.{◌≡◌, ◌<◌, [], Err, IsErrAnd, true, false};
 ghost use Rattle.page_model.specs.Limits.{tombstone};
 ghost use Rattle.page_model.specs.Tree.{word_or};
-ghost use Rattle.map_model.specs.declared.call.Refusal.{Refusal};
+ghost use Rattle.session_state.specs.engine_trait.Serving.{disk_fault};
 ghost use Rattle.lean_disk.specs.Faults.{HasCause};
 ghost use Rattle.session_state.specs.Holds.{Holds, IsSameSession};
 ghost use Rattle.row_changes.specs.Outcomes.{Tries};
@@ -13,7 +13,9 @@ ghost use Rattle.row_changes.specs.declared.ways.Unmade.{Unmade};
 use crate::reads::value_of;
 use crate::ways::{Cold, Unmade};
 use map_model::Refusal;
-use session_state::{Path, Put, Rows, Stages, TOMBSTONE, Unstaged, Work, leaf_put, next_fits};
+use session_state::{
+    Path, Put, Rows, Stages, TOMBSTONE, Unanswered, Unserved, Unstaged, Work, leaf_put, next_fits,
+};
 
 // The word that a key had, which is a tombstone's where it had none.
 fn word_of(before: Option<u64>) -> u64
@@ -53,7 +55,7 @@ pub fn put_in_leaf<R: Rows, D: Stages>(
     ensures works { work.new.session.works ≡ works_behind result }
 
     ensures cause_cold { IsWarm (R.view seat.old) key → IsErrAnd result IsCut → ⊥ }
-    ensures cause_disk_fault { HasCause (D.faults work.old.disk) (D.faults work.new.disk) (result ≡ Err (Unmade.Refused Refusal.DiskFault)) }
+    ensures cause_disk_fault { HasCause (D.faults work.old.disk) (D.faults work.new.disk) (result ≡ Err (Unmade.Unserved disk_fault)) }
 {
     session_state::every_room();
     session_state::every_low();
@@ -67,11 +69,11 @@ pub fn put_in_leaf<R: Rows, D: Stages>(
         Put::Full { row: _ } => Ok(Tried::Full),
         Put::RowSpent { row: _ } => {
             rows.versions(seat);
-            Err(Unmade::Refused(Refusal::RowSpent))
+            Err(Unmade::Unserved(Unserved::Refused(Refusal::RowSpent)))
         }
         Put::Unstaged(Unstaged::DiskFault) => {
             work.session.works = false;
-            Err(Unmade::Refused(Refusal::DiskFault))
+            Err(Unmade::Unserved(Unserved::Unanswered(Unanswered::DiskFault)))
         }
         Put::Cold(page) => Err(Unmade::Cold(Cold { page })),
         // The log has a block, no number is above the clock, and nobody else steps.

@@ -2,7 +2,7 @@
 ghost use Rattle.std.specs.Prelude.{◌≡◌};
 ghost use Rattle.row_changes.specs.Ways.{IsCut, IsLost};
 
-use map_model::Refusal;
+use session_state::Unserved;
 
 /// The page of the key's way that is not hot, by its number: bring it into a frame, and go to the leaf again.
 #[derive(Clone, Copy)]
@@ -18,18 +18,18 @@ pub enum Unmade {
     /// The key of the change that was to be put back has no entry in its leaf, and nothing was done: the leaf was read again from a device that
     /// gave other entries than it took. Behind rows that began faithful this never comes.
     Lost,
-    /// The call is refused.
-    Refused(Refusal),
+    /// The call is refused, or a device failed.
+    Unserved(Unserved),
 }
 
-/// Why it was refused, where the way is hot and no entry is lost.
-pub fn refusal_of(unmade: Unmade) -> Refusal
+/// Why the call was not served, where the way is hot and no entry is lost.
+pub fn unserved_of(unmade: Unmade) -> Unserved
     requires cut { IsCut unmade → ⊥ }
     requires lost { IsLost unmade → ⊥ }
-    ensures { unmade ≡ Unmade.Refused result }
+    ensures { unmade ≡ Unmade.Unserved result }
 {
     match unmade {
-        Unmade::Refused(why) => why,
+        Unmade::Unserved(why) => why,
         Unmade::Cold(_) => unreachable!(),
         Unmade::Lost => unreachable!(),
     }

@@ -4,6 +4,8 @@ use Rattle.std.proofs.lemmas.Bool.{and_from, cases_lt, le-leb, leb-false, lt-ltb
 use Rattle.map_model.specs.declared.call.Call.TheVariants as call
 use Rattle.map_model.specs.declared.call.Refusal.{Refusal}
 use Rattle.map_model.specs.declared.call.Refusal.TheVariants as refusal
+use Rattle.session_state.specs.engine_trait.declared.unserved.Unanswered.TheVariants as unanswered
+use Rattle.session_state.specs.engine_trait.declared.unserved.Unserved.TheVariants as unserved
 use Rattle.map_model.specs.Lists.{Has, upd}
 use Rattle.rfa_model.specs.Reaches.{least}
 use Rattle.rfa_model.specs.Stamps.{debt_at_begin}
@@ -27,8 +29,10 @@ use Rattle.session_state.specs.rows_trait.declared.view.View.{View}
 use Rattle.session_state.specs.lean_proto.Controls as controls
 use Rattle.session_state.specs.engine_trait.Calls.{IsTold}
 use Rattle.session_state.specs.engine_trait.Refusals.{log_refusal, refusal_in}
+use Rattle.session_state.specs.engine_trait.Serving.{refused_by}
 use Rattle.row_ends.specs.Begins.{Begins, MayBegin}
 use Rattle.row_ends.specs.Flushed.{Looked, flushed_to}
+use Rattle.session_state.proofs.ServingLemmas.{refused_none, refused_was}
 use Rattle.session_state.specs.Holds.{Holds, IsOf}
 use Rattle.row_ends.specs.Tests.{begin_test}
 use Rattle.row_ends.specs.Begins.{begun_session}
@@ -91,15 +95,15 @@ free_of x log e = works_case x.works refl e
     open_case w true q r = absurd (none_is _ (sym r))
     open_case w false q r = let f = free_log x.clock.clock log r in record { works = w; closed = q; small = f.0; room = f.1 }
 
-    works_case : (b : Bool) → x.works ≡ b → cond b (cond x.is_open (Some refusal.InTransaction) (log_refusal x.clock.clock log None)) (Some refusal.Broken) ≡ None → MayBegin x log
-    works_case true q r = open_case q x.is_open refl r
-    works_case false q r = absurd (none_is _ (sym r))
+    works_case : (b : Bool) → x.works ≡ b → cond b (refused_by (cond x.is_open (Some refusal.InTransaction) (log_refusal x.clock.clock log None))) (Some (unserved.Unanswered unanswered.Broken)) ≡ None → MayBegin x log
+    works_case true q r = open_case q x.is_open refl (refused_none (cond x.is_open (Some refusal.InTransaction) (log_refusal x.clock.clock log None)) r)
+    works_case false q r = absurd (cc)
 
 -- where the engine works the tests are those of the worker
-pub test_is : (g : Opening) (s : State) (is_half_aborted : Bool) (x : Session) (log : Log) → x.works ≡ true → IsOf x (s.worker x.own) → begin_test x log ≡ refusal_in g s x.own is_half_aborted log call.Begin
+pub test_is : (g : Opening) (s : State) (is_half_aborted : Bool) (x : Session) (log : Log) → x.works ≡ true → IsOf x (s.worker x.own) → begin_test x log ≡ refused_by (refusal_in g s x.own is_half_aborted log call.Begin)
 test_is g s is_half_aborted x log works of_s =
-    (λ i. cond (works i) (cond x.is_open (Some refusal.InTransaction) (log_refusal x.clock.clock log None)) (Some refusal.Broken))
-    ∙ (λ i. cond (sym of_s.is_open i) (Some refusal.InTransaction) (log_refusal (sym of_s.clock i) log None))
+    (λ i. cond (works i) (refused_by (cond x.is_open (Some refusal.InTransaction) (log_refusal x.clock.clock log None))) (Some (unserved.Unanswered unanswered.Broken)))
+    ∙ (λ i. refused_by (cond (sym of_s.is_open i) (Some refusal.InTransaction) (log_refusal (sym of_s.clock i) log None)))
 
 -- a log and a clock refuse by what a script is told
 pub log_told : (clock : ℕ) (log : Log) (why : Refusal) → log_refusal clock log None ≡ Some why → IsTold why
@@ -114,8 +118,8 @@ log_told clock log why e = full_case (leb (limit log) (used log)) e
     full_case false r = clock_case (leb (2 ^ 62) clock) r
 
 -- so does a begin, where the engine works
-pub begin_told : (x : Session) (log : Log) (why : Refusal) → x.works ≡ true → begin_test x log ≡ Some why → IsTold why
-begin_told x log why works e = open_case x.is_open ((λ i. cond (sym works i) (cond x.is_open (Some refusal.InTransaction) (log_refusal x.clock.clock log None)) (Some refusal.Broken)) ∙ e)
+pub begin_told : (x : Session) (log : Log) (why : Refusal) → x.works ≡ true → begin_test x log ≡ Some (unserved.Refused why) → IsTold why
+begin_told x log why works e = open_case x.is_open (refused_was (cond x.is_open (Some refusal.InTransaction) (log_refusal x.clock.clock log None)) why ((λ i. cond (sym works i) (refused_by (cond x.is_open (Some refusal.InTransaction) (log_refusal x.clock.clock log None))) (Some (unserved.Unanswered unanswered.Broken))) ∙ e))
   where
     open_case : (b : Bool) → cond b (Some refusal.InTransaction) (log_refusal x.clock.clock log None) ≡ Some why → IsTold why
     open_case true r = subst IsTold (some_is _ why r) tt

@@ -4,8 +4,12 @@ use Rattle.map_model.specs.declared.call.Refusal.{Refusal}
 use Rattle.map_model.specs.declared.call.Refusal.TheVariants as refusal
 use Rattle.session_state.specs.core_state.States.{State}
 use Rattle.session_state.specs.engine_trait.Refusals.{in_transaction}
+use Rattle.session_state.specs.engine_trait.Serving.{refused_by}
 use Rattle.row_ends.specs.Tests.{call_test, is_going}
 use Rattle.session_state.specs.declared.session.Session.{Session}
+use Rattle.session_state.specs.engine_trait.declared.unserved.Unanswered.TheVariants as unanswered
+use Rattle.session_state.specs.engine_trait.declared.unserved.Unserved.{Unserved}
+use Rattle.session_state.specs.engine_trait.declared.unserved.Unserved.TheVariants as unserved
 
 -- what is so where it does
 pub record Going (x : Session) : Type 0 where
@@ -50,26 +54,26 @@ pub record IsReady (x : Session) : Type 0 where
 pub ready_of : (x : Session) → call_test x ≡ None → IsReady x
 ready_of x e = works_case x.works refl e
   where
-    open_case : x.works ≡ true → (b : Bool) → is_going x ≡ b → cond b None (Some refusal.NoTransaction) ≡ None → IsReady x
+    open_case : x.works ≡ true → (b : Bool) → is_going x ≡ b → refused_by (cond b None (Some refusal.NoTransaction)) ≡ None → IsReady x
     open_case w true q r = let k = going x q in record { works = w; is_open = k.is_open; whole = k.whole }
     open_case w false q r = absurd (cc)
 
-    works_case : (b : Bool) → x.works ≡ b → cond b (cond (is_going x) None (Some refusal.NoTransaction)) (Some refusal.Broken) ≡ None → IsReady x
+    works_case : (b : Bool) → x.works ≡ b → cond b (refused_by (cond (is_going x) None (Some refusal.NoTransaction))) (Some (unserved.Unanswered unanswered.Broken)) ≡ None → IsReady x
     works_case true q r = open_case q (is_going x) refl r
     works_case false q r = absurd (cc)
 
 -- why it is refused
-pub data Tested (x : Session) (why : Refusal) : Type 0 where
-  Fails : x.works ≡ false → why ≡ refusal.Broken → Tested x why
-  Closed : x.works ≡ true → is_going x ≡ false → why ≡ refusal.NoTransaction → Tested x why
+pub data Tested (x : Session) (why : Unserved) : Type 0 where
+  Fails : x.works ≡ false → why ≡ unserved.Unanswered unanswered.Broken → Tested x why
+  Closed : x.works ≡ true → is_going x ≡ false → why ≡ unserved.Refused refusal.NoTransaction → Tested x why
 
-pub tested : (x : Session) (why : Refusal) → call_test x ≡ Some why → Tested x why
+pub tested : (x : Session) (why : Unserved) → call_test x ≡ Some why → Tested x why
 tested x why e = works_case x.works refl e
   where
-    open_case : x.works ≡ true → (b : Bool) → is_going x ≡ b → cond b None (Some refusal.NoTransaction) ≡ Some why → Tested x why
+    open_case : x.works ≡ true → (b : Bool) → is_going x ≡ b → refused_by (cond b None (Some refusal.NoTransaction)) ≡ Some why → Tested x why
     open_case w true q r = absurd (cc)
     open_case w false q r = Closed w q (cc)
 
-    works_case : (b : Bool) → x.works ≡ b → cond b (cond (is_going x) None (Some refusal.NoTransaction)) (Some refusal.Broken) ≡ Some why → Tested x why
+    works_case : (b : Bool) → x.works ≡ b → cond b (refused_by (cond (is_going x) None (Some refusal.NoTransaction))) (Some (unserved.Unanswered unanswered.Broken)) ≡ Some why → Tested x why
     works_case true q r = open_case q (is_going x) refl r
     works_case false q r = Fails q (cc)

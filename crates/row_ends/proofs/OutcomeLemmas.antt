@@ -1,7 +1,9 @@
 -- What an end did, by answer.
 use Rattle.std.proofs.Common.{◌≡◌, ◌∙◌, ◌≤◌, ◌<◌, ◌+◌, ℕ, suc, Bool, true, false, length, Result, Ok, Err, refl, sym, ap, subst, arith}
-use Rattle.map_model.specs.declared.call.Refusal.{Refusal}
 use Rattle.map_model.specs.declared.call.Refusal.TheVariants as refusal
+use Rattle.session_state.specs.engine_trait.declared.unserved.Unanswered.TheVariants as unanswered
+use Rattle.session_state.specs.engine_trait.declared.unserved.Unserved.{Unserved}
+use Rattle.session_state.specs.engine_trait.declared.unserved.Unserved.TheVariants as unserved
 use Rattle.rfa_model.specs.Stamps.{need_of}
 use Rattle.session_state.specs.core_state.States.{flushed_by_all}
 use Rattle.lean_disk.specs.Faults.{HasCause}
@@ -91,7 +93,7 @@ module _ {D : Type 0} (story : D → Story) (v u w : View) (x y : Session) (was 
   pub commits_ok : (told : answers.Ended) → HasCommitted story told u w x y was is old new → Commits story (Ok told) v w x y was is old new
   commits_ok told c = committed_from told c
 
-  pub commits_err : FailsToCommit story u x was old new → Commits story (Err refusal.DiskFault) v w x y was is old new
+  pub commits_err : FailsToCommit story u x was old new → Commits story (Err (unserved.Unanswered unanswered.DiskFault)) v w x y was is old new
   commits_err f = fails_from f
 
   pub aborts_ok : (told : answers.Ended) → HasEnded told false u w x was is (story old) (story new) × (y ≡ ended_session x (suc x.clock.clock)) → Aborts story (Ok told) v w x y was is old new
@@ -103,16 +105,16 @@ grouped_steps : {D : Type 0} (story : D → Story) (v w : View) (x y : Session) 
 grouped_steps story v w x y was is old new (IsGrouped.Waits few view session log disk) = no_steps x.own v w (ap (λ (k : View). k.given) view) (ap (λ (k : View). k.seen) view)
 grouped_steps story v w x y was is old new (IsGrouped.Flushed full f k) = flushed_steps v w (waiting_session x (suc x.clock.clock) (suc x.unflushed)) y was is (story old) (story new) f
 
-pub commits_steps : {D : Type 0} (story : D → Story) (r : Result answers.Ended Refusal) (v w : View) (x y : Session) (was is : Log) (old new : D) → Commits story r v w x y was is old new → (r ≡ Err refusal.DiskFault → ⊥) → Steps x.own v w
+pub commits_steps : {D : Type 0} (story : D → Story) (r : Result answers.Ended Unserved) (v w : View) (x y : Session) (was is : Log) (old new : D) → Commits story r v w x y was is old new → (r ≡ Err (unserved.Unanswered unanswered.DiskFault) → ⊥) → Steps x.own v w
 commits_steps story (Ok told) v w x y was is old new c works = every_steps x.own v c.view w (ended_steps x.own (length x.held.rows) v c.view true c.ended.floor c.ended.ended) (grouped_steps story c.view w x y c.log is c.disk new c.grouped)
-commits_steps story (Err refusal.RowSpent) v w x y was is old new c works = latch_steps x.own (length x.held.rows) v w c.missed
-commits_steps story (Err refusal.DiskFault) v w x y was is old new c works = absurd (works refl)
+commits_steps story (Err (unserved.Refused refusal.RowSpent)) v w x y was is old new c works = latch_steps x.own (length x.held.rows) v w c.missed
+commits_steps story (Err (unserved.Unanswered unanswered.DiskFault)) v w x y was is old new c works = absurd (works refl)
 commits_steps story (Err _) v w x y was is old new c works = absurd c
 
-pub aborts_steps : {D : Type 0} (story : D → Story) (r : Result answers.Ended Refusal) (v w : View) (x y : Session) (was is : Log) (old new : D) → Aborts story r v w x y was is old new → (r ≡ Err refusal.DiskFault → ⊥) → Steps x.own v w
+pub aborts_steps : {D : Type 0} (story : D → Story) (r : Result answers.Ended Unserved) (v w : View) (x y : Session) (was is : Log) (old new : D) → Aborts story r v w x y was is old new → (r ≡ Err (unserved.Unanswered unanswered.DiskFault) → ⊥) → Steps x.own v w
 aborts_steps story (Ok told) v w x y was is old new c works = ended_steps x.own (length x.held.rows) v w false c.0.floor c.0.ended
-aborts_steps story (Err refusal.RowSpent) v w x y was is old new c works = latch_steps x.own (length x.held.rows) v w c.missed
-aborts_steps story (Err refusal.DiskFault) v w x y was is old new c works = absurd (works refl)
+aborts_steps story (Err (unserved.Refused refusal.RowSpent)) v w x y was is old new c works = latch_steps x.own (length x.held.rows) v w c.missed
+aborts_steps story (Err (unserved.Unanswered unanswered.DiskFault)) v w x y was is old new c works = absurd (works refl)
 aborts_steps story (Err _) v w x y was is old new c works = absurd c
 
 -- ## Causes

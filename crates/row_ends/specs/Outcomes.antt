@@ -1,8 +1,10 @@
 -- What an end of a transaction did, by answer: its lock rows were latched, its record was staged, its number was stored, and the rows were given back; and where so many
 -- commits waited as make a group, the log was flushed.
 use Rattle.std.specs.Prelude.{◌≡◌, ◌≤◌, ◌<◌, ◌^◌, ℕ, suc, Bool, true, false, List, length, Result, Ok, Err}
-use Rattle.map_model.specs.declared.call.Refusal.{Refusal}
 use Rattle.map_model.specs.declared.call.Refusal.TheVariants as refusal
+use Rattle.session_state.specs.engine_trait.declared.unserved.Unanswered.TheVariants as unanswered
+use Rattle.session_state.specs.engine_trait.declared.unserved.Unserved.{Unserved}
+use Rattle.session_state.specs.engine_trait.declared.unserved.Unserved.TheVariants as unserved
 use Rattle.rfa_model.specs.Stamps.{need_of}
 use Rattle.session_state.specs.core_state.States.{flushed_by_all}
 use Rattle.lean_disk.specs.Story.{Story}
@@ -66,18 +68,18 @@ pub data FailsToCommit {D : Type 0} (story : D → Story) (v : View) (x : Sessio
   Unflushed : (told : answers.Ended) (view : View) (log : Log) (disk : D) → HasEnded told true v view x was log (story old) (story disk) → x.group ≤ suc x.unflushed → KeepsLog x.own log (story disk) (story new) → FailsToCommit story v x was old new
 
 -- by answer
-abbrev pub Commits : {D : Type 0} → (story : D → Story) → Result answers.Ended Refusal → (v w : View) → (x y : Session) → (was is : Log) → (old new : D) → Type 0
+abbrev pub Commits : {D : Type 0} → (story : D → Story) → Result answers.Ended Unserved → (v w : View) → (x y : Session) → (was is : Log) → (old new : D) → Type 0
 Commits story (Ok told) v w x y was is old new = HasCommitted story told v w x y was is old new
-Commits story (Err refusal.RowSpent) v w x y was is old new = IsSpent v w x y was is old new
-Commits story (Err refusal.DiskFault) v w x y was is old new = FailsToCommit story v x was old new
+Commits story (Err (unserved.Refused refusal.RowSpent)) v w x y was is old new = IsSpent v w x y was is old new
+Commits story (Err (unserved.Unanswered unanswered.DiskFault)) v w x y was is old new = FailsToCommit story v x was old new
 Commits story (Err why) v w x y was is old new = ⊥
 
 -- ## The end of an abort
 
-abbrev pub Aborts : {D : Type 0} → (story : D → Story) → Result answers.Ended Refusal → (v w : View) → (x y : Session) → (was is : Log) → (old new : D) → Type 0
+abbrev pub Aborts : {D : Type 0} → (story : D → Story) → Result answers.Ended Unserved → (v w : View) → (x y : Session) → (was is : Log) → (old new : D) → Type 0
 Aborts story (Ok told) v w x y was is old new = HasEnded told false v w x was is (story old) (story new) × (y ≡ ended_session x (suc x.clock.clock))
-Aborts story (Err refusal.RowSpent) v w x y was is old new = IsSpent v w x y was is old new
-Aborts story (Err refusal.DiskFault) v w x y was is old new = KeepsLog x.own was (story old) (story new)
+Aborts story (Err (unserved.Refused refusal.RowSpent)) v w x y was is old new = IsSpent v w x y was is old new
+Aborts story (Err (unserved.Unanswered unanswered.DiskFault)) v w x y was is old new = KeepsLog x.own was (story old) (story new)
 Aborts story (Err why) v w x y was is old new = ⊥
 
 -- ## Words of private functions

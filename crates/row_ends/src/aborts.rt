@@ -1,7 +1,7 @@
 // The end of an abort, behind all that it puts back.
 ghost use Rattle.std.specs.Prelude.{◌≡◌, ◌↔◌, Err, IsErr, IsOk, IfOk, true, false, [], replicate};
 ghost use Rattle.lean_disk.specs.Faults.{HasCause};
-ghost use Rattle.map_model.specs.declared.call.Refusal.{Refusal};
+ghost use Rattle.session_state.specs.engine_trait.Serving.{disk_fault};
 ghost use Rattle.row_ends.specs.Ends.{Latched};
 ghost use Rattle.row_ends.specs.Outcomes.{Aborts, AbortsLatched};
 ghost use Rattle.row_ends.specs.Receipts.{IsEnded};
@@ -13,7 +13,7 @@ use crate::ending::{Ended, close, end_rows};
 use crate::latching::latch_held;
 use lean_disk::Disk;
 use map_model::Refusal;
-use session_state::{Body, DiskFault, Latches, Record, Rows, Work};
+use session_state::{Body, DiskFault, Latches, Record, Rows, Unanswered, Unserved, Work};
 
 // The end of a session whose changes are put back and whose rows are latched.
 fn finish<R: Rows, D: Disk>(
@@ -69,7 +69,7 @@ pub fn end_abort<R: Rows, D: Disk>(
     seat: &mut R::Seat,
     work: &mut Work<D>,
     latches: &mut Latches,
-) -> Result<Ended, Refusal>
+) -> Result<Ended, Unserved>
     requires fits { R.fits rows.old seat.old }
     requires holds { Holds (R.shape rows.old) (R.view seat.old) work.old.session work.old.log }
     requires unmarked { latches.old ≡ replicate work.old.session.held.count false }
@@ -84,15 +84,15 @@ pub fn end_abort<R: Rows, D: Disk>(
     ensures unmarked { work.new.session.works ≡ true → latches.new ≡ latches.old }
     ensures aborts { Aborts D.story result (R.view seat.old) (R.view seat.new) work.old.session work.new.session work.old.log work.new.log work.old.disk work.new.disk }
     ensures receipt { IfOk result (IsEnded (R.view seat.old) work.new.session) }
-    ensures works { (work.new.session.works ≡ true) ↔ (result ≡ Err Refusal.DiskFault → ⊥) }
+    ensures works { (work.new.session.works ≡ true) ↔ (result ≡ Err disk_fault → ⊥) }
 
-    ensures cause_disk_fault { HasCause (D.faults work.old.disk) (D.faults work.new.disk) (result ≡ Err Refusal.DiskFault) }
+    ensures cause_disk_fault { HasCause (D.faults work.old.disk) (D.faults work.new.disk) (result ≡ Err disk_fault) }
 {
     if !latch_held(rows, seat, &work.session, latches, &work.log) {
-        return Err(Refusal::RowSpent);
+        return Err(Unserved::Refused(Refusal::RowSpent));
     }
     match finish(rows, seat, work, latches) {
         Ok(ended) => Ok(ended),
-        Err(DiskFault) => Err(Refusal::DiskFault),
+        Err(DiskFault) => Err(Unserved::Unanswered(Unanswered::DiskFault)),
     }
 }

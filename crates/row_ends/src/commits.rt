@@ -1,7 +1,7 @@
 // A commit, behind its tests.
 ghost use Rattle.std.specs.Prelude.{◌≡◌, ◌↔◌, ◌<◌, ◌+◌, Err, IsErr, IsOk, IfErr, IfOk, OnOk, true, false, length, replicate};
 ghost use Rattle.lean_disk.specs.Faults.{HasCause};
-ghost use Rattle.map_model.specs.declared.call.Refusal.{Refusal};
+ghost use Rattle.session_state.specs.engine_trait.Serving.{disk_fault};
 ghost use Rattle.row_ends.specs.Ends.{HasFlushed, Latched, MayFlush, waiting_session};
 ghost use Rattle.row_ends.specs.Outcomes.{Commits, CommitsLatched};
 ghost use Rattle.row_ends.specs.Receipts.{IsEnded};
@@ -15,7 +15,8 @@ use crate::latching::latch_held;
 use lean_disk::Disk;
 use map_model::Refusal;
 use session_state::{
-    Body, DiskFault, Flushes, Latches, Record, Rows, Session, Work, settle, wait_for_flush,
+    Body, DiskFault, Flushes, Latches, Record, Rows, Session, Unanswered, Unserved, Work, settle,
+    wait_for_flush,
 };
 
 // It has ended by a commit, which waits for a flush.
@@ -116,7 +117,7 @@ pub fn commit_tested<R: Rows, D: Disk>(
     seat: &mut R::Seat,
     work: &mut Work<D>,
     latches: &mut Latches,
-) -> Result<Ended, Refusal>
+) -> Result<Ended, Unserved>
     requires fits { R.fits rows.old seat.old }
     requires holds { Holds (R.shape rows.old) (R.view seat.old) work.old.session work.old.log }
     requires unmarked { latches.old ≡ replicate work.old.session.held.count false }
@@ -130,15 +131,15 @@ pub fn commit_tested<R: Rows, D: Disk>(
     ensures unmarked { work.new.session.works ≡ true → latches.new ≡ latches.old }
     ensures commits { Commits D.story result (R.view seat.old) (R.view seat.new) work.old.session work.new.session work.old.log work.new.log work.old.disk work.new.disk }
     ensures receipt { IfOk result (IsEnded (R.view seat.old) work.new.session) }
-    ensures works { (work.new.session.works ≡ true) ↔ (result ≡ Err Refusal.DiskFault → ⊥) }
+    ensures works { (work.new.session.works ≡ true) ↔ (result ≡ Err disk_fault → ⊥) }
 
-    ensures cause_disk_fault { HasCause (D.faults work.old.disk) (D.faults work.new.disk) (result ≡ Err Refusal.DiskFault) }
+    ensures cause_disk_fault { HasCause (D.faults work.old.disk) (D.faults work.new.disk) (result ≡ Err disk_fault) }
 {
     if !latch_held(rows, seat, &work.session, latches, &work.log) {
-        return Err(Refusal::RowSpent);
+        return Err(Unserved::Refused(Refusal::RowSpent));
     }
     match finish(rows, seat, work, latches) {
         Ok(ended) => Ok(ended),
-        Err(DiskFault) => Err(Refusal::DiskFault),
+        Err(DiskFault) => Err(Unserved::Unanswered(Unanswered::DiskFault)),
     }
 }

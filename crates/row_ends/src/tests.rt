@@ -4,7 +4,7 @@ ghost use Rattle.session_state.specs.engine_trait.Refusals.{log_refusal};
 ghost use Rattle.row_ends.specs.Tests.{abort_test, begin_test, call_test, is_going};
 
 use map_model::Refusal;
-use session_state::{Session, WorkerLog};
+use session_state::{Session, Unanswered, Unserved, WorkerLog};
 
 // Where the clock of a session ends: no number is drawn from there on.
 const CLOCK_END: u64 = 1 << 62;
@@ -25,16 +25,19 @@ pub fn log_refusal(clock: u64, log: &WorkerLog) -> Option<Refusal>
 }
 
 /// Why a begin is refused, if it is.
-pub fn begin_refusal(session: &Session, log: &WorkerLog) -> Option<Refusal>
+pub fn begin_refusal(session: &Session, log: &WorkerLog) -> Option<Unserved>
     ensures { result ≡ begin_test session.now log.now }
 {
     if !session.works {
-        return Some(Refusal::Broken);
+        return Some(Unserved::Unanswered(Unanswered::Broken));
     }
     if session.is_open {
-        return Some(Refusal::InTransaction);
+        return Some(Unserved::Refused(Refusal::InTransaction));
     }
-    log_refusal(session.clock.clock, log)
+    match log_refusal(session.clock.clock, log) {
+        Some(why) => Some(Unserved::Refused(why)),
+        None => None,
+    }
 }
 
 // Whether a transaction is open, and its abort is not half done.
@@ -45,27 +48,27 @@ fn is_going(session: &Session) -> bool
 }
 
 /// Why a call within a transaction is refused before it is begun.
-pub fn call_refusal(session: &Session) -> Option<Refusal>
+pub fn call_refusal(session: &Session) -> Option<Unserved>
     ensures { result ≡ call_test session.now }
 {
     if !session.works {
-        return Some(Refusal::Broken);
+        return Some(Unserved::Unanswered(Unanswered::Broken));
     }
     if !is_going(session) {
-        return Some(Refusal::NoTransaction);
+        return Some(Unserved::Refused(Refusal::NoTransaction));
     }
     None
 }
 
 /// Why an abort is refused, which may go on.
-pub fn abort_refusal(session: &Session) -> Option<Refusal>
+pub fn abort_refusal(session: &Session) -> Option<Unserved>
     ensures { result ≡ abort_test session.now }
 {
     if !session.works {
-        return Some(Refusal::Broken);
+        return Some(Unserved::Unanswered(Unanswered::Broken));
     }
     if !session.is_open {
-        return Some(Refusal::NoTransaction);
+        return Some(Unserved::Refused(Refusal::NoTransaction));
     }
     None
 }

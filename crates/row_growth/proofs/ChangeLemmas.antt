@@ -1,8 +1,9 @@
 -- What comes of a change of the tree that room for a key takes.
 use Rattle.std.proofs.Common.{◌≡◌, inl, ◌<◌, ℕ, false, List, [], ◌∷◌, length, None, Some, Result, Ok, Err, refl, sym, ap, ◌∙◌, subst, arith}
 use Rattle.map_model.specs.Lists.{Has}
-use Rattle.map_model.specs.declared.call.Refusal.{Refusal}
-use Rattle.map_model.specs.declared.call.Refusal.TheVariants as refusal
+use Rattle.session_state.specs.engine_trait.declared.unserved.Unanswered.TheVariants as unanswered
+use Rattle.session_state.specs.engine_trait.declared.unserved.Unserved.{Unserved}
+use Rattle.session_state.specs.engine_trait.declared.unserved.Unserved.TheVariants as unserved
 use Rattle.page_model.specs.Nodes.{Node}
 use Rattle.session_state.specs.core_state.States.{nodes_of}
 use Rattle.session_state.specs.core_calls.Room.{EveryRoom}
@@ -65,8 +66,8 @@ not_spent z v w x log key h fits f row t = let a = t.spent in let b = low_page z
 pub not_full : (v : View) (x y : Session) (log log_now : Log) (key : ℕ) (rs now : List Record) (old new : Story) (S : Type 0) (f0 f1 used limit : ℕ) → MayChange v x log key → Staging (Err (LogFull used limit)) x y rs now log log_now old new S f0 f1 → ⊥
 not_full v x y log log_now key rs now old new S f0 f1 used limit f st = let a = st.came.full in let b = room_to_end log _ f.room in omega arith
 
-abbrev failed : Result (Unit {0}) Refusal
-failed = Err refusal.DiskFault
+abbrev failed : Result (Unit {0}) Unserved
+failed = Err (unserved.Unanswered unanswered.DiskFault)
 
 done_no_fault : answer_of outcome.Done ≡ failed → ⊥
 done_no_fault e = cc
@@ -82,7 +83,7 @@ staged_no_fault e = cc
 
 -- a fault is told just where the disk counts one
 pub faults_told : (x y : Session) (rs now : List Record) (log log_now : Log) (old new : Story) (S same : Type 0) (f0 f1 : ℕ) → (same → f1 ≡ f0) → (o : Outcome) → IsExpected o
-    → Drew o (λ r. Staging r x y rs now log log_now old new S f0 f1) same → HasCause f0 f1 (answer_of o ≡ Err refusal.DiskFault)
+    → Drew o (λ r. Staging r x y rs now log log_now old new S f0 f1) same → HasCause f0 f1 (answer_of o ≡ Err (unserved.Unanswered unanswered.DiskFault))
 faults_told x y rs now log log_now old new S same f0 f1 sf outcome.Done t d = record { later = d.cause.later; cause = λ e. absurd (done_no_fault e); calm = λ _. d.cause.calm staged_no_fault }
 faults_told x y rs now log log_now old new S same f0 f1 sf (outcome.RowSpent row) t d = record { later = let e = sf d in omega arith; cause = λ e. absurd (spent_no_fault row e); calm = λ _. sf d }
 faults_told x y rs now log log_now old new S same f0 f1 sf (outcome.Unstaged DiskFault) t d = record { later = d.cause.later; cause = λ e. d.cause.cause refl; calm = λ no. absurd (no refl) }

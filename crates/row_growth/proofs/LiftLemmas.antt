@@ -1,6 +1,6 @@
 -- What comes of a lift that room for a key takes.
 use Rattle.std.proofs.Common.{◌≡◌, ◌≢◌, ◌⊎◌, inl, inr, ◌<◌, ℕ, true, false, List, [], ◌∷◌, length, Result, Ok, refl, sym, ap, ◌∙◌, subst, arith, true≢false}
-use Rattle.map_model.specs.declared.call.Refusal.{Refusal}
+use Rattle.session_state.specs.engine_trait.declared.unserved.Unserved.{Unserved}
 use Rattle.page_model.specs.Needs.{lift_record}
 use Rattle.session_state.specs.image_model.Entries.{Kind}
 use Rattle.session_state.specs.core_state.Events as happening
@@ -135,7 +135,7 @@ module _ (rooms : EveryRoom) (z : Shape) (v w : View) (x y : Session) (log log_n
     -- as its caller sees it
     pub lift_answered : (same_now broken : Type 0) (o : Outcome) → IsExpected o → Lifts o → Draws o → Caused v o w → log_now.last ≡ last_after o log.last y.clock.clock
         → ((row : ℕ) → o ≡ outcome.RowSpent row → same → same_now) → ((why : Unstaged) → o ≡ outcome.Unstaged why → broken)
-        → (r : Result (Unit {0}) Refusal) (k : Session) → r ≡ answer_of o → k ≡ session_after o y → Made r key v w x k log log_now old new same_now broken
+        → (r : Result (Unit {0}) Unserved) (k : Session) → r ≡ answer_of o → k ≡ session_after o y → Made r key v w x k log log_now old new same_now broken
     lift_answered same_now broken o t d s c last to off r k answer after =
-        subst (λ (a : Result (Unit {0}) Refusal). Made a key v w x k log log_now old new same_now broken) (sym answer)
+        subst (λ (a : Result (Unit {0}) Unserved). Made a key v w x k log log_now old new same_now broken) (sym answer)
         (subst (λ (a : Session). Made (answer_of o) key v w x a log log_now old new same_now broken) (sym after) (lift_grew same_now broken o t d s c last to off))

@@ -43,6 +43,9 @@ use Rattle.row_growth.specs.declared.room.Placed.{Placed}
 use Rattle.session_state.specs.declared.session.Session.{Session}
 use Rattle.row_growth.proofs.GrowthLemmas.{holds_same, hot_in, one_in, sound}
 use Rattle.row_changes.proofs.SeenLemmas.{none_seen, still}
+use Rattle.session_state.specs.engine_trait.declared.unserved.Unanswered.TheVariants as unanswered
+use Rattle.session_state.specs.engine_trait.declared.unserved.Unserved.{Unserved}
+use Rattle.session_state.specs.engine_trait.declared.unserved.Unserved.TheVariants as unserved
 
 -- ## Tests
 
@@ -387,13 +390,13 @@ module _ (key : ℕ) (v u w : View) (x y : Session) (was is : Log) (old new : St
   needed_from : (placed : Option Placed) (page : ℕ) → IsNeeded u w x key placed page → IsNeeded v w x key placed page
   needed_from placed page t = record { given = t.given ∙ given; seen = t.seen ∙ seen; fits = (λ i. room_refusal (opening (sym given i)) (sym st i).core key) ∙ t.fits; least = t.least; other = t.other }
 
-  pub grew_from : (placed : Option Placed) (same broken : Type 0) (r : Result Growth Refusal) → Grew r key placed u w x y was is old new same broken → Grew r key placed v w x y was is old new same broken
+  pub grew_from : (placed : Option Placed) (same broken : Type 0) (r : Result Growth Unserved) → Grew r key placed u w x y was is old new same broken → Grew r key placed v w x y was is old new same broken
   grew_from placed same broken (Ok growth.Grown) t = grown_from t
   grew_from placed same broken (Ok (growth.Needs page)) t = (needed_from placed page t.0, t.1)
-  grew_from placed same broken (Err refusal.TooTall) t = (none_from refusal.TooTall t.0, t.1)
-  grew_from placed same broken (Err refusal.NoPages) t = (none_from refusal.NoPages t.0, t.1)
-  grew_from placed same broken (Err refusal.RowSpent) t = (spent_from t.0, t.1)
-  grew_from placed same broken (Err refusal.DiskFault) t = t
+  grew_from placed same broken (Err (unserved.Refused refusal.TooTall)) t = (none_from refusal.TooTall t.0, t.1)
+  grew_from placed same broken (Err (unserved.Refused refusal.NoPages)) t = (none_from refusal.NoPages t.0, t.1)
+  grew_from placed same broken (Err (unserved.Refused refusal.RowSpent)) t = (spent_from t.0, t.1)
+  grew_from placed same broken (Err (unserved.Unanswered unanswered.DiskFault)) t = t
   grew_from placed same broken (Err _) t = absurd t
 
 -- ## Behind the look at the path
@@ -419,7 +422,7 @@ module _ (rooms : EveryRoom) (z : Shape) (v u : View) (x : Session) (log : Log) 
 
 -- ## Where there can be no room
 
-pub refused_grew : (key : ℕ) (placed : Option Placed) (v w : View) (x : Session) (log : Log) (story : Story) (same broken : Type 0) → w.given ≡ v.given → w.seen ≡ v.seen → same → (why : Refusal) → IsRight w x key (Err why) → Grew (Err why) key placed v w x x log log story story same broken
+pub refused_grew : (key : ℕ) (placed : Option Placed) (v w : View) (x : Session) (log : Log) (story : Story) (same broken : Type 0) → w.given ≡ v.given → w.seen ≡ v.seen → same → (why : Refusal) → IsRight w x key (Err why) → Grew (Err (unserved.Refused why)) key placed v w x x log log story story same broken
 refused_grew key placed v w x log story same broken given seen is refusal.TooTall r =
     (record { given = given; seen = seen; cause = (λ i. room_refusal (opening (sym given i)) (sym (still v w given seen) i).core key) ∙ r }, is)
 refused_grew key placed v w x log story same broken given seen is refusal.NoPages r =

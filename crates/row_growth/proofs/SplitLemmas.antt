@@ -1,6 +1,6 @@
 -- What comes of a split that room for a key takes.
 use Rattle.std.proofs.Common.{◌≡◌, ◌≢◌, ◌⊎◌, inl, inr, ◌<◌, ℕ, true, false, List, [], ◌∷◌, length, Result, Ok, refl, sym, ap, ◌∙◌, subst, arith, true≢false}
-use Rattle.map_model.specs.declared.call.Refusal.{Refusal}
+use Rattle.session_state.specs.engine_trait.declared.unserved.Unserved.{Unserved}
 use Rattle.page_model.specs.Check.{names_page}
 use Rattle.page_model.specs.Needs.{split_record}
 use Rattle.page_model.specs.Pairs.{Span}
@@ -188,7 +188,7 @@ module _ (rooms : EveryRoom) (z : Shape) (v w : View) (x y : Session) (log log_n
     -- as its caller sees it
     pub split_answered : (same_now broken : Type 0) (o : Outcome) → IsExpected o → Splits o → Draws o → Caused v o w → log_now.last ≡ last_after o log.last y.clock.clock
         → ((row : ℕ) → o ≡ outcome.RowSpent row → same → same_now) → ((why : Unstaged) → o ≡ outcome.Unstaged why → broken)
-        → (r : Result (Unit {0}) Refusal) (k : Session) → r ≡ answer_of o → k ≡ session_after o y → Made r key v w x k log log_now old new same_now broken
+        → (r : Result (Unit {0}) Unserved) (k : Session) → r ≡ answer_of o → k ≡ session_after o y → Made r key v w x k log log_now old new same_now broken
     split_answered same_now broken o t d s c last to off r k answer after =
-        subst (λ (a : Result (Unit {0}) Refusal). Made a key v w x k log log_now old new same_now broken) (sym answer)
+        subst (λ (a : Result (Unit {0}) Unserved). Made a key v w x k log log_now old new same_now broken) (sym answer)
         (subst (λ (a : Session). Made (answer_of o) key v w x a log log_now old new same_now broken) (sym after) (split_grew same_now broken o t d s c last to off))

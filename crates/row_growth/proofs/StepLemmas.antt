@@ -2,6 +2,9 @@
 use Rattle.std.proofs.Common.{◌≡◌, ◌<◌, ◌%◌, ◌++◌, ℕ, true, List, [], ◌∷◌, length, Option, Some, None, Result, Ok, Err, refl, sym, ap, ◌∙◌, subst, arith, append-nil}
 use Rattle.map_model.specs.declared.call.Refusal.{Refusal}
 use Rattle.map_model.specs.declared.call.Refusal.TheVariants as refusal
+use Rattle.session_state.specs.engine_trait.declared.unserved.Unanswered.TheVariants as unanswered
+use Rattle.session_state.specs.engine_trait.declared.unserved.Unserved.{Unserved}
+use Rattle.session_state.specs.engine_trait.declared.unserved.Unserved.TheVariants as unserved
 use Rattle.session_state.specs.core_calls.Room.{room_takes}
 use Rattle.session_state.specs.core_state.Needs.{is_held_by, may}
 use Rattle.session_state.specs.row_words.Moments.{event_of}
@@ -48,11 +51,11 @@ use Rattle.row_growth.proofs.RoomLemmas.{unfit_on}
 pub tried_as : (k : Unmade) (placed : Option Placed) (v w : View) (key value : ℕ) (x y : Session) (was is : Log) (old new : Story) (path : List ℕ) (same broken : Type 0) → Tries (Err k) v w key value x y was is old new path same broken → Steps (Err k) placed v w key value x y was is old new same
 tried_as (unmade.Cold cold) placed v w key value x y was is old new path same broken t = t
 tried_as unmade.Lost placed v w key value x y was is old new path same broken t = absurd t
-tried_as (unmade.Refused why) placed v w key value x y was is old new path same broken t = tried_refused why placed v w key value x y was is old new path same broken t
+tried_as (unmade.Unserved why) placed v w key value x y was is old new path same broken t = tried_refused why placed v w key value x y was is old new path same broken t
   where
-    tried_refused : (why : Refusal) (placed : Option Placed) (v w : View) (key value : ℕ) (x y : Session) (was is : Log) (old new : Story) (path : List ℕ) (same broken : Type 0) → Tries (Err (unmade.Refused why)) v w key value x y was is old new path same broken → Steps (Err (unmade.Refused why)) placed v w key value x y was is old new same
-    tried_refused refusal.RowSpent placed v w key value x y was is old new path same broken t = (record { misses = []; are_misses = tt; few = omega arith; given = t.0.given; seen = t.0.seen ∙ sym (append-nil v.seen); many = t.0.many }, t.1)
-    tried_refused refusal.DiskFault placed v w key value x y was is old new path same broken t = t.0
+    tried_refused : (why : Unserved) (placed : Option Placed) (v w : View) (key value : ℕ) (x y : Session) (was is : Log) (old new : Story) (path : List ℕ) (same broken : Type 0) → Tries (Err (unmade.Unserved why)) v w key value x y was is old new path same broken → Steps (Err (unmade.Unserved why)) placed v w key value x y was is old new same
+    tried_refused (unserved.Refused refusal.RowSpent) placed v w key value x y was is old new path same broken t = (record { misses = []; are_misses = tt; few = omega arith; given = t.0.given; seen = t.0.seen ∙ sym (append-nil v.seen); many = t.0.many }, t.1)
+    tried_refused (unserved.Unanswered unanswered.DiskFault) placed v w key value x y was is old new path same broken t = t.0
     tried_refused _ placed v w key value x y was is old new path same broken t = absurd t
 
 -- ## From a view at which as much was seen
@@ -129,11 +132,11 @@ tried_full r e v w key value x y was is old new path same broken t = subst (λ k
 
 -- where the try found no room, by what came of the change of the tree
 pub step_refused : (key value leaf : ℕ) (placed : Option Placed) (v u w : View) (x y : Session) (was is : Log) (old new : Story) (same broken : Type 0) → u.given ≡ v.given → u.seen ≡ v.seen → MayChange v x was key → IsUnfit u key leaf
-    → (why : Refusal) → Grew (Err why) key placed u w x y was is old new same broken → Steps (Err (unmade.Refused why)) placed v w key value x y was is old new same
-step_refused key value leaf placed v u w x y was is old new same broken given seen f q refusal.TooTall g = (crowded_from v u given seen key leaf refusal.TooTall w x was f q g.0, g.1)
-step_refused key value leaf placed v u w x y was is old new same broken given seen f q refusal.NoPages g = (crowded_from v u given seen key leaf refusal.NoPages w x was f q g.0, g.1)
-step_refused key value leaf placed v u w x y was is old new same broken given seen f q refusal.RowSpent g = (spent_from v u given seen w g.0, g.1)
-step_refused key value leaf placed v u w x y was is old new same broken given seen f q refusal.DiskFault g = g.0
+    → (why : Unserved) → Grew (Err why) key placed u w x y was is old new same broken → Steps (Err (unmade.Unserved why)) placed v w key value x y was is old new same
+step_refused key value leaf placed v u w x y was is old new same broken given seen f q (unserved.Refused refusal.TooTall) g = (crowded_from v u given seen key leaf refusal.TooTall w x was f q g.0, g.1)
+step_refused key value leaf placed v u w x y was is old new same broken given seen f q (unserved.Refused refusal.NoPages) g = (crowded_from v u given seen key leaf refusal.NoPages w x was f q g.0, g.1)
+step_refused key value leaf placed v u w x y was is old new same broken given seen f q (unserved.Refused refusal.RowSpent) g = (spent_from v u given seen w g.0, g.1)
+step_refused key value leaf placed v u w x y was is old new same broken given seen f q (unserved.Unanswered unanswered.DiskFault) g = g.0
 step_refused key value leaf placed v u w x y was is old new same broken given seen f q _ g = absurd g
 
 -- where it takes another page than the one in a frame
@@ -142,10 +145,10 @@ pub step_needs : (key value page : ℕ) (placed : Option Placed) (v u w : View) 
 step_needs key value page placed v u w x y was is old new same broken given seen leaf q g = (wants_from v u given seen key leaf placed page w x q g.0, g.1)
 
 -- where the tree was changed, by the test behind it
-pub step_stopped : (key value : ℕ) (placed : Option Placed) (v w : View) (x y : Session) (was is : Log) (old new : Story) (same : Type 0) → IsGrown key v w x y was is old new → (why : Refusal) → clock_refusal y.clock.clock None ≡ Some why → Steps (Err (unmade.Refused why)) placed v w key value x y was is old new same
+pub step_stopped : (key value : ℕ) (placed : Option Placed) (v w : View) (x y : Session) (was is : Log) (old new : Story) (same : Type 0) → IsGrown key v w x y was is old new → (why : Refusal) → clock_refusal y.clock.clock None ≡ Some why → Steps (Err (unmade.Unserved (unserved.Refused why))) placed v w key value x y was is old new same
 step_stopped key value placed v w x y was is old new same c why e =
     let q = clock_at_end y.clock.clock why e in
-    subst (λ k. Steps (Err (unmade.Refused k)) placed v w key value x y was is old new same) (sym q.is) (record { grown = c; spent = q.spent })
+    subst (λ k. Steps (Err (unmade.Unserved (unserved.Refused k))) placed v w key value x y was is old new same) (sym q.is) (record { grown = c; spent = q.spent })
 
 -- a growth that came out so
 pub grew_as : (r e : Growth) → r ≡ e → (key : ℕ) (placed : Option Placed) (v w : View) (x y : Session) (was is : Log) (old new : Story) (same broken : Type 0) → Grew (Ok r) key placed v w x y was is old new same broken → Grew (Ok e) key placed v w x y was is old new same broken
@@ -156,21 +159,21 @@ pub stepped_as : (r e : Stepped) → r ≡ e → (placed : Option Placed) (v w :
 stepped_as r e is_so placed v w key value x y was is old new same t = subst (λ k. Steps (Ok k) placed v w key value x y was is old new same) is_so t
 
 -- what follows from its leaving all as it was, whichever page is in a frame
-pub step_same : (why : Refusal) (placed at : Option Placed) (v w : View) (key value : ℕ) (x y : Session) (was is : Log) (old new : Story) (same so : Type 0) → (same → so) → Steps (Err (unmade.Refused why)) placed v w key value x y was is old new same → Steps (Err (unmade.Refused why)) at v w key value x y was is old new so
-step_same refusal.TooTall placed at v w key value x y was is old new same so f t = (t.0, f t.1)
-step_same refusal.NoPages placed at v w key value x y was is old new same so f t = (t.0, f t.1)
-step_same refusal.RowSpent placed at v w key value x y was is old new same so f t = (t.0, f t.1)
-step_same refusal.ClockSpent placed at v w key value x y was is old new same so f t = t
-step_same refusal.DiskFault placed at v w key value x y was is old new same so f t = t
+pub step_same : (why : Unserved) (placed at : Option Placed) (v w : View) (key value : ℕ) (x y : Session) (was is : Log) (old new : Story) (same so : Type 0) → (same → so) → Steps (Err (unmade.Unserved why)) placed v w key value x y was is old new same → Steps (Err (unmade.Unserved why)) at v w key value x y was is old new so
+step_same (unserved.Refused refusal.TooTall) placed at v w key value x y was is old new same so f t = (t.0, f t.1)
+step_same (unserved.Refused refusal.NoPages) placed at v w key value x y was is old new same so f t = (t.0, f t.1)
+step_same (unserved.Refused refusal.RowSpent) placed at v w key value x y was is old new same so f t = (t.0, f t.1)
+step_same (unserved.Refused refusal.ClockSpent) placed at v w key value x y was is old new same so f t = t
+step_same (unserved.Unanswered unanswered.DiskFault) placed at v w key value x y was is old new same so f t = t
 step_same _ placed at v w key value x y was is old new same so f t = absurd t
 
 -- ## What it tells of faults
 
 -- the answers of a put
-abbrev put_refused : Refusal → Result Stepped Unmade
-put_refused why = Err (unmade.Refused why)
+abbrev put_refused : Unserved → Result Stepped Unmade
+put_refused why = Err (unmade.Unserved why)
 
-abbrev growth_refused : Refusal → Result Growth Refusal
+abbrev growth_refused : Unserved → Result Growth Unserved
 growth_refused why = Err why
 
 abbrev try_unmade : Unmade → Result Tried Unmade
@@ -180,29 +183,29 @@ abbrev put_unmade : Unmade → Result Stepped Unmade
 put_unmade k = Err k
 
 -- a refused try tells of the same faults
-pub try_told : (a b : ℕ) (k : Unmade) → HasCause a b (try_unmade k ≡ try_unmade (unmade.Refused refusal.DiskFault)) → HasCause a b (put_unmade k ≡ put_unmade (unmade.Refused refusal.DiskFault))
+pub try_told : (a b : ℕ) (k : Unmade) → HasCause a b (try_unmade k ≡ try_unmade (unmade.Unserved (unserved.Unanswered unanswered.DiskFault))) → HasCause a b (put_unmade k ≡ put_unmade (unmade.Unserved (unserved.Unanswered unanswered.DiskFault)))
 try_told a b k h = cause_from a a b _ _ refl h (λ q. ap try_unmade (inner q)) (λ q. ap put_unmade (outer q))
   where
-    inner : put_unmade k ≡ put_unmade (unmade.Refused refusal.DiskFault) → k ≡ unmade.Refused refusal.DiskFault
+    inner : put_unmade k ≡ put_unmade (unmade.Unserved (unserved.Unanswered unanswered.DiskFault)) → k ≡ unmade.Unserved (unserved.Unanswered unanswered.DiskFault)
     inner q = cc
 
-    outer : try_unmade k ≡ try_unmade (unmade.Refused refusal.DiskFault) → k ≡ unmade.Refused refusal.DiskFault
+    outer : try_unmade k ≡ try_unmade (unmade.Unserved (unserved.Unanswered unanswered.DiskFault)) → k ≡ unmade.Unserved (unserved.Unanswered unanswered.DiskFault)
     outer q = cc
 
 -- a refused change tells of the same faults
-pub refused_told : (a b c : ℕ) (P : Type 0) (why : Refusal) → HasCause a b P → (P → ⊥) → HasCause b c (growth_refused why ≡ growth_refused refusal.DiskFault) → HasCause a c (put_refused why ≡ put_refused refusal.DiskFault)
+pub refused_told : (a b c : ℕ) (P : Type 0) (why : Unserved) → HasCause a b P → (P → ⊥) → HasCause b c (growth_refused why ≡ growth_refused (unserved.Unanswered unanswered.DiskFault)) → HasCause a c (put_refused why ≡ put_refused (unserved.Unanswered unanswered.DiskFault))
 refused_told a b c P why h calm k = cause_from a b c _ _ (h.calm calm) k (λ q. ap growth_refused (inner q)) (λ q. ap put_refused (outer q))
   where
-    inner : put_refused why ≡ put_refused refusal.DiskFault → why ≡ refusal.DiskFault
+    inner : put_refused why ≡ put_refused (unserved.Unanswered unanswered.DiskFault) → why ≡ (unserved.Unanswered unanswered.DiskFault)
     inner q = cc
 
-    outer : growth_refused why ≡ growth_refused refusal.DiskFault → why ≡ refusal.DiskFault
+    outer : growth_refused why ≡ growth_refused (unserved.Unanswered unanswered.DiskFault) → why ≡ (unserved.Unanswered unanswered.DiskFault)
     outer q = cc
 
 -- the end of the clock is no fault
-pub stopped_calm : (clock : ℕ) (why : Refusal) → clock_refusal clock None ≡ Some why → put_refused why ≡ put_refused refusal.DiskFault → ⊥
-stopped_calm clock why e = subst (λ k. put_refused k ≡ put_refused refusal.DiskFault → ⊥) (sym (clock_at_end clock why e).is) (λ p. absurd (cc))
+pub stopped_calm : (clock : ℕ) (why : Refusal) → clock_refusal clock None ≡ Some why → put_refused (unserved.Refused why) ≡ put_refused (unserved.Unanswered unanswered.DiskFault) → ⊥
+stopped_calm clock why e = subst (λ k. put_refused (unserved.Refused k) ≡ put_refused (unserved.Unanswered unanswered.DiskFault) → ⊥) (sym (clock_at_end clock why e).is) (λ p. absurd (cc))
 
 -- and the session works behind it
-pub stopped_goes : (clock : ℕ) (why : Refusal) → clock_refusal clock None ≡ Some why → works_behind (put_refused why) ≡ true
-stopped_goes clock why e = subst (λ k. works_behind (put_refused k) ≡ true) (sym (clock_at_end clock why e).is) refl
+pub stopped_goes : (clock : ℕ) (why : Refusal) → clock_refusal clock None ≡ Some why → works_behind (put_refused (unserved.Refused why)) ≡ true
+stopped_goes clock why e = subst (λ k. works_behind (put_refused (unserved.Refused k)) ≡ true) (sym (clock_at_end clock why e).is) refl

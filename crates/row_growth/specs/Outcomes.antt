@@ -2,6 +2,8 @@
 use Rattle.std.specs.Prelude.{◌≡◌, ◌≤◌, ◌<◌, ◌^◌, ℕ, Option, Some, Result, Ok, Err}
 use Rattle.map_model.specs.declared.call.Refusal.{Refusal}
 use Rattle.map_model.specs.declared.call.Refusal.TheVariants as refusal
+use Rattle.session_state.specs.engine_trait.declared.unserved.Unanswered.TheVariants as unanswered
+use Rattle.session_state.specs.engine_trait.declared.unserved.Unserved.TheVariants as unserved
 use Rattle.lean_disk.specs.Story.{Story}
 use Rattle.session_state.specs.row_words.Openings.{opening}
 use Rattle.session_state.specs.rows_trait.declared.view.View.{View}
@@ -45,9 +47,9 @@ Steps (Ok (stepped.Done before)) placed v w key value x y was is old new same = 
 Steps (Ok stepped.Grown) placed v w key value x y was is old new same = IsGrown key v w x y was is old new × MayChange w y is key
 Steps (Ok (stepped.Needs page)) placed v w key value x y was is old new same = Wants key placed page v w x × same
 Steps (Err (unmade.Cold cold)) placed v w key value x y was is old new same = HasMetCold key cold.page v w × same
-Steps (Err (unmade.Refused refusal.TooTall)) placed v w key value x y was is old new same = Crowded key refusal.TooTall v w x.clock.clock × same
-Steps (Err (unmade.Refused refusal.NoPages)) placed v w key value x y was is old new same = Crowded key refusal.NoPages v w x.clock.clock × same
-Steps (Err (unmade.Refused refusal.ClockSpent)) placed v w key value x y was is old new same = Stopped key v w x y was is old new
-Steps (Err (unmade.Refused refusal.RowSpent)) placed v w key value x y was is old new same = IsSpentBehind v w × same
-Steps (Err (unmade.Refused refusal.DiskFault)) placed v w key value x y was is old new same = KeepsLog x.own was old new
+Steps (Err (unmade.Unserved (unserved.Refused refusal.TooTall))) placed v w key value x y was is old new same = Crowded key refusal.TooTall v w x.clock.clock × same
+Steps (Err (unmade.Unserved (unserved.Refused refusal.NoPages))) placed v w key value x y was is old new same = Crowded key refusal.NoPages v w x.clock.clock × same
+Steps (Err (unmade.Unserved (unserved.Refused refusal.ClockSpent))) placed v w key value x y was is old new same = Stopped key v w x y was is old new
+Steps (Err (unmade.Unserved (unserved.Refused refusal.RowSpent))) placed v w key value x y was is old new same = IsSpentBehind v w × same
+Steps (Err (unmade.Unserved (unserved.Unanswered unanswered.DiskFault))) placed v w key value x y was is old new same = KeepsLog x.own was old new
 Steps (Err why) placed v w key value x y was is old new same = ⊥

@@ -3,6 +3,9 @@ use Rattle.std.specs.Prelude.{◌≡◌, ◌≢◌, ◌≤◌, ◌<◌, ◌-◌,
 use Rattle.page_model.specs.Limits.{leaf_room}
 use Rattle.map_model.specs.declared.call.Refusal.{Refusal}
 use Rattle.map_model.specs.declared.call.Refusal.TheVariants as refusal
+use Rattle.session_state.specs.engine_trait.declared.unserved.Unanswered.TheVariants as unanswered
+use Rattle.session_state.specs.engine_trait.declared.unserved.Unserved.{Unserved}
+use Rattle.session_state.specs.engine_trait.declared.unserved.Unserved.TheVariants as unserved
 use Rattle.session_state.specs.core_state.Needs.{may}
 use Rattle.session_state.specs.core_state.Steps.{happens}
 use Rattle.session_state.specs.core_state.Events as happening
@@ -107,13 +110,13 @@ pub record IsNeeded (v w : View) (x : Session) (key : ℕ) (placed : Option Plac
   pub other : frame_among placed page ≡ None
 
 -- by answer
-abbrev pub Grew : Result Growth Refusal → (key : ℕ) → (placed : Option Placed) → (v w : View) → (x y : Session) → (was is : Log) → (old new : Story) → (same broken : Type 0) → Type 0
+abbrev pub Grew : Result Growth Unserved → (key : ℕ) → (placed : Option Placed) → (v w : View) → (x y : Session) → (was is : Log) → (old new : Story) → (same broken : Type 0) → Type 0
 Grew (Ok growth.Grown) key placed v w x y was is old new same broken = IsGrown key v w x y was is old new
 Grew (Ok (growth.Needs page)) key placed v w x y was is old new same broken = IsNeeded v w x key placed page × same
-Grew (Err refusal.TooTall) key placed v w x y was is old new same broken = IsNoRoom v w key refusal.TooTall × same
-Grew (Err refusal.NoPages) key placed v w x y was is old new same broken = IsNoRoom v w key refusal.NoPages × same
-Grew (Err refusal.RowSpent) key placed v w x y was is old new same broken = IsSpentBehind v w × same
-Grew (Err refusal.DiskFault) key placed v w x y was is old new same broken = KeepsLog x.own was old new × broken
+Grew (Err (unserved.Refused refusal.TooTall)) key placed v w x y was is old new same broken = IsNoRoom v w key refusal.TooTall × same
+Grew (Err (unserved.Refused refusal.NoPages)) key placed v w x y was is old new same broken = IsNoRoom v w key refusal.NoPages × same
+Grew (Err (unserved.Refused refusal.RowSpent)) key placed v w x y was is old new same broken = IsSpentBehind v w × same
+Grew (Err (unserved.Unanswered unanswered.DiskFault)) key placed v w x y was is old new same broken = KeepsLog x.own was old new × broken
 Grew (Err why) key placed v w x y was is old new same broken = ⊥
 
 -- ## How a change ends
@@ -126,16 +129,16 @@ IsExpected (outcome.Unstaged DiskFault) = Unit {0}
 IsExpected _ = ⊥
 
 -- and is answered so
-abbrev pub answer_of : Outcome → Result (Unit {0}) Refusal
-answer_of (outcome.RowSpent row) = Err refusal.RowSpent
-answer_of (outcome.Unstaged why) = Err refusal.DiskFault
+abbrev pub answer_of : Outcome → Result (Unit {0}) Unserved
+answer_of (outcome.RowSpent row) = Err (unserved.Refused refusal.RowSpent)
+answer_of (outcome.Unstaged why) = Err (unserved.Unanswered unanswered.DiskFault)
 answer_of _ = Ok tt
 
 -- that is
-abbrev pub Made : Result (Unit {0}) Refusal → (key : ℕ) → (v w : View) → (x y : Session) → (was is : Log) → (old new : Story) → (same broken : Type 0) → Type 0
+abbrev pub Made : Result (Unit {0}) Unserved → (key : ℕ) → (v w : View) → (x y : Session) → (was is : Log) → (old new : Story) → (same broken : Type 0) → Type 0
 Made (Ok u) key v w x y was is old new same broken = IsGrown key v w x y was is old new
-Made (Err refusal.RowSpent) key v w x y was is old new same broken = IsSpentBehind v w × same
-Made (Err refusal.DiskFault) key v w x y was is old new same broken = KeepsLog x.own was old new × broken
+Made (Err (unserved.Refused refusal.RowSpent)) key v w x y was is old new same broken = IsSpentBehind v w × same
+Made (Err (unserved.Unanswered unanswered.DiskFault)) key v w x y was is old new same broken = KeepsLog x.own was old new × broken
 Made (Err why) key v w x y was is old new same broken = ⊥
 
 -- the session behind it: where the change was made, its page is free no more

@@ -1,6 +1,6 @@
 // Room for a further key in a full leaf.
 ghost use Rattle.std.specs.Prelude.{◌≡◌, ◌≤◌, ◌<◌, length, Err, true, false};
-ghost use Rattle.map_model.specs.declared.call.Refusal.{Refusal};
+ghost use Rattle.session_state.specs.engine_trait.Serving.{disk_fault};
 ghost use Rattle.lean_disk.specs.Faults.{HasCause};
 ghost use Rattle.session_state.specs.Holds.{Holds, IsSameSession};
 ghost use Rattle.row_changes.specs.Paths.{LeadsToFull};
@@ -13,7 +13,10 @@ use btree_smo::room::full_run;
 use btree_smo::split::split;
 use lean_disk::Disk;
 use map_model::Refusal;
-use session_state::{DEEPEST, FreePages, Path, Rows, Session, Stages, Unstaged, Work, next_fits};
+use session_state::{
+    DEEPEST, FreePages, Path, Rows, Session, Stages, Unanswered, Unserved, Unstaged, Work,
+    next_fits,
+};
 
 /// A free page that was brought into a frame: it stands hot there.
 #[derive(Clone, Copy)]
@@ -96,7 +99,7 @@ fn frame_among(placed: Option<Placed>, page: u32) -> Option<u32>
 }
 
 // Answers what came of a change of the tree. Where it was made, its page is free no more.
-fn finish(session: &mut Session, outcome: Outcome) -> Result<(), Refusal>
+fn finish(session: &mut Session, outcome: Outcome) -> Result<(), Unserved>
     requires { IsExpected outcome }
     ensures answer { result ≡ answer_of outcome }
     ensures after { session.new ≡ session_after outcome session.old }
@@ -106,10 +109,10 @@ fn finish(session: &mut Session, outcome: Outcome) -> Result<(), Refusal>
             session.free.take();
             Ok(())
         }
-        Outcome::RowSpent { row: _ } => Err(Refusal::RowSpent),
+        Outcome::RowSpent { row: _ } => Err(Unserved::Refused(Refusal::RowSpent)),
         Outcome::Unstaged(Unstaged::DiskFault) => {
             session.works = false;
-            Err(Refusal::DiskFault)
+            Err(Unserved::Unanswered(Unanswered::DiskFault))
         }
         // The pages are as the path says, the log has a block, no number is above the clock, and nobody else steps.
         Outcome::Unstaged(Unstaged::LogFull { .. }) => unreachable!(),
@@ -129,7 +132,7 @@ fn lift_root<R: Rows, D: Stages>(
     work: &mut Work<D>,
     key: u64,
     frame: u32,
-) -> Result<(), Refusal>
+) -> Result<(), Unserved>
     requires fits { R.fits rows.old seat.old }
     requires holds { Holds (R.shape rows.old) (R.view seat.old) work.old.session work.old.log }
     requires may { MayChange (R.view seat.old) work.old.session work.old.log key }
@@ -139,7 +142,7 @@ fn lift_root<R: Rows, D: Stages>(
     ensures session { IsSameSession work.old.session work.new.session }
     ensures grew { Made result key (R.view seat.old) (R.view seat.new) work.old.session work.new.session work.old.log work.new.log (D.story work.old.disk) (D.story work.new.disk) (work.new ≡ work.old) (work.new.session.works ≡ false) }
     ensures works { work.new.session.works ≡ works_after result }
-    ensures cause_disk_fault { HasCause (D.faults work.old.disk) (D.faults work.new.disk) (result ≡ Err Refusal.DiskFault) }
+    ensures cause_disk_fault { HasCause (D.faults work.old.disk) (D.faults work.new.disk) (result ≡ Err disk_fault) }
 {
     session_state::every_low();
     session_state::every_room();
@@ -159,7 +162,7 @@ fn split_page<R: Rows, D: Stages>(
     left: u32,
     right: u32,
     parent: u32,
-) -> Result<(), Refusal>
+) -> Result<(), Unserved>
     requires fits { R.fits rows.old seat.old }
     requires holds { Holds (R.shape rows.old) (R.view seat.old) work.old.session work.old.log }
     requires may { MayChange (R.view seat.old) work.old.session work.old.log key }
@@ -169,7 +172,7 @@ fn split_page<R: Rows, D: Stages>(
     ensures session { IsSameSession work.old.session work.new.session }
     ensures grew { Made result key (R.view seat.old) (R.view seat.new) work.old.session work.new.session work.old.log work.new.log (D.story work.old.disk) (D.story work.new.disk) (work.new ≡ work.old) (work.new.session.works ≡ false) }
     ensures works { work.new.session.works ≡ works_after result }
-    ensures cause_disk_fault { HasCause (D.faults work.old.disk) (D.faults work.new.disk) (result ≡ Err Refusal.DiskFault) }
+    ensures cause_disk_fault { HasCause (D.faults work.old.disk) (D.faults work.new.disk) (result ≡ Err disk_fault) }
 {
     session_state::every_low();
     session_state::every_room();
@@ -197,7 +200,7 @@ fn change_tree<R: Rows, D: Stages>(
     key: u64,
     next: Next,
     frame: u32,
-) -> Result<(), Refusal>
+) -> Result<(), Unserved>
     requires fits { R.fits rows.old seat.old }
     requires holds { Holds (R.shape rows.old) (R.view seat.old) work.old.session work.old.log }
     requires may { MayChange (R.view seat.old) work.old.session work.old.log key }
@@ -207,7 +210,7 @@ fn change_tree<R: Rows, D: Stages>(
     ensures session { IsSameSession work.old.session work.new.session }
     ensures grew { Made result key (R.view seat.old) (R.view seat.new) work.old.session work.new.session work.old.log work.new.log (D.story work.old.disk) (D.story work.new.disk) (work.new ≡ work.old) (work.new.session.works ≡ false) }
     ensures works { work.new.session.works ≡ works_after result }
-    ensures cause_disk_fault { HasCause (D.faults work.old.disk) (D.faults work.new.disk) (result ≡ Err Refusal.DiskFault) }
+    ensures cause_disk_fault { HasCause (D.faults work.old.disk) (D.faults work.new.disk) (result ≡ Err disk_fault) }
 {
     match next {
         Next::Lift { page: _ } => lift_root(rows, seat, work, key, frame),
@@ -225,7 +228,7 @@ fn change_into<R: Rows, D: Stages>(
     key: u64,
     next: Next,
     placed: Option<Placed>,
-) -> Result<Growth, Refusal>
+) -> Result<Growth, Unserved>
     requires fits { R.fits rows.old seat.old }
     requires holds { Holds (R.shape rows.old) (R.view seat.old) work.old.session work.old.log }
     requires may { MayChange (R.view seat.old) work.old.session work.old.log key }
@@ -236,7 +239,7 @@ fn change_into<R: Rows, D: Stages>(
     ensures session { IsSameSession work.old.session work.new.session }
     ensures grew { Grew result key placed (R.view seat.old) (R.view seat.new) work.old.session work.new.session work.old.log work.new.log (D.story work.old.disk) (D.story work.new.disk) (work.new ≡ work.old) (work.new.session.works ≡ false) }
     ensures works { work.new.session.works ≡ works_after result }
-    ensures cause_disk_fault { HasCause (D.faults work.old.disk) (D.faults work.new.disk) (result ≡ Err Refusal.DiskFault) }
+    ensures cause_disk_fault { HasCause (D.faults work.old.disk) (D.faults work.new.disk) (result ≡ Err disk_fault) }
 {
     let page = page_of(next);
     match frame_among(placed, page) {
@@ -257,7 +260,7 @@ pub fn make_room<R: Rows, D: Stages>(
     key: u64,
     path: &Path,
     placed: Option<Placed>,
-) -> Result<Growth, Refusal>
+) -> Result<Growth, Unserved>
     requires fits { R.fits rows.old seat.old }
     requires holds { Holds (R.shape rows.old) (R.view seat.old) work.old.session work.old.log }
     requires may { MayChange (R.view seat.old) work.old.session work.old.log key }
@@ -268,7 +271,7 @@ pub fn make_room<R: Rows, D: Stages>(
     ensures session { IsSameSession work.old.session work.new.session }
     ensures grew { Grew result key placed (R.view seat.old) (R.view seat.new) work.old.session work.new.session work.old.log work.new.log (D.story work.old.disk) (D.story work.new.disk) (work.new ≡ work.old) (work.new.session.works ≡ false) }
     ensures works { work.new.session.works ≡ works_after result }
-    ensures cause_disk_fault { HasCause (D.faults work.old.disk) (D.faults work.new.disk) (result ≡ Err Refusal.DiskFault) }
+    ensures cause_disk_fault { HasCause (D.faults work.old.disk) (D.faults work.new.disk) (result ≡ Err disk_fault) }
 {
     session_state::every_room();
     let frames = work.session.frames;
@@ -278,6 +281,6 @@ pub fn make_room<R: Rows, D: Stages>(
     };
     match next_room(path, run, &work.session.free) {
         Ok(next) => change_into(rows, seat, work, key, next, placed),
-        Err(why) => Err(why),
+        Err(why) => Err(Unserved::Refused(why)),
     }
 }

@@ -1,7 +1,7 @@
 // One step of a put behind the lock of the key: a try, and where the leaf has no room, one change of the tree.
 ghost use Rattle.std.specs.Prelude.{◌≡◌, ◌<◌, Err, IsErrAnd, true};
 ghost use Rattle.page_model.specs.Limits.{tombstone};
-ghost use Rattle.map_model.specs.declared.call.Refusal.{Refusal};
+ghost use Rattle.session_state.specs.engine_trait.Serving.{disk_fault};
 ghost use Rattle.lean_disk.specs.Faults.{HasCause};
 ghost use Rattle.session_state.specs.Holds.{Holds, IsSameSession};
 ghost use Rattle.row_changes.specs.Puts.{MayChange, works_behind};
@@ -12,7 +12,7 @@ ghost use Rattle.row_growth.specs.Rooms.{IsPlaced};
 
 use crate::room::{Growth, Placed, make_room};
 use row_changes::{Tried, Unmade, clock_refusal, put_in_leaf};
-use session_state::{Path, Rows, Stages, Work};
+use session_state::{Path, Rows, Stages, Unserved, Work};
 
 /// What one step of a put did.
 #[derive(Clone, Copy)]
@@ -47,7 +47,7 @@ pub fn put_step<R: Rows, D: Stages>(
     ensures works { work.new.session.works ≡ works_behind result }
 
     ensures cause_cold { IsWarm (R.view seat.old) key → IsErrAnd result IsCut → ⊥ }
-    ensures cause_disk_fault { HasCause (D.faults work.old.disk) (D.faults work.new.disk) (result ≡ Err (Unmade.Refused Refusal.DiskFault)) }
+    ensures cause_disk_fault { HasCause (D.faults work.old.disk) (D.faults work.new.disk) (result ≡ Err (Unmade.Unserved disk_fault)) }
 {
     let mut path = Path::new();
     match put_in_leaf(rows, seat, work, key, value, &mut path) {
@@ -56,12 +56,12 @@ pub fn put_step<R: Rows, D: Stages>(
         Ok(Tried::Full) => {}
     }
     match make_room(rows, seat, work, key, &path, placed) {
-        Err(why) => return Err(Unmade::Refused(why)),
+        Err(why) => return Err(Unmade::Unserved(why)),
         Ok(Growth::Needs { page }) => return Ok(Stepped::Needs { page }),
         Ok(Growth::Grown) => {}
     }
     match clock_refusal(&work.session) {
-        Some(why) => Err(Unmade::Refused(why)),
+        Some(why) => Err(Unmade::Unserved(Unserved::Refused(why))),
         None => Ok(Stepped::Grown),
     }
 }

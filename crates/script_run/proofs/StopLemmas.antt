@@ -18,8 +18,8 @@ use Rattle.script_run.specs.Runs.{EngineStands, Hand, InHand, IsRefusedLine, Rea
 use Rattle.script_run.specs.Runs.InHand.{OfLine, OfAbort, OfScan}
 use Rattle.script_run.specs.Inside.{EngineGoes, HasTold, IsOfEngine, IsOfPutting, IsOfReading, IsOfRunning, MayRun, StopsFor}
 use Rattle.engine_front.specs.Stops.{StopsBy}
-use Rattle.engine_front.specs.declared.calls.Unanswered.{Unanswered}
-use Rattle.engine_front.specs.declared.calls.Unanswered.TheVariants as unanswered
+use Rattle.call_parts.specs.engine_trait.declared.unserved.Unanswered.{Unanswered}
+use Rattle.call_parts.specs.engine_trait.declared.unserved.Unanswered.TheVariants as unanswered
 use Rattle.script_run.specs.declared.stop.Stop.{Stop}
 use Rattle.script_run.specs.declared.stop.Stop.TheVariants.{End, Refused, ReadFault, WriteFault, DiskFault, Damaged}
 

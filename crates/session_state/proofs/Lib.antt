@@ -5,6 +5,7 @@ pub mod UndoLemmas
 pub mod ReserveLemmas
 pub mod WaitLemmas
 pub mod HoldLemmas
+pub mod ServingLemmas
 pub mod OtherLemmas
 pub mod HeldLemmas
 pub mod FreeLemmas

@@ -45,6 +45,7 @@ pub use engine_calls::{
     every_run_crash, every_sealed, every_shown, every_told, every_version, every_warm, every_where,
     every_whole, fetch, flush, master_bytes, page_bytes, save, spare, sync_master, write_next,
 };
+pub use engine_trait::{Unanswered, Unserved};
 pub use flush_avoidance::Clock;
 pub use key_locks::every_sound;
 pub use key_locks::latches::Latches;

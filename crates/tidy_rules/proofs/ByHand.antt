@@ -3,7 +3,7 @@ use Rattle.std.proofs.Common.{◌^◌, true, refl, arith}
 use Rattle.page_model.specs.Nodes.{Format}
 use Rattle.page_model.specs.Tree.{IsTree}
 use Rattle.page_model.proofs.Check.{every_check}
-use Rattle.core_state.specs.Openings.{Opening}
+use Rattle.core_commit.specs.core_state.Openings.{Opening}
 use Rattle.tidy_rules.specs.Rows.{WorkedTidying, two_leaves}
 
 abbrev format : Format

@@ -8,12 +8,12 @@ use Rattle.page_model.specs.Pairs.{Has, Pair, Span, is_in, keep, spans, without}
 use Rattle.page_model.specs.Records as records
 use Rattle.page_model.specs.Tree.{IsTree, Names}
 use Rattle.page_model.proofs.Tree.{child_page, span_fences}
-use Rattle.core_state.specs.image_model.Entries.{Entry, Kind, applied_as, touches, written}
-use Rattle.core_state.specs.Events.{Event}
-use Rattle.core_state.specs.Needs.{are_hot, is_single, may, may_drop, may_join, needs}
-use Rattle.core_state.specs.Openings.{Opening}
-use Rattle.core_state.specs.States.{State, Worker, gsns_of, nodes_of}
-use Rattle.core_state.specs.Steps.{at_pages, happens, page_entry, records_in}
+use Rattle.core_commit.specs.core_state.image_model.Entries.{Entry, Kind, applied_as, touches, written}
+use Rattle.core_commit.specs.core_state.Events.{Event}
+use Rattle.core_commit.specs.core_state.Needs.{are_hot, is_single, may, may_drop, may_join, needs}
+use Rattle.core_commit.specs.core_state.Openings.{Opening}
+use Rattle.core_commit.specs.core_state.States.{State, Worker, gsns_of, nodes_of}
+use Rattle.core_commit.specs.core_state.Steps.{at_pages, happens, page_entry, records_in}
 use Rattle.core_commit.proofs.Events.{names_to}
 use Rattle.core_calls.specs.Room.{free_list, frees_from}
 use Rattle.tidy_rules.specs.Laws.{EveryFreed, put_in}

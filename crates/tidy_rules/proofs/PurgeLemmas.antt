@@ -8,12 +8,12 @@ use Rattle.page_model.specs.Pairs.{Has, Pair, Rising, is_in, keep}
 use Rattle.page_model.specs.Redo.{has_key}
 use Rattle.page_model.specs.Tree.{IsTree}
 use Rattle.page_model.proofs.Tree.{Lies, ok, one}
-use Rattle.core_state.specs.image_model.Entries.{Contents, Entry, Kind, touches, written}
-use Rattle.core_state.specs.Events.{Event}
-use Rattle.core_state.specs.Needs.{are_hot, is_settled, may, may_purge, needs}
-use Rattle.core_state.specs.Openings.{Opening}
-use Rattle.core_state.specs.States.{State, Worker, gsns_of, nodes_of}
-use Rattle.core_state.specs.Steps.{at_pages, happens, page_entry}
+use Rattle.core_commit.specs.core_state.image_model.Entries.{Contents, Entry, Kind, touches, written}
+use Rattle.core_commit.specs.core_state.Events.{Event}
+use Rattle.core_commit.specs.core_state.Needs.{are_hot, is_settled, may, may_purge, needs}
+use Rattle.core_commit.specs.core_state.Openings.{Opening}
+use Rattle.core_commit.specs.core_state.States.{State, Worker, gsns_of, nodes_of}
+use Rattle.core_commit.specs.core_state.Steps.{at_pages, happens, page_entry}
 use Rattle.core_calls.specs.Room.{full_from, full_run, is_all_full, is_full_at}
 use Rattle.engine_trait.specs.Refusals.{is_full_for}
 use Rattle.tidy_rules.specs.Laws.{EveryPurged, IsRoomMade, gone, purged}

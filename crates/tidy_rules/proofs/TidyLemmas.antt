@@ -8,11 +8,11 @@ use Rattle.page_model.specs.Pairs.{Has, Pair, Rising, Span, find, first_key, is_
 use Rattle.page_model.specs.Redo.{all_keys}
 use Rattle.page_model.specs.Tree.{IsTree, Names}
 use Rattle.page_model.proofs.Tree.{ok}
-use Rattle.core_state.specs.Events.{Event}
-use Rattle.core_state.specs.Needs.{are_hot, is_dead, is_settled, is_single, may, may_drop, may_join, may_purge, needs, pages_of}
-use Rattle.core_state.specs.Openings.{Opening}
-use Rattle.core_state.specs.States.{State, nodes_of}
-use Rattle.core_state.specs.Steps.{step}
+use Rattle.core_commit.specs.core_state.Events.{Event}
+use Rattle.core_commit.specs.core_state.Needs.{are_hot, is_dead, is_settled, is_single, may, may_drop, may_join, may_purge, needs, pages_of}
+use Rattle.core_commit.specs.core_state.Openings.{Opening}
+use Rattle.core_commit.specs.core_state.States.{State, nodes_of}
+use Rattle.core_commit.specs.core_state.Steps.{step}
 use Rattle.tidy_rules.specs.Laws.{EveryTidy, IsFew, IsTidying, counted, is_drop, is_join, is_purge}
 use Rattle.tidy_rules.specs.Purges.{purgeable}
 use Rattle.tidy_rules.specs.Tidying.{Sisters, Stage, Tidies, behind, drop_of, first_of, is_thin, is_thin_leaf, join_of, join_under, next_drop, next_tidy, next_up, page_among, page_at, purge_or, purgeable_in, sisters}

@@ -1,11 +1,11 @@
 -- What purges, joins and drops make of a key's leaf and of the free pages, and that the state fixes a tidying.
 use Rattle.std.specs.Prelude.{◌≡◌, ◌≤◌, ◌<◌, ◌+◌, ℕ, suc, Bool, true, false, ltb, List, [], ◌∷◌, length, Some, None, if◌then◌else◌}
 use Rattle.page_model.specs.Tree.{IsTree}
-use Rattle.core_state.specs.Events.{Event}
-use Rattle.core_state.specs.Needs.{are_hot, may, pages_of}
-use Rattle.core_state.specs.Openings.{Opening}
-use Rattle.core_state.specs.States.{State, nodes_of}
-use Rattle.core_state.specs.Steps.{happens, step}
+use Rattle.core_commit.specs.core_state.Events.{Event}
+use Rattle.core_commit.specs.core_state.Needs.{are_hot, may, pages_of}
+use Rattle.core_commit.specs.core_state.Openings.{Opening}
+use Rattle.core_commit.specs.core_state.States.{State, nodes_of}
+use Rattle.core_commit.specs.core_state.Steps.{happens, step}
 use Rattle.core_calls.specs.Room.{free_list, full_run, room_takes}
 use Rattle.engine_trait.specs.Refusals.{is_full_for}
 use Rattle.tidy_rules.specs.Purges.{purgeable}

@@ -1,9 +1,9 @@
 -- Which tombstones of a leaf nobody can need.
 use Rattle.std.specs.Prelude.{ℕ, ◌&&◌, ◌==◌, List, [], ◌∷◌, if◌then◌else◌}
 use Rattle.page_model.specs.Pairs.{Pair}
-use Rattle.core_state.specs.Needs.{is_settled}
-use Rattle.core_state.specs.Openings.{Opening}
-use Rattle.core_state.specs.States.{State}
+use Rattle.core_commit.specs.core_state.Needs.{is_settled}
+use Rattle.core_commit.specs.core_state.Openings.{Opening}
+use Rattle.core_commit.specs.core_state.States.{State}
 
 -- The keys of the tombstones among these pairs that nobody can need, in their order: nobody has the key's lock row, and its last end is known to all,
 -- since it is at most the least flushed number.

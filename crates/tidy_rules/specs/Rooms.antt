@@ -1,10 +1,10 @@
 -- Room for a key whose leaf is full: what nobody can need goes first.
 use Rattle.std.specs.Prelude.{◌≡◌, ◌<◌, ℕ, true, List, [], ◌∷◌, length}
 use Rattle.page_model.specs.Nodes.{holds}
-use Rattle.core_state.specs.Events.{Event}
-use Rattle.core_state.specs.Openings.{Opening}
-use Rattle.core_state.specs.States.{State, nodes_of}
-use Rattle.core_state.specs.Steps.{step}
+use Rattle.core_commit.specs.core_state.Events.{Event}
+use Rattle.core_commit.specs.core_state.Openings.{Opening}
+use Rattle.core_commit.specs.core_state.States.{State, nodes_of}
+use Rattle.core_commit.specs.core_state.Steps.{step}
 use Rattle.engine_trait.specs.Refusals.{is_full_for}
 use Rattle.engine_trait.specs.Rooms as growth
 use Rattle.tidy_rules.specs.Purges.{purgeable}

@@ -2,11 +2,11 @@
 use Rattle.std.specs.Prelude.{◌≡◌, ◌++◌, ◌^◌, ℕ, zero, suc, true, List, [], ◌∷◌}
 use Rattle.page_model.specs.Nodes.{Node, free}
 use Rattle.page_model.specs.Pairs.{Pair}
-use Rattle.core_state.specs.image_model.Entries.{Entry}
-use Rattle.core_state.specs.Events.{Event, Mode}
-use Rattle.core_state.specs.Openings.{Opening}
-use Rattle.core_state.specs.States.{State, nodes_of}
-use Rattle.core_state.specs.Steps.{run, state_after}
+use Rattle.core_commit.specs.core_state.image_model.Entries.{Entry}
+use Rattle.core_commit.specs.core_state.Events.{Event, Mode}
+use Rattle.core_commit.specs.core_state.Openings.{Opening}
+use Rattle.core_commit.specs.core_state.States.{State, nodes_of}
+use Rattle.core_commit.specs.core_state.Steps.{run, state_after}
 use Rattle.core_calls.specs.Room.{free_list}
 use Rattle.tidy_rules.specs.Laws.{IsTidying}
 use Rattle.tidy_rules.specs.Tidying.{Stage}

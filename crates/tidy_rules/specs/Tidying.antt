@@ -7,11 +7,11 @@ use Rattle.page_model.specs.Check.{is_nil}
 use Rattle.page_model.specs.Nodes.{covers}
 use Rattle.page_model.specs.Pairs.{Pair}
 use Rattle.page_model.specs.Redo.{is_some}
-use Rattle.core_state.specs.Events.{Event}
-use Rattle.core_state.specs.Needs.{value_in}
-use Rattle.core_state.specs.Openings.{Opening}
-use Rattle.core_state.specs.States.{State, nodes_of}
-use Rattle.core_state.specs.Steps.{step}
+use Rattle.core_commit.specs.core_state.Events.{Event}
+use Rattle.core_commit.specs.core_state.Needs.{value_in}
+use Rattle.core_commit.specs.core_state.Openings.{Opening}
+use Rattle.core_commit.specs.core_state.States.{State, nodes_of}
+use Rattle.core_commit.specs.core_state.Steps.{step}
 use Rattle.core_calls.specs.Steps.{is_structure}
 use Rattle.tidy_rules.specs.Purges.{purgeable}
 use Rattle.tidy_rules.specs.Rooms.{MakesRoom}

@@ -2,11 +2,12 @@
 use Rattle.std.specs.Prelude.{◌≡◌, ◌<◌, ◌≤◌, ◌++◌, ℕ, Bool, true, false, List, ◌∷◌, Option, None, Some, Result, Ok, Err}
 use Rattle.map_model.specs.Lists.{Has}
 use Rattle.map_model.specs.Maps.{key_end, value_end}
+use Rattle.map_model.specs.Pairings.{is_last}
 use Rattle.map_model.specs.declared.call.Answer.{Answer}
 use Rattle.map_model.specs.declared.call.Answer.TheVariants as answer
 use Rattle.map_model.specs.declared.call.Call.{Call}
 use Rattle.map_model.specs.declared.call.Call.TheVariants as call
-use Rattle.map_model.specs.declared.call.Refusal.{Refusal}
+use Rattle.paged_scans.specs.engine_trait.declared.unserved.Unserved.{Unserved}
 use Rattle.paged_scans.specs.core_state.Openings.{Opening}
 use Rattle.paged_scans.specs.core_calls.Fronts.{Done}
 use Rattle.paged_scans.specs.core_calls.Steps.{hindered_in}
@@ -25,6 +26,7 @@ use Rattle.paged_scans.specs.worker_log.Logs.{Log}
 use Rattle.paged_scans.specs.paged_desks.Calls.{OnLine}
 use Rattle.paged_ends.specs.Ends.{OnBegin}
 use Rattle.buffered_engine.specs.Receipts.{IsReceipt, flushed_in}
+use Rattle.paged_scans.specs.engine_trait.declared.unserved.Unanswered.{Unanswered}
 
 -- ## Calls
 
@@ -50,20 +52,31 @@ pub record IsDue (own : ℕ) (c : Call) (g : Opening) (xs : List Done) : Type 0 
   pub session : newest.outcome.session ≡ own
 
 -- the receipt of an end
-abbrev pub receipt_in : (own : ℕ) → Result Ended Refusal → Option Receipt
+abbrev pub receipt_in : (own : ℕ) → Result Ended Unserved → Option Receipt
 receipt_in own (Ok e) = Some (record { txn = e.number; log = own; gsn = e.at; need = e.need })
 receipt_in own (Err why) = None
+
+-- it was served
+abbrev pub IsServed : Result Answer Unanswered → Type 0
+IsServed (Ok (answer.Refused why)) = ⊥
+IsServed (Ok a) = Unit {0}
+IsServed (Err why) = ⊥
+
+-- nothing follows it on its line
+abbrev pub ends_line : Result Answer Unanswered → Bool
+ends_line (Ok a) = is_last a
+ends_line (Err why) = true
 
 -- ## Ends
 
 -- it ends a transaction
-abbrev pub ends_in : Answer → Bool
-ends_in (answer.Committed number at) = true
-ends_in (answer.Aborted number) = true
+abbrev pub ends_in : Result Answer Unanswered → Bool
+ends_in (Ok (answer.Committed number at)) = true
+ends_in (Ok (answer.Aborted number)) = true
 ends_in _ = false
 
-abbrev pub is_commit_in : Answer → Bool
-is_commit_in (answer.Committed number at) = true
+abbrev pub is_commit_in : Result Answer Unanswered → Bool
+is_commit_in (Ok (answer.Committed number at)) = true
 is_commit_in _ = false
 
 -- among the events of a call the abort of the session found all logs flushed up to this number
@@ -74,32 +87,32 @@ pub record FindsFlushed (own flushed : ℕ) (v w : View) : Type 0 where
   pub has : Has (told.End own false flushed) events
 
 -- up to which number all logs were flushed where the end was made: before the call where it is a commit, and as an abort found it
-abbrev pub WasFlushed : Answer → (own : ℕ) → (v w : View) → ℕ → Type 0
-WasFlushed (answer.Aborted number) own v w flushed = FindsFlushed own flushed v w
+abbrev pub WasFlushed : Result Answer Unanswered → (own : ℕ) → (v w : View) → ℕ → Type 0
+WasFlushed (Ok (answer.Aborted number)) own v w flushed = FindsFlushed own flushed v w
 WasFlushed _ own v w flushed = flushed ≡ flushed_in v
 
 -- a receipt of the session's end
-pub record IsEnding (own : ℕ) (v w : View) (a : Answer) (r : Receipt) : Type 0 where
+pub record IsEnding (own : ℕ) (v w : View) (a : Result Answer Unanswered) (r : Receipt) : Type 0 where
   pub flushed : ℕ
   pub was : WasFlushed a own v w flushed
   pub is : IsReceipt own flushed w r
 
 -- What a call of a session came to: its answer, and the receipt of its end, where it ended a transaction.
-pub record IsEndOf (own : ℕ) (v w : View) (a : Answer) (receipt : Option Receipt) : Type 0 where
+pub record IsEndOf (own : ℕ) (v w : View) (a : Result Answer Unanswered) (receipt : Option Receipt) : Type 0 where
   pub ended : (r : Receipt) → receipt ≡ Some r → IsEnding own v w a r
   pub none : receipt ≡ None → ends_in a ≡ false
   pub some : (r : Receipt) → receipt ≡ Some r → ends_in a ≡ true
-  pub commit : (number at : ℕ) → a ≡ answer.Committed number at → (r : Receipt) × (receipt ≡ Some r) × (r.txn ≡ number) × (r.gsn ≡ at)
+  pub commit : (number at : ℕ) → a ≡ Ok (answer.Committed number at) → (r : Receipt) × (receipt ≡ Some r) × (r.txn ≡ number) × (r.gsn ≡ at)
 
 -- the queues behind it
-abbrev pub put_ends : Option Receipt → Answer → List (List End) → List (List End)
+abbrev pub put_ends : Option Receipt → Result Answer Unanswered → List (List End) → List (List End)
 put_ends None a qs = qs
 put_ends (Some r) a qs = pushed r (is_commit_in a) qs
 
--- what may be asked next, where the engine works
-abbrev pub next_behind : (works : Bool) → Next → Answer → Next
-next_behind true next a = behind_answer a
-next_behind false next a = next
+-- what may be asked next, where there is an answer
+abbrev pub next_behind : Next → Result Answer Unanswered → Next
+next_behind next (Ok a) = behind_answer a
+next_behind next (Err why) = next
 
 -- ## Flushed numbers
 

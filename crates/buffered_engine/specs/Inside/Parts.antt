@@ -1,9 +1,8 @@
 -- What a machine is to an engine, and what a call left of it.
-use Rattle.std.specs.Prelude.{◌≡◌, ◌≤◌, ℕ, List, not}
+use Rattle.std.specs.Prelude.{◌≡◌, ◌≤◌, ℕ, List, Err, not}
 use Rattle.page_model.specs.Limits.{most_sessions}
-use Rattle.map_model.specs.declared.call.Answer.TheVariants as answer
 use Rattle.map_model.specs.declared.call.Call.{Call}
-use Rattle.map_model.specs.declared.call.Refusal.TheVariants as refusal
+use Rattle.paged_scans.specs.engine_trait.declared.unserved.Unanswered.TheVariants as unanswered
 use Rattle.paged_scans.specs.core_calls.Fronts.{Done}
 use Rattle.paged_scans.specs.core_state.Openings.{Opening}
 use Rattle.lean_disk.specs.Faults.{HasCause}
@@ -62,8 +61,7 @@ pub record IsTurned {D : Type 0} (session : ℕ) (m n : PagedMachine D) : Type 0
   pub group : n.machine.work.session.group ≡ m.machine.work.session.group
   pub pager : n.pager ≡ m.pager
 
--- A call of session `own`, which may have come to so many sessions, was answered so and did this; and what is left of the machine, which works on but for an answer
--- behind which none does.
+-- A call of session `own`, which may have come to so many sessions, was answered so and did this; and what is left of the machine, which works on where there is an answer.
 pub record MachineWent {D : Type 0} (story : D → Story) (faults : D → ℕ) (May : Opening → List Done → Type 0) (many own : ℕ) (c : Call) (r : Response) (m n : PagedMachine D) : Type 0 where
   pub does : CallDoes story May own c r.answer m n
   pub to : IsTo c r.answer
@@ -73,5 +71,5 @@ pub record MachineWent {D : Type 0} (story : D → Story) (faults : D → ℕ) (
   pub fits : SeatFits n.machine
   pub session : AreAsMany m.machine n.machine
   pub works : n.machine.work.session.works ≡ not (is_stop r.answer)
-  pub not_broken : r.answer ≡ answer.Refused refusal.Broken → ⊥
-  pub cause_disk_fault : HasCause (faults m.machine.work.disk) (faults n.machine.work.disk) (r.answer ≡ answer.Refused refusal.DiskFault)
+  pub not_broken : r.answer ≡ Err unanswered.Broken → ⊥
+  pub cause_disk_fault : HasCause (faults m.machine.work.disk) (faults n.machine.work.disk) (r.answer ≡ Err unanswered.DiskFault)

@@ -16,15 +16,15 @@ returns-in-Ok-clause-backs g c =
     let t = c.in-Ok.ensures in
     tried_ok l e.places story lawful m m c.put_back_in_leaf.new.machine 0 (omega arith) (undone_self l e.places story lawful m) c.requires.ready t.aside t.session refl t.backs
 
-pub returns-in-Err-Refused-clause-backs : goal.returns-in-Err-Refused-clause-backs
-returns-in-Err-Refused-clause-backs g c =
+pub returns-in-Err-Unserved-clause-backs : goal.returns-in-Err-Unserved-clause-backs
+returns-in-Err-Unserved-clause-backs g c =
     let e = c.laws.ensures in
     let l : Grounds = record { reached = e.reached; needs = e.needs; versions = e.versions; kept = e.kept; prefixes = e.prefixes; seals = e.seals } in
     let lawful = (g.met.D.Disk g.world.𝓛 g.world.𝓜 g.world.𝓡 ((λ s x. x), (λ x. x), (λ x. x), (λ x. x))).lawful in
     let story = g.D.Disk.story in
     let m = c.args.machine.now in
-    let t = c.in-Err-Refused.ensures in
-    tried_err l e.places story lawful m m c.put_back_in_leaf.new.machine 0 (omega arith) (undone_self l e.places story lawful m) c.requires.ready t.aside t.session t.fits c.in-Err-Refused.why c.in-Err-Refused.field-0 c.in-Err-Refused.field-0-is t.backs
+    let t = c.in-Err-Unserved.ensures in
+    tried_err l e.places story lawful m m c.put_back_in_leaf.new.machine 0 (omega arith) (undone_self l e.places story lawful m) c.requires.ready t.aside t.session t.fits c.in-Err-Unserved.why c.in-Err-Unserved.field-0 c.in-Err-Unserved.field-0-is t.backs
 
 pub returns-in-Err-Lost-clause-backs : goal.returns-in-Err-Lost-clause-backs
 returns-in-Err-Lost-clause-backs g c =
@@ -68,8 +68,8 @@ put_back_behind-requires-clause-newest g c κs within =
 pub returns-in-Ok-clause-session : goal.returns-in-Ok-clause-session
 returns-in-Ok-clause-session g c = let d = c.in-Ok.ensures.session in (d.1, d.2)
 
-pub returns-in-Err-Refused-clause-session : goal.returns-in-Err-Refused-clause-session
-returns-in-Err-Refused-clause-session g c = let d = c.in-Err-Refused.ensures.session in (d.1, d.2)
+pub returns-in-Err-Unserved-clause-session : goal.returns-in-Err-Unserved-clause-session
+returns-in-Err-Unserved-clause-session g c = let d = c.in-Err-Unserved.ensures.session in (d.1, d.2)
 
 pub returns-in-Err-Lost-clause-session : goal.returns-in-Err-Lost-clause-session
 returns-in-Err-Lost-clause-session g c = let d = c.in-Err-Lost.ensures.session in let b = c.lose.ensures.given_up.same in (b.0 ∙ d.1, b.1 ∙ d.2)
@@ -80,8 +80,8 @@ returns-in-Err-Cold-clause-session g c = let d = c.in-Err-Cold.ensures.session i
 pub returns-in-Ok-clause-cause_disk_fault : goal.returns-in-Ok-clause-cause_disk_fault
 returns-in-Ok-clause-cause_disk_fault g c = cause_ok _ _ c.in-Ok.ensures.cause_disk_fault
 
-pub returns-in-Err-Refused-clause-cause_disk_fault : goal.returns-in-Err-Refused-clause-cause_disk_fault
-returns-in-Err-Refused-clause-cause_disk_fault g c = cause_try _ _ c.in-Err-Refused.field-0 c.in-Err-Refused.why c.in-Err-Refused.field-0-is c.in-Err-Refused.ensures.cause_disk_fault
+pub returns-in-Err-Unserved-clause-cause_disk_fault : goal.returns-in-Err-Unserved-clause-cause_disk_fault
+returns-in-Err-Unserved-clause-cause_disk_fault g c = cause_try _ _ c.in-Err-Unserved.field-0 c.in-Err-Unserved.why c.in-Err-Unserved.field-0-is c.in-Err-Unserved.ensures.cause_disk_fault
 
 pub returns-in-Err-Lost-clause-cause_disk_fault : goal.returns-in-Err-Lost-clause-cause_disk_fault
 returns-in-Err-Lost-clause-cause_disk_fault g c =
@@ -91,13 +91,13 @@ pub returns-in-Err-Cold-clause-cause_disk_fault : goal.returns-in-Err-Cold-claus
 returns-in-Err-Cold-clause-cause_disk_fault g c =
     cause_at _ _ _ _ _ (sym (calm_cold _ _ c.in-Err-Cold.field-0 _ c.in-Err-Cold.field-0-is c.in-Err-Cold.ensures.cause_disk_fault)) refl c.put_back_behind.ensures.cause_disk_fault
 
-pub returns-in-Err-Refused-clause-works : goal.returns-in-Err-Refused-clause-works
-returns-in-Err-Refused-clause-works g c = let t = c.in-Err-Refused.ensures in t.works ∙ tried_works g.D.Disk.story c.args.machine.now c.put_back_in_leaf.new.machine c.in-Err-Refused.field-0 c.in-Err-Refused.why c.in-Err-Refused.field-0-is t.backs
+pub returns-in-Err-Unserved-clause-works : goal.returns-in-Err-Unserved-clause-works
+returns-in-Err-Unserved-clause-works g c = let t = c.in-Err-Unserved.ensures in t.works ∙ tried_works g.D.Disk.story c.args.machine.now c.put_back_in_leaf.new.machine c.in-Err-Unserved.field-0 c.in-Err-Unserved.why c.in-Err-Unserved.field-0-is t.backs
 
-pub returns-in-Err-Refused-clause-ready : goal.returns-in-Err-Refused-clause-ready
-returns-in-Err-Refused-clause-ready g c works =
-    let t = c.in-Err-Refused.ensures in
-    t.ready (tried_works g.D.Disk.story c.args.machine.now c.put_back_in_leaf.new.machine c.in-Err-Refused.field-0 c.in-Err-Refused.why c.in-Err-Refused.field-0-is t.backs ∙ works)
+pub returns-in-Err-Unserved-clause-ready : goal.returns-in-Err-Unserved-clause-ready
+returns-in-Err-Unserved-clause-ready g c works =
+    let t = c.in-Err-Unserved.ensures in
+    t.ready (tried_works g.D.Disk.story c.args.machine.now c.put_back_in_leaf.new.machine c.in-Err-Unserved.field-0 c.in-Err-Unserved.why c.in-Err-Unserved.field-0-is t.backs ∙ works)
 
 pub returns-in-Err-Lost-clause-works : goal.returns-in-Err-Lost-clause-works
 returns-in-Err-Lost-clause-works g c = c.lose.ensures.given_up.works ∙ sym (lost_works c.lose.result c.lose.ensures.damaged)

@@ -1,5 +1,7 @@
 use Rattle.std.proofs.Common.{◌∙◌, Option, Err, ℕ, refl, sym, subst}
 use Rattle.map_model.specs.declared.call.Refusal.{Refusal}
+use Rattle.paged_desks.specs.engine_trait.declared.unserved.Unserved.{Unserved}
+use Rattle.paged_desks.specs.engine_trait.declared.unserved.Unserved.TheVariants as unserved
 use Rattle.paged_desks.specs.declared.warming.Unwarmed.TheVariants as stopped
 use Rattle.row_changes.proofs.StepLemmas.{clock_at_end, clock_below, not_fault}
 use Rattle.paged_calls.specs.Changes.{DelsWarm}
@@ -18,7 +20,7 @@ returns-in-Err-clause-dels g c =
     let story = g.D.Disk.story in
     let m = c.args.machine.now in
     let w = c.in-Err.ensures in
-    subst (λ (why : Refusal). DelsWarm story c.args.key (Err why) m c.warm.new.self) (sym c.refusal_of.ensures)
+    subst (λ (why : Unserved). DelsWarm story c.args.key (Err why) m c.warm.new.self) (sym c.unserved_of.ensures)
     (dels_unwarmed story c.args.key m c.warm.new.self c.in-Err.why (err_reads l story lawful c.args.key m m (still_self story m) _ c.warm.new.self c.in-Err.why w.gone w.failed w.spent w.damaged))
 
 pub returns-in-Some-clause-dels : goal.returns-in-Some-clause-dels
@@ -30,14 +32,14 @@ returns-in-Some-clause-dels g c =
     let m = c.args.machine.now in
     let w = c.in_default.ensures in
     let q = clock_at_end c.warm.new.self.machine.work.session.clock.clock c.in-Some.why (sym c.clock_refusal.ensures ∙ c.in-Some.is) in
-    subst (λ (why : Refusal). DelsWarm story c.args.key (Err why) m c.warm.new.self) (sym q.is)
+    subst (λ (why : Refusal). DelsWarm story c.args.key (Err (unserved.Refused why)) m c.warm.new.self) (sym q.is)
     (record { come = come_from l story lawful c.args.key m m (still_self story m) _ c.warm.new.self (w.gone refl); may = may_behind story c.args.key _ m c.warm.new.self c.requires.ready (w.gone refl).paged c.requires.may; spent = q.spent })
 
 pub returns-in-Some-clause-works : goal.returns-in-Some-clause-works
 returns-in-Some-clause-works g c = c.in_default.ensures.works ∙ sym (clock_works (Option ℕ) c.warm.new.self.machine.work.session.clock.clock c.in-Some.why (sym c.clock_refusal.ensures ∙ c.in-Some.is))
 
 pub returns-in-Err-clause-cause_disk_fault : goal.returns-in-Err-clause-cause_disk_fault
-returns-in-Err-clause-cause_disk_fault g c = cause_warm _ (Option ℕ) _ _ c.in-Err.why c.refusal_of.result c.refusal_of.ensures c.in-Err.ensures.cause_disk_fault
+returns-in-Err-clause-cause_disk_fault g c = cause_warm _ (Option ℕ) _ _ c.in-Err.why c.unserved_of.result c.unserved_of.ensures c.in-Err.ensures.cause_disk_fault
 
 pub returns-in-Some-clause-cause_disk_fault : goal.returns-in-Some-clause-cause_disk_fault
 returns-in-Some-clause-cause_disk_fault g c = cause_none _ _ _ (c.in_default.ensures.cause_disk_fault.calm (ok_err _ _ stopped.DiskFault)) (not_fault (Option ℕ) c.warm.new.self.machine.work.session.clock.clock c.in-Some.why (sym c.clock_refusal.ensures ∙ c.in-Some.is))
@@ -66,10 +68,10 @@ returns-clause-cause_disk_fault g c =
     cause_at _ _ _ _ _ (sym (c.in_default.ensures.cause_disk_fault.calm (ok_err _ _ stopped.DiskFault))) refl (cause_made _ _ c.del_hot.result c.del_hot.ensures.cause_disk_fault)
 
 pub returns-in-Err-clause-works : goal.returns-in-Err-clause-works
-returns-in-Err-clause-works g c = works_unwarmed g.D.Disk.story c.args.key 0 c.args.machine.now c.warm.new.self c.in-Err.why c.refusal_of.result c.refusal_of.ensures c.in-Err.ensures.works
+returns-in-Err-clause-works g c = works_unwarmed g.D.Disk.story c.args.key 0 c.args.machine.now c.warm.new.self c.in-Err.why c.unserved_of.result c.unserved_of.ensures c.in-Err.ensures.works
 
 pub returns-in-Err-clause-ready : goal.returns-in-Err-clause-ready
-returns-in-Err-clause-ready g c = ready_unwarmed g.D.Disk.story c.args.key 0 c.args.machine.now c.warm.new.self c.in-Err.why c.refusal_of.result c.refusal_of.ensures c.in-Err.ensures.ready
+returns-in-Err-clause-ready g c = ready_unwarmed g.D.Disk.story c.args.key 0 c.args.machine.now c.warm.new.self c.in-Err.why c.unserved_of.result c.unserved_of.ensures c.in-Err.ensures.ready
 
 pub returns-in-Err-clause-fits : goal.returns-in-Err-clause-fits
 returns-in-Err-clause-fits g c = fits_unwarmed g.D.Disk.story c.args.key 0 c.args.machine.now c.warm.new.self c.in-Err.why c.in-Err.ensures.ready c.in-Err.ensures.failed
@@ -78,7 +80,7 @@ pub returns-in-Err-clause-session : goal.returns-in-Err-clause-session
 returns-in-Err-clause-session g c = same_unwarmed g.D.Disk.story c.args.key _ c.args.machine.now c.warm.new.self c.in-Err.why c.in-Err.ensures.gone c.in-Err.ensures.failed
 
 pub returns-in-Err-clause-turn : goal.returns-in-Err-clause-turn
-returns-in-Err-clause-turn g c = turn_unwarmed g.D.Disk.story c.args.key _ c.args.machine.now c.warm.new.self c.in-Err.why c.refusal_of.result c.refusal_of.ensures c.in-Err.ensures.gone
+returns-in-Err-clause-turn g c = turn_unwarmed g.D.Disk.story c.args.key _ c.args.machine.now c.warm.new.self c.in-Err.why c.unserved_of.result c.unserved_of.ensures c.in-Err.ensures.gone
 
 pub returns-clause-works : goal.returns-clause-works
 returns-clause-works g c = c.del_hot.ensures.works ∙ made_works g.D.Disk.story c.args.key c.warm.new.self c.del_hot.new.machine c.del_hot.result c.del_hot.ensures.dels

@@ -1,12 +1,12 @@
 use Rattle.std.proofs.Common.{◌∙◌, inl, inr, Option, ℕ, refl, sym, subst, true≢false}
-use Rattle.map_model.specs.declared.call.Answer.TheVariants as answer
 use Rattle.map_model.specs.declared.call.Call.TheVariants as call
-use Rattle.map_model.specs.declared.call.Refusal.{Refusal}
+use Rattle.paged_desks.specs.engine_trait.declared.unserved.Unserved.{Unserved}
 use Rattle.paged_desks.specs.Calls.{CallDoes, OnLine}
 use Rattle.paged_calls.proofs.GetLemmas.{get_closed, get_read, get_untaken, get_unwarmed}
 use Rattle.paged_desks.proofs.EndingLemmas.{Grounds}
 use Rattle.paged_calls.proofs.TakingLemmas.{call_closed, call_open, closed_broken, closed_come, closed_works}
 use Rattle.paged_calls.proofs.WarmLemmas.{fits_warm}
+use Rattle.paged_desks.specs.engine_trait.Serving.{unserved_answer}
 use Rattle.paged_calls.proofs.gets.get.Goals as goal
 
 pub returns-in-Some-clause-does : goal.returns-in-Some-clause-does
@@ -18,7 +18,7 @@ returns-in-Some-clause-does g c works =
     let story = g.D.Disk.story in
     elim (call_closed m.machine.work.session c.in-Some.why (sym c.call_refusal.ensures ∙ c.in-Some.is)) [
       | inl q ↦ absurd (true≢false (sym works ∙ q.0))
-      | inr q ↦ subst (λ (why : Refusal). CallDoes story OnLine m.machine.work.session.own (call.Get c.args.key) (answer.Refused why) m m) (sym q.2) (get_closed l e.answers e.coming story lawful m (c.requires.ready works) c.args.key q.1)
+      | inr q ↦ subst (λ (why : Unserved). CallDoes story OnLine m.machine.work.session.own (call.Get c.args.key) (unserved_answer why) m m) (sym q.2) (get_closed l e.answers e.coming story lawful m (c.requires.ready works) c.args.key q.1)
     ]
 
 pub returns-in-Err-clause-does : goal.returns-in-Err-clause-does
@@ -47,7 +47,7 @@ returns-in-Err-read_warm-clause-does g c works =
     let m = c.args.machine.now in
     let o = call_open m.machine.work.session (sym c.call_refusal.ensures ∙ c.in_default.is) in
     let n = c.read_warm.new.machine in
-    subst (λ (why : Refusal). CallDoes g.D.Disk.story OnLine m.machine.work.session.own (call.Get c.args.key) (answer.Refused why) m n) (sym c.refusal_of.ensures)
+    subst (λ (why : Unserved). CallDoes g.D.Disk.story OnLine m.machine.work.session.own (call.Get c.args.key) (unserved_answer why) m n) (sym c.unserved_of.ensures)
     (get_unwarmed l e.answers e.coming g.D.Disk.story lawful m (c.requires.ready works) c.args.key o.1 o.2 c.take.new.machine c.in_default-take.ensures.taken c.take.ensures.ready n c.in-Err-read_warm.why c.in-Err-read_warm.ensures.ready c.in-Err-read_warm.ensures.reads)
 
 pub returns-in-Err-read_warm-clause-fits : goal.returns-in-Err-read_warm-clause-fits

@@ -1,5 +1,7 @@
 use Rattle.std.proofs.Common.{◌∙◌, ◌+◌, ◌*◌, Option, Err, ℕ, refl, sym, subst, arith}
 use Rattle.map_model.specs.declared.call.Refusal.{Refusal}
+use Rattle.paged_desks.specs.engine_trait.declared.unserved.Unserved.{Unserved}
+use Rattle.paged_desks.specs.engine_trait.declared.unserved.Unserved.TheVariants as unserved
 use Rattle.paged_desks.proofs.EndingLemmas.{Grounds}
 use Rattle.paged_desks.specs.Pages.{most_a_level}
 use Rattle.paged_desks.specs.declared.warming.Unwarmed.TheVariants as stopped
@@ -22,14 +24,14 @@ returns-in-Err-clause-rounds g c =
     let m = c.args.machine.now in
     let n = c.warm.new.self in
     let w = c.in-Err.ensures in
-    subst (λ (why : Refusal). Rounds story c.args.key c.args.value most_a_put (Err why) m n) (sym c.refusal_of.ensures)
+    subst (λ (why : Unserved). Rounds story c.args.key c.args.value most_a_put (Err why) m n) (sym c.unserved_of.ensures)
     (unwarmed_rounds l b.residence story lawful c.args.key c.args.value m n (9 * most_a_level m.machine.work.session.workers) most_a_put (let f = way_few story m c.requires.ready in omega arith) c.in-Err.why w.gone w.failed (spent_as _ _ c.in-Err.why w.spent) (damaged_as _ _ c.in-Err.why w.damaged))
 
 pub returns-in-Err-clause-works : goal.returns-in-Err-clause-works
-returns-in-Err-clause-works g c = works_unwarmed g.D.Disk.story c.args.key 0 c.args.machine.now c.warm.new.self c.in-Err.why c.refusal_of.result c.refusal_of.ensures c.in-Err.ensures.works
+returns-in-Err-clause-works g c = works_unwarmed g.D.Disk.story c.args.key 0 c.args.machine.now c.warm.new.self c.in-Err.why c.unserved_of.result c.unserved_of.ensures c.in-Err.ensures.works
 
 pub returns-in-Err-clause-ready : goal.returns-in-Err-clause-ready
-returns-in-Err-clause-ready g c = ready_unwarmed g.D.Disk.story c.args.key 0 c.args.machine.now c.warm.new.self c.in-Err.why c.refusal_of.result c.refusal_of.ensures c.in-Err.ensures.ready
+returns-in-Err-clause-ready g c = ready_unwarmed g.D.Disk.story c.args.key 0 c.args.machine.now c.warm.new.self c.in-Err.why c.unserved_of.result c.unserved_of.ensures c.in-Err.ensures.ready
 
 pub returns-in-Err-clause-fits : goal.returns-in-Err-clause-fits
 returns-in-Err-clause-fits g c = fits_unwarmed g.D.Disk.story c.args.key 0 c.args.machine.now c.warm.new.self c.in-Err.why c.in-Err.ensures.ready c.in-Err.ensures.failed
@@ -38,10 +40,10 @@ pub returns-in-Err-clause-session : goal.returns-in-Err-clause-session
 returns-in-Err-clause-session g c = same_unwarmed g.D.Disk.story c.args.key _ c.args.machine.now c.warm.new.self c.in-Err.why c.in-Err.ensures.gone c.in-Err.ensures.failed
 
 pub returns-in-Err-clause-turn : goal.returns-in-Err-clause-turn
-returns-in-Err-clause-turn g c = turn_unwarmed g.D.Disk.story c.args.key _ c.args.machine.now c.warm.new.self c.in-Err.why c.refusal_of.result c.refusal_of.ensures c.in-Err.ensures.gone
+returns-in-Err-clause-turn g c = turn_unwarmed g.D.Disk.story c.args.key _ c.args.machine.now c.warm.new.self c.in-Err.why c.unserved_of.result c.unserved_of.ensures c.in-Err.ensures.gone
 
 pub returns-in-Err-clause-cause_disk_fault : goal.returns-in-Err-clause-cause_disk_fault
-returns-in-Err-clause-cause_disk_fault g c = cause_warm _ (Option ℕ) _ _ c.in-Err.why c.refusal_of.result c.refusal_of.ensures c.in-Err.ensures.cause_disk_fault
+returns-in-Err-clause-cause_disk_fault g c = cause_warm _ (Option ℕ) _ _ c.in-Err.why c.unserved_of.result c.unserved_of.ensures c.in-Err.ensures.cause_disk_fault
 
 pub returns-in-Some-clause-rounds : goal.returns-in-Some-clause-rounds
 returns-in-Some-clause-rounds g c =
@@ -52,7 +54,7 @@ returns-in-Some-clause-rounds g c =
     let m = c.args.machine.now in
     let k = c.warm.new.self in
     let q = clock_at_end k.machine.work.session.clock.clock c.in-Some.why (sym c.clock_refusal.ensures ∙ c.in-Some.is) in
-    subst (λ (why : Refusal). Rounds story c.args.key c.args.value most_a_put (Err why) m k) (sym q.is)
+    subst (λ (why : Refusal). Rounds story c.args.key c.args.value most_a_put (Err (unserved.Refused why)) m k) (sym q.is)
     (stopped_round l b.residence story lawful c.args.key c.args.value m k c.requires.ready (9 * most_a_level m.machine.work.session.workers) (way_few story m c.requires.ready) (c.in_default.ensures.gone refl) most_a_put (let f = way_few story m c.requires.ready in omega arith) (going_of c.args.key m (may_first c.args.key m c.requires.may)) q.spent)
 
 pub returns-in-Some-clause-works : goal.returns-in-Some-clause-works

@@ -3,12 +3,12 @@ use Rattle.row_changes.specs.declared.ways.Unmade.{Unmade}
 use Rattle.paged_calls.proofs.PutWarms.{HasStepped, none_lost}
 use Rattle.paged_calls.proofs.growing.step_hot.Goals as goal
 
-pub refusal_of-requires-clause-cut : goal.refusal_of-requires-clause-cut
-refusal_of-requires-clause-cut g c = c.in-Err.ensures.cause_cold c.requires.warm
+pub unserved_of-requires-clause-cut : goal.unserved_of-requires-clause-cut
+unserved_of-requires-clause-cut g c = c.in-Err.ensures.cause_cold c.requires.warm
 
-pub refusal_of-requires-clause-lost : goal.refusal_of-requires-clause-lost
-refusal_of-requires-clause-lost g c = none_lost g.D.Disk.story c.args.key c.args.value c.args.placed c.args.machine.now c.step.new.machine c.in-Err.unmade c.in-Err.ensures.steps
+pub unserved_of-requires-clause-lost : goal.unserved_of-requires-clause-lost
+unserved_of-requires-clause-lost g c = none_lost g.D.Disk.story c.args.key c.args.value c.args.placed c.args.machine.now c.step.new.machine c.in-Err.unmade c.in-Err.ensures.steps
 
 pub returns-in-Err-clause-steps : goal.returns-in-Err-clause-steps
 returns-in-Err-clause-steps g c =
-    subst (λ (r : Unmade). HasStepped g.D.Disk.story c.args.key c.args.value c.args.placed c.args.machine.now c.step.new.machine (Err r)) c.refusal_of.ensures c.in-Err.ensures.steps
+    subst (λ (r : Unmade). HasStepped g.D.Disk.story c.args.key c.args.value c.args.placed c.args.machine.now c.step.new.machine (Err r)) c.unserved_of.ensures c.in-Err.ensures.steps

@@ -1,13 +1,13 @@
 use Rattle.std.proofs.Common.{◌∙◌, inl, inr, Some, None, arith, refl, sym, subst, true≢false}
-use Rattle.map_model.specs.declared.call.Answer.TheVariants as answer
 use Rattle.map_model.specs.declared.call.Call.TheVariants as call
-use Rattle.map_model.specs.declared.call.Refusal.{Refusal}
+use Rattle.paged_calls.specs.engine_trait.declared.unserved.Unserved.{Unserved}
 use Rattle.paged_calls.specs.paged_desks.Calls.{CallDoes}
 use Rattle.paged_calls.proofs.paged_desks.EndingLemmas.{Grounds}
 use Rattle.paged_calls.proofs.TakingLemmas.{call_closed, call_open, closed_broken, closed_come, closed_works}
 use Rattle.paged_scans.specs.Calls.{StandsAt}
 use Rattle.paged_scans.specs.declared.scans.Step.{Step}
 use Rattle.paged_scans.proofs.ScanLemmas.{come_refused, fits_refused, next_as, scan_above, scan_closed, scan_over, scan_pair, scan_paused, scan_refused}
+use Rattle.paged_calls.specs.engine_trait.Serving.{unserved_answer}
 use Rattle.paged_scans.proofs.scans.scan_on.Goals as goal
 
 pub returns-in-Some-clause-does : goal.returns-in-Some-clause-does
@@ -20,7 +20,7 @@ returns-in-Some-clause-does g c works =
     let scan = c.args.scan.now in
     elim (call_closed m.machine.work.session c.in-Some.why (sym c.call_refusal.ensures ∙ c.in-Some.is)) [
       | inl q ↦ absurd (true≢false (sym works ∙ q.0))
-      | inr q ↦ subst (λ (why : Refusal). CallDoes story (StandsAt m.machine.work.session.own scan) m.machine.work.session.own (call.Scan scan.from scan.to) (answer.Refused why) m m) (sym q.2) (scan_closed l e.answers e.coming e.frames story lawful m (c.requires.ready works) scan c.requires.within q.1)
+      | inr q ↦ subst (λ (why : Unserved). CallDoes story (StandsAt m.machine.work.session.own scan) m.machine.work.session.own (call.Scan scan.from scan.to) (unserved_answer why) m m) (sym q.2) (scan_closed l e.answers e.coming e.frames story lawful m (c.requires.ready works) scan c.requires.within q.1)
     ]
 
 pub returns-in-Some-clause-works : goal.returns-in-Some-clause-works

@@ -1,5 +1,5 @@
 use Rattle.std.proofs.Common.{◌≡◌, ◌∙◌, Ok, Err, ap, refl, sym, subst}
-use Rattle.map_model.specs.declared.call.Refusal.{Refusal}
+use Rattle.paged_calls.specs.engine_trait.declared.unserved.Unserved.{Unserved}
 use Rattle.paged_calls.specs.session_state.declared.session.Session.{Session}
 use Rattle.row_scans.specs.declared.meets.Met.{Met}
 use Rattle.row_scans.specs.declared.meets.Unmet.TheVariants as unmet
@@ -30,7 +30,7 @@ returns-in-Err-Refused-clause-meets g c =
     (meets_why c.in-Err-Refused.field-0 (unmet.Refused c.in-Err-Refused.why) m.machine.work.session.own (view_of m) (view_of c.walk.new.machine) c.args.key _ c.in-Err-Refused.field-0-is c.in-Err-Refused.ensures.meets)
 
 pub returns-in-Err-clause-ready : goal.returns-in-Err-clause-ready
-returns-in-Err-clause-ready g c = subst (λ (why : Refusal). Rattle.paged_calls.specs.paged_desks.Calls.works_behind {A = Met} (Err why) ≡ Rattle.std.proofs.Common.true → Rattle.paged_calls.specs.paged_desks.Machines.IsReady g.D.Disk.story c.warm.new.self) (sym c.refusal_of.ensures)
+returns-in-Err-clause-ready g c = subst (λ (why : Unserved). Rattle.paged_calls.specs.paged_desks.Calls.works_behind {A = Met} (Err why) ≡ Rattle.std.proofs.Common.true → Rattle.paged_calls.specs.paged_desks.Machines.IsReady g.D.Disk.story c.warm.new.self) (sym c.unserved_of.ensures)
     (ready_as Met g.D.Disk.story c.warm.new.self c.in-Err.why c.in-Err.ensures.ready)
 
 pub returns-in-Err-clause-meets : goal.returns-in-Err-clause-meets
@@ -42,13 +42,13 @@ returns-in-Err-clause-meets g c =
     let m = c.args.machine.now in
     let met = meets_why c.in-Err-Cold.field-0 (unmet.Cold c.in-Err-Cold.field-0-0) c.args.machine.now.machine.work.session.own (view_of c.args.machine.now) (view_of c.walk.new.machine) c.args.key (c.walk.new.machine.machine.work.session ≡ c.args.machine.now.machine.work.session) c.in-Err-Cold.field-0-is c.in-Err-Cold.ensures.meets in
     let w = c.in-Err.ensures in
-    subst (λ (why : Refusal). MeetsWarm story c.args.key (Err why) m c.warm.new.self) (sym c.refusal_of.ensures)
+    subst (λ (why : Unserved). MeetsWarm story c.args.key (Err why) m c.warm.new.self) (sym c.unserved_of.ensures)
     (unwarmed_as story c.args.key m c.warm.new.self c.in-Err.why
     (err_reads l story lawful c.args.key m c.walk.new.machine (still_of story m c.walk.new.machine c.args.key c.in-Err-Cold.field-0-0.page c.walk.ensures.beside met.0 met.1) _ c.warm.new.self c.in-Err.why w.gone w.failed w.spent w.damaged))
 
 pub returns-in-Err-clause-cause_disk_fault : goal.returns-in-Err-clause-cause_disk_fault
 returns-in-Err-clause-cause_disk_fault g c =
-    cause_at _ _ _ _ _ (ap g.D.Disk.faults (sym c.walk.ensures.beside.disk)) refl (cause_warm _ Met _ _ c.in-Err.why c.refusal_of.result c.refusal_of.ensures c.in-Err.ensures.cause_disk_fault)
+    cause_at _ _ _ _ _ (ap g.D.Disk.faults (sym c.walk.ensures.beside.disk)) refl (cause_warm _ Met _ _ c.in-Err.why c.unserved_of.result c.unserved_of.ensures c.in-Err.ensures.cause_disk_fault)
 
 pub walk-requires-2-clause-open_is : goal.walk-requires-2-clause-open_is
 walk-requires-2-clause-open_is g c κs within =

@@ -1,5 +1,6 @@
 use Rattle.std.proofs.Common.{◌∙◌, Ok, sym, true≢false}
-use Rattle.map_model.specs.declared.call.Refusal.TheVariants as refusal
+use Rattle.session_state.specs.engine_trait.declared.unserved.Unanswered.TheVariants as unanswered
+use Rattle.session_state.specs.engine_trait.declared.unserved.Unserved.TheVariants as unserved
 use Rattle.row_ends.proofs.EndSteps.{latch_steps}
 use Rattle.row_ends.proofs.MissLemmas.{holds_missed}
 use Rattle.row_ends.proofs.OutcomeLemmas.{cause_as, commits_err, commits_ok, commits_steps, ok_err}
@@ -23,10 +24,10 @@ pub returns-in-Ok-clause-steps : goal.returns-in-Ok-clause-steps
 returns-in-Ok-clause-steps g c _ =
     let l = c.latch_held.ensures.latched c.if-not-latch_held.false in
     commits_steps g.D.Disk.story (Ok c.in-Ok.ended) (g.R.Rows.view c.args.seat.now) (g.R.Rows.view c.finish.new.seat) c.args.work.now.session c.finish.new.work.session c.args.work.now.log c.finish.new.work.log c.args.work.now.disk c.finish.new.work.disk
-    (commits_ok g.D.Disk.story (g.R.Rows.view c.args.seat.now) (g.R.Rows.view c.latch_held.new.seat) (g.R.Rows.view c.finish.new.seat) c.args.work.now.session c.finish.new.work.session c.args.work.now.log c.finish.new.work.log c.args.work.now.disk c.finish.new.work.disk l.given l.seen c.in-Ok.ended c.in-Ok.ensures.commits) (ok_err c.in-Ok.ended refusal.DiskFault)
+    (commits_ok g.D.Disk.story (g.R.Rows.view c.args.seat.now) (g.R.Rows.view c.latch_held.new.seat) (g.R.Rows.view c.finish.new.seat) c.args.work.now.session c.finish.new.work.session c.args.work.now.log c.finish.new.work.log c.args.work.now.disk c.finish.new.work.disk l.given l.seen c.in-Ok.ended c.in-Ok.ensures.commits) (ok_err c.in-Ok.ended (unserved.Unanswered unanswered.DiskFault))
 
 pub returns-in-Ok-clause-cause_disk_fault : goal.returns-in-Ok-clause-cause_disk_fault
-returns-in-Ok-clause-cause_disk_fault g c = cause_as _ _ _ _ (λ i. absurd (true≢false (sym i))) (λ q. absurd (ok_err c.in-Ok.ended refusal.DiskFault q)) c.in-Ok.ensures.cause_disk_fault
+returns-in-Ok-clause-cause_disk_fault g c = cause_as _ _ _ _ (λ i. absurd (true≢false (sym i))) (λ q. absurd (ok_err c.in-Ok.ended (unserved.Unanswered unanswered.DiskFault) q)) c.in-Ok.ensures.cause_disk_fault
 
 pub returns-in-Err-clause-commits : goal.returns-in-Err-clause-commits
 returns-in-Err-clause-commits g c =

@@ -1,7 +1,8 @@
 use Rattle.std.proofs.Common.{◌≡◌, ◌∙◌, refl, sym, ap, subst, Err}
 use Rattle.std.specs.Prelude.{Result}
-use Rattle.map_model.specs.declared.call.Refusal.{Refusal}
-use Rattle.map_model.specs.declared.call.Refusal.TheVariants as refusal
+use Rattle.session_state.specs.engine_trait.declared.unserved.Unanswered.TheVariants as unanswered
+use Rattle.session_state.specs.engine_trait.declared.unserved.Unserved.{Unserved}
+use Rattle.session_state.specs.engine_trait.declared.unserved.Unserved.TheVariants as unserved
 use Rattle.lean_disk.specs.Faults.{HasCause}
 use Rattle.row_growth.specs.Rooms.{session_after}
 use Rattle.row_growth.proofs.ChangeLemmas.{faults_told, session_kept}
@@ -80,7 +81,7 @@ returns-clause-cause_disk_fault g c =
     let w = g.R.Rows.view c.split-outcome.new.seat in
     let x = c.args.work.now.session in
     let y = c.split-outcome.new.draw.session in
-    subst (λ (r : Result (Unit {0}) Refusal). HasCause (g.D.Disk.faults c.args.work.now.disk) (g.D.Disk.faults c.split-outcome.new.draw.disk) (r ≡ Err refusal.DiskFault)) (sym c.finish.ensures.answer)
+    subst (λ (r : Result (Unit {0}) Unserved). HasCause (g.D.Disk.faults c.args.work.now.disk) (g.D.Disk.faults c.split-outcome.new.draw.disk) (r ≡ Err (unserved.Unanswered unanswered.DiskFault))) (sym c.finish.ensures.answer)
     (faults_told x y c.args.work.now.staged.list c.split-outcome.new.draw.staged.list c.args.work.now.log c.split-outcome.new.draw.log (g.D.Disk.story c.args.work.now.disk) (g.D.Disk.story c.split-outcome.new.draw.disk) (c.split-outcome.new.draw.disk ≡ c.args.work.now.disk) (c.split-outcome.new.draw ≡ c.args.work.now)
     (g.D.Disk.faults c.args.work.now.disk) (g.D.Disk.faults c.split-outcome.new.draw.disk) (λ e. ap (λ k. g.D.Disk.faults k.disk) e) c.split-outcome.result (split_expected c.every_room.ensures z v w x y c.args.work.now.log c.split-outcome.new.draw.log c.requires.holds c.args.key c.requires.may c.next_fits.ensures c.args.left c.args.right c.args.parent c.requires.can
     c.args.work.now.staged.list c.split-outcome.new.draw.staged.list (g.D.Disk.story c.args.work.now.disk) (g.D.Disk.story c.split-outcome.new.draw.disk) (c.split-outcome.new.draw.disk ≡ c.args.work.now.disk) (c.split-outcome.new.draw ≡ c.args.work.now) (g.D.Disk.faults c.args.work.now.disk) (g.D.Disk.faults c.split-outcome.new.draw.disk)
