@@ -1,0 +1,5 @@
+pub mod MadeLemmas
+pub mod EndLemmas
+pub mod PurgeLemmas
+pub mod JoinLemmas
+pub mod DropLemmas
