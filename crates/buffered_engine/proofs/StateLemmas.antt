@@ -1,6 +1,5 @@
 -- An engine's call: what it says, and what holds of the engine behind it.
-use Rattle.std.proofs.Common.{◌≡◌, ◌≤◌, ◌<◌, ℕ, Bool, true, false, leb, List, length, IfSome, refl, sym, ap, ◌∙◌, subst, Result, Ok, not}
-use Rattle.map_model.specs.Pairings.{is_last}
+use Rattle.std.proofs.Common.{◌≡◌, ◌≤◌, ◌<◌, ℕ, Bool, true, false, leb, List, length, IfSome, refl, sym, ap, ◌∙◌, subst, Result, Ok}
 use Rattle.map_model.specs.declared.call.Answer.{Answer}
 use Rattle.map_model.specs.declared.call.Answer.TheVariants as answer
 use Rattle.map_model.specs.declared.call.Call.{Call}

@@ -417,6 +417,121 @@ static CASES: [Case; 11] = [
     },
 ];
 
+// Syncs, where these calls of the masters' area fail. The opening makes the first five, and each master takes two, a write and a sync.
+static SYNCS: [(&[u64], Case); 6] = [
+    (
+        &[6],
+        Case {
+            name: "a sync of one log writes no master",
+            sessions: 1,
+            group: 2,
+            failing: &[],
+            steps: &[
+                (1, Step::Begin(Ok(Began { number: 1 }))),
+                (1, Step::Put(5, 7, Ok(None))),
+                (1, Step::Commit(Ok(FIRST))),
+                (1, Step::NoDurable),
+                (1, Step::Sync(Ok(Synced { at: 2 }))),
+                (1, Step::Durable(1, 1)),
+                // nothing is new
+                (1, Step::Sync(Ok(Synced { at: 2 }))),
+            ],
+        },
+    ),
+    (
+        &[6],
+        Case {
+            name: "a sync of two logs that end at one number writes no master",
+            sessions: 2,
+            group: 2,
+            failing: &[],
+            steps: &[
+                (1, Step::Begin(Ok(Began { number: 1 }))),
+                (1, Step::Put(5, 7, Ok(None))),
+                (1, Step::Commit(Ok(FIRST))),
+                (2, Step::Begin(Ok(Began { number: 1 }))),
+                (2, Step::Get(6, Ok(None))),
+                (2, Step::Commit(Ok(receipt!(1, 2, 2, 1)))),
+                (1, Step::Sync(Ok(Synced { at: 2 }))),
+                (1, Step::Durable(1, 1)),
+                (1, Step::Durable(2, 1)),
+                (1, Step::NoDurable),
+            ],
+        },
+    ),
+    (
+        &[6],
+        Case {
+            name: "a sync on a new disk writes no master",
+            sessions: 2,
+            group: 1,
+            failing: &[],
+            steps: &[(1, Step::Sync(Ok(Synced { at: 0 })))],
+        },
+    ),
+    (
+        &[6],
+        Case {
+            name: "a sync writes a master where one log ends below the other",
+            sessions: 2,
+            group: 1,
+            failing: &[],
+            steps: &[
+                (1, Step::Begin(Ok(Began { number: 1 }))),
+                (1, Step::Put(5, 7, Ok(None))),
+                (1, Step::Commit(Ok(FIRST))),
+                (
+                    1,
+                    Step::Sync(Err(Unserved::Unanswered(Unanswered::DiskFault))),
+                ),
+            ],
+        },
+    ),
+    (
+        &[7],
+        Case {
+            name: "a sync syncs the master that it writes",
+            sessions: 2,
+            group: 1,
+            failing: &[],
+            steps: &[
+                (1, Step::Begin(Ok(Began { number: 1 }))),
+                (1, Step::Put(5, 7, Ok(None))),
+                (1, Step::Commit(Ok(FIRST))),
+                (
+                    1,
+                    Step::Sync(Err(Unserved::Unanswered(Unanswered::DiskFault))),
+                ),
+            ],
+        },
+    ),
+    (
+        &[8],
+        Case {
+            name: "a sync behind which nothing is new writes no second master",
+            sessions: 2,
+            group: 1,
+            failing: &[],
+            steps: &[
+                (1, Step::Begin(Ok(Began { number: 1 }))),
+                (1, Step::Put(5, 7, Ok(None))),
+                (1, Step::Commit(Ok(FIRST))),
+                (1, Step::Sync(Ok(Synced { at: 2 }))),
+                // nothing is new
+                (1, Step::Sync(Ok(Synced { at: 2 }))),
+                // the first log ends below the second
+                (2, Step::Begin(Ok(Began { number: 1 }))),
+                (2, Step::Put(6, 8, Ok(None))),
+                (2, Step::Commit(Ok(receipt!(1, 2, 4, 0)))),
+                (
+                    1,
+                    Step::Sync(Err(Unserved::Unanswered(Unanswered::DiskFault))),
+                ),
+            ],
+        },
+    ),
+];
+
 // Whether a call of a session that there is gives what is written.
 fn is_called(engine: &mut Engine<MemDisk>, session: u32, step: &Step) -> bool {
     if engine.expects() != Next::Line || session < 1 || session > engine.sessions() {
@@ -610,8 +725,9 @@ fn new_disk(alloc: Global, sessions: u32) -> Result<MemDisk, AllocError> {
     unused(&disk)
 }
 
-fn is_met(alloc: Global, case: &Case) -> Result<bool, AllocError> {
+fn is_met(alloc: Global, masters: &[u64], case: &Case) -> Result<bool, AllocError> {
     let mut disk = new_disk(alloc, case.sessions)?;
+    disk.fail_at(0, Vec::from_slice(alloc, masters)?);
     disk.fail_at(2, Vec::from_slice(alloc, case.failing)?);
     let size = Size {
         frames: 32,
@@ -642,6 +758,9 @@ fn each_call_gives_what_is_written(rt: HostRuntime) {
         expect(&rt, name, is_as_told(alloc, *workers, failing, wants));
     }
     for case in &CASES {
-        expect(&rt, case.name, is_met(alloc, case));
+        expect(&rt, case.name, is_met(alloc, &[], case));
+    }
+    for (masters, case) in &SYNCS {
+        expect(&rt, case.name, is_met(alloc, masters, case));
     }
 }

@@ -37,7 +37,7 @@ use Rattle.desk_parts.specs.row_words.Openings.{opening}
 use Rattle.desk_parts.specs.rows_trait.declared.view.View.{View}
 use Rattle.desk_parts.specs.session_desks.Desks.{desk_of}
 use Rattle.desk_parts.specs.session_desks.Machines.{IsLogged}
-use Rattle.desk_parts.specs.session_desks.Parts.{AreAsMany, HasLogs, here, logs}
+use Rattle.desk_parts.specs.session_desks.Parts.{AreAsMany, HasLogs, here}
 use Rattle.desk_parts.specs.session_state.Ties.{Behind, Ties}
 use Rattle.desk_parts.specs.worker_log.Logs.{Log}
 use Rattle.desk_parts.proofs.call_parts.EndLemmas.{every_end}

@@ -49,7 +49,7 @@ use Rattle.paged_desks.specs.Machines.{IsNobodyInside, IsReady, memory, pages}
 use Rattle.desk_parts.specs.core_calls.LogEvents.{AreFlushes}
 use Rattle.paged_desks.specs.Pages.{AreKept, ArePaging, is_paging}
 use Rattle.paged_desks.specs.Pages as words
-use Rattle.paged_desks.specs.Syncs.{IsSynced}
+use Rattle.paged_desks.specs.Syncs.{IsMasterBehind, IsSynced}
 use Rattle.paged_desks.specs.declared.machine.PagedMachine.{PagedMachine}
 use Rattle.desk_parts.proofs.session_desks.SeatLemmas.{holds_of}
 use Rattle.paged_desks.proofs.Moments.{IsFlushed, flushed_run, flushed_then, length_events, synced_step}
@@ -214,6 +214,29 @@ module _ {D : Type 0} (story : D → Story) (reached : EveryReached) (needs : Ev
       let q = (every_memory old new m.machine.work.session.workers v t.seat.view (memory m) (memory_with_slots (desks.memory t) m.pager.slots) (memory m) (memory n) many (record { log = λ a some most. refl; master = refl; slots = refl }) same_memory).part events p in
       subst (λ (x : View). Part m.machine.work.session.workers events v x (memory m) (memory n) old (story u.work.disk)) (sym view) (subst (λ d. Part m.machine.work.session.workers events v t.seat.view (memory m) (memory n) old (story d)) (sym disk) q)
 
+  -- a flush leaves the last number of its log
+  same_last : (a : ℕ) → 0 < a → a ≤ m.machine.work.session.workers → (made.logs a).last ≡ (logs m.machine a).last
+  same_last a some most = made.flushed.last a some most
+
+  master_behind : IsMasterBehind m.machine.work.session.workers number (logs m.machine) m.machine.master u.master
+  master_behind = go made.written
+    where
+      within : (a : ℕ) → 0 < a → a ≤ m.machine.work.session.workers → (logs m.machine a).last ≤ number
+      within a some most = subst (λ k. k ≤ number) (same_last a some most) (made.ready.within a some most)
+
+      go : IsWritten story m.machine.work.session.workers number made.logs m.machine.master t.master made.between t.work.disk
+          → IsMasterBehind m.machine.work.session.workers number (logs m.machine) m.machine.master u.master
+      go (IsWritten.Still all same next) = record {
+        within = within;
+        still = λ _. master ∙ next;
+        written = λ none. absurd (none (λ a some most. sym (same_last a some most) ∙ all a some most));
+      }
+      go (IsWritten.Wrote some on writes next) = record {
+        within = within;
+        still = λ all. absurd (some (λ a low most. same_last a low most ∙ all a low most));
+        written = λ _. master ∙ next;
+      }
+
   pub synced_is : IsSynced story m n number
   synced_is = record {
     events = events;
@@ -228,6 +251,7 @@ module _ {D : Type 0} (story : D → Story) (reached : EveryReached) (needs : Ev
     sessions = kept;
     logged = logged;
     after = after;
+    master = master_behind;
     flushed = rest.flushed;
     floor = rest.floor;
     worker = rest.worker;

@@ -7,6 +7,7 @@ use Rattle.core_covers.specs.Lows.{IsAllFlushed}
 use Rattle.desk_parts.specs.core_state.Events as happening
 use Rattle.desk_parts.specs.core_state.Openings.{Opening}
 use Rattle.desk_parts.specs.core_state.States.{State, Worker}
+use Rattle.desk_parts.specs.disk_slots.declared.master.Master.{Master}
 use Rattle.desk_parts.specs.engine_trait.Logs.{Logs}
 use Rattle.lean_disk.specs.Story.{Story}
 use Rattle.desk_parts.specs.row_words.declared.event.Event.{Event}
@@ -14,6 +15,7 @@ use Rattle.desk_parts.specs.row_words.Moments.{events_of}
 use Rattle.desk_parts.specs.row_words.Openings.{opening}
 use Rattle.desk_parts.specs.rows_trait.Views.{state}
 use Rattle.desk_parts.specs.session_desks.Parts.{AreAsMany, SeatFits, logs}
+use Rattle.desk_parts.specs.session_desks.Syncs.{AllEndAt, next_with}
 use Rattle.desk_parts.specs.session_state.Ties.{Behind}
 use Rattle.paged_desks.specs.Machines.{memory, view_of}
 use Rattle.paged_desks.specs.Pages.{AreKept, ArePaging}
@@ -22,6 +24,14 @@ use Rattle.desk_parts.specs.disk_runs.MasterLaws.{raised}
 use Rattle.desk_parts.specs.call_parts.Rooms.{makes_sync}
 use Rattle.map_model.specs.Lists.{all}
 use Rattle.desk_parts.specs.session_state.Syncs.{flushed_of}
+use Rattle.desk_parts.specs.worker_log.Logs.{Log}
+
+-- The master behind a sync up to the number of logs that were so before it: where the last number of one was below that, the next one, with the number as its floor;
+-- and where none was, the same.
+pub record IsMasterBehind (many number : ℕ) (logs : ℕ → Log) (old next : Master) : Type 0 where
+  pub within : (w : ℕ) → 0 < w → w ≤ many → (logs w).last ≤ number
+  pub still : AllEndAt many number logs → next ≡ old
+  pub written : (AllEndAt many number logs → ⊥) → next ≡ next_with old number
 
 -- Logs were flushed, and all were synced up to this number; no clock is above what is flushed everywhere then. What is known of pages is as it was.
 pub record IsSynced {D : Type 0} (story : D → Story) (m n : PagedMachine D) (number : ℕ) : Type 0 where
@@ -38,6 +48,7 @@ pub record IsSynced {D : Type 0} (story : D → Story) (m n : PagedMachine D) (n
   pub logged : (w : ℕ) → 0 < w → w ≤ m.machine.work.session.workers → (g : Opening) (s : State) → Logs w g s (events_of events) (logs m.machine w) (logs n.machine w)
   -- each log was flushed as far as it goes, and ends at the number
   pub after : (w : ℕ) → 0 < w → w ≤ m.machine.work.session.workers → logs n.machine w ≡ raised (flushed_of (logs m.machine w)) number
+  pub master : IsMasterBehind m.machine.work.session.workers number (logs m.machine) m.machine.master n.machine.master
   pub flushed : ℕ → ℕ
   pub floor : ℕ
   pub worker : ℕ → Worker

@@ -1,14 +1,15 @@
 // A sync of all logs.
-ghost use Rattle.std.specs.Prelude.{◌≡◌, ◌⊎◌, ◌↔◌, IfErr, Err, false};
+ghost use Rattle.std.specs.Prelude.{◌≡◌, ◌⊎◌, ◌↔◌, IfErr, IfOk, Err, false};
 ghost use Rattle.map_model.specs.declared.call.Call.TheVariants as call;
 ghost use Rattle.map_model.specs.declared.call.Refusal.{Refusal};
 ghost use Rattle.paged_desks.specs.engine_trait.declared.unserved.Unserved.{Unserved};
 ghost use Rattle.paged_desks.specs.engine_trait.Serving.{MayRefuse, broken, disk_fault};
 ghost use Rattle.lean_disk.specs.Faults.{HasCause};
-ghost use Rattle.paged_desks.specs.session_desks.Parts.{AreAsMany, SeatFits, Works};
+ghost use Rattle.paged_desks.specs.session_desks.Parts.{AreAsMany, SeatFits, Works, logs};
 ghost use Rattle.paged_desks.specs.Calls.{CallDoes, EndsWork, OnLine, works_behind};
 ghost use Rattle.paged_desks.specs.Machines.{IsReady};
 ghost use Rattle.paged_desks.specs.Parts.{IsCramped};
+ghost use Rattle.paged_desks.specs.Syncs.{IsMasterBehind};
 ghost use Rattle.paged_ends.specs.Ends.{sync_answer};
 
 use crate::laws::laws;
@@ -23,6 +24,7 @@ pub fn sync<D: Stages>(machine: &mut PagedMachine<D>) -> Result<u64, Unserved>
     ensures ready { Works machine.new.machine → IsReady D.story machine.new }
     ensures fits { SeatFits machine.old.machine → SeatFits machine.new.machine }
     ensures does { Works machine.old.machine → CallDoes D.story OnLine 0 call.Sync (sync_answer result) machine.old machine.new }
+    ensures written { IfOk result (λ number. IsMasterBehind machine.old.machine.work.session.workers number (logs machine.old.machine) machine.old.machine.master machine.new.machine.master) }
     ensures same { (result ≡ Err broken) ⊎ (result ≡ Err (Unserved.Refused Refusal.RowSpent)) → machine.new ≡ machine.old }
     ensures session { AreAsMany machine.old.machine machine.new.machine }
     ensures turn { Works machine.new.machine → machine.new.machine.work.session.own ≡ machine.old.machine.work.session.own }

@@ -46,6 +46,9 @@ returns-in-Ok-clause-does g c works h xs many tied halves line =
     let story = g.D.Disk.story in
     sync_does l story lawful m c.sync.new.self (c.requires.ready works) h xs many tied halves line (c.in-Ok.ensures.ready refl) c.in-Ok.at c.in-Ok.ensures.synced
 
+pub returns-in-Ok-clause-written : goal.returns-in-Ok-clause-written
+returns-in-Ok-clause-written g c = c.in-Ok.ensures.synced.master
+
 pub returns-in-Err-clause-does : goal.returns-in-Err-clause-does
 returns-in-Err-clause-does g c works h xs many tied halves line =
     let e = c.laws.ensures in
