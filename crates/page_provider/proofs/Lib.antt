@@ -20,6 +20,7 @@ pub mod Sightings
 pub mod Peeks
 pub mod Givings
 pub mod Marks
+pub mod Asks
 pub mod Beginning
 pub mod Reading
 pub mod Coming

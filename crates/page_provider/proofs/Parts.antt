@@ -10,7 +10,9 @@ use Rattle.btree_descent.specs.row_words.Openings.{opening}
 use Rattle.btree_descent.specs.rows_trait.declared.view.View.{View}
 use Rattle.btree_descent.specs.rows_trait.Turns.{Ran}
 use Rattle.btree_descent.specs.rows_trait.Views.{Shape, state}
+use Rattle.page_provider.specs.Refusals.{IsOfRow}
 use Rattle.page_provider.specs.declared.refusal.Refusal.{Refusal}
+use Rattle.page_provider.specs.declared.refusal.Refusal.TheVariants as refusal
 use Rattle.page_provider.specs.Disks.{Disked}
 use Rattle.page_provider.specs.Evicts.{CanLeave, HasLeft, HasStayed, saving}
 use Rattle.page_provider.specs.Inside.{HasCleared, HasGone, HasSaved, IsEntered, Judges}
@@ -79,9 +81,25 @@ err_to P Q (Err e) f s p = f e s p
 pub cause_to : {m n : ℕ} {A B : Type 0} → HasCause m n A → (A → ⊥) → (B → ⊥) → HasCause m n B
 cause_to h first last = record { later = h.later; cause = λ b. absurd (last b); calm = λ _. h.calm first }
 
+-- it failed in both senses
+pub cause_for : {m n : ℕ} {A B : Type 0} → HasCause m n A → A → B → HasCause m n B
+cause_for c a b = record { later = c.later; cause = λ _. c.cause a; calm = λ k. absurd (k b) }
+
+-- it is told on
+pub cause_up : {m n : ℕ} {A B E : Type 0} {q : Result A E} {why told fault : E} (r : Result B E) → q ≡ Err why → r ≡ Err told → why ≡ told → HasCause m n (q ≡ Err fault) → HasCause m n (r ≡ Err fault)
+cause_up r was is same h = record { later = h.later; cause = λ b. h.cause (cc); calm = λ none. h.calm (λ a. none (cc)) }
+
 -- it was asked for nothing
 pub cause_none : {n : ℕ} {A : Type 0} → (A → ⊥) → HasCause n n A
 cause_none none = record { later = omega arith; cause = λ a. absurd (none a); calm = λ _. refl }
+
+-- a row was not as it has to be, so the device did not fail
+pub row_unlike : {A : Type 0} {why told : Refusal} (r : Result A Refusal) → r ≡ Err told → why ≡ told → IsOfRow why → r ≡ Err refusal.DiskFault → ⊥
+row_unlike {why = why} r is same kind failed = let e : why ≡ refusal.DiskFault = cc in subst IsOfRow e kind
+
+-- nor was it where a row was not as it has to be
+pub cause_row : {n : ℕ} {A : Type 0} {why told : Refusal} (r : Result A Refusal) → r ≡ Err told → why ≡ told → IsOfRow why → HasCause n n (r ≡ Err refusal.DiskFault)
+cause_row r is same kind = cause_none (row_unlike r is same kind)
 
 -- ## The disk
 

@@ -1,4 +1,4 @@
-use Rattle.std.proofs.Common.{ℕ, Option}
+use Rattle.std.proofs.Common.{◌∙◌, Option, ℕ}
 use Rattle.std.proofs.lemmas.Result.{IfErr-weaker, IfOk-weaker}
 use Rattle.row_image.specs.Looks.{Watched}
 use Rattle.row_image.proofs.Watching.{watched_shape, watched_then}
@@ -7,6 +7,7 @@ use Rattle.page_provider.specs.Inside.{Missed}
 use Rattle.page_provider.specs.declared.refusal.Refusal.{Refusal}
 use Rattle.page_provider.proofs.Peeks.{named_before}
 use Rattle.page_provider.proofs.Sightings.{missed_before, sound_still}
+use Rattle.page_provider.proofs.Asks.{actor_on, sized_on}
 use Rattle.page_provider.proofs.finding.named.Goals as goal
 
 pub named_any-requires-clause-sound : goal.named_any-requires-clause-sound
@@ -41,3 +42,15 @@ returns-then-first-frames-clause-err g c =
     let P : Refusal → Type 0 = λ why. Missed (g.R.Rows.shape c.names.new.rows) u why w in
     let Q : Refusal → Type 0 = λ why. Missed (g.R.Rows.shape c.args.rows.now) v why w in
     IfErr-weaker c.named_any.result P Q (λ why h. missed_before o.fits.1 o.kept h) c.named_any.ensures.err
+
+pub named_any-requires-clause-fits : goal.named_any-requires-clause-fits
+named_any-requires-clause-fits g c = c.in_ok-names.ensures.fits.0
+
+pub named_any-requires-clause-sized : goal.named_any-requires-clause-sized
+named_any-requires-clause-sized g c = let o = c.in_ok-names.ensures in sized_on o.fits.1 o.kept c.requires.sized
+
+pub named_any-requires-clause-actor : goal.named_any-requires-clause-actor
+named_any-requires-clause-actor g c = let o = c.in_ok-names.ensures in actor_on o.fits.1 o.kept c.requires.actor
+
+pub returns-then-first-frames-clause-fits : goal.returns-then-first-frames-clause-fits
+returns-then-first-frames-clause-fits g c = let o = c.in_ok-names.ensures.fits in let e = c.named_any.ensures.fits in (e.0, e.1 ∙ o.1, e.2 ∙ o.2)

@@ -6,6 +6,7 @@ use Rattle.page_provider.specs.Inside.{Missed}
 use Rattle.page_provider.specs.declared.refusal.Refusal.{Refusal}
 use Rattle.page_provider.proofs.Savings.{if_err}
 use Rattle.page_provider.proofs.Sightings.{missed_before, sound_still, unnamed_next, unnamed_none}
+use Rattle.page_provider.proofs.Asks.{actor_on, sized_on}
 use Rattle.page_provider.proofs.finding.named_any.Goals as goal
 
 pub loop-frame-init : goal.loop-frame-init
@@ -49,3 +50,18 @@ returns-clause-ok g c =
     let inv = c.loop-frame.invariant in
     let all = c.loop-frame-test.false in
     (inv.unnamed.watched.ran, λ only f n lt s. inv.unnamed.none only f n (omega arith) s)
+
+pub names-requires-clause-fits : goal.names-requires-clause-fits
+names-requires-clause-fits g c = c.loop-frame.invariant.fits.0
+
+pub names-requires-clause-sized : goal.names-requires-clause-sized
+names-requires-clause-sized g c = let i = c.loop-frame.invariant in sized_on i.fits.1 i.unnamed.watched c.requires.sized
+
+pub names-requires-clause-actor : goal.names-requires-clause-actor
+names-requires-clause-actor g c = let i = c.loop-frame.invariant in actor_on i.fits.1 i.unnamed.watched c.requires.actor
+
+pub returns-in_err-names-clause-fits : goal.returns-in_err-names-clause-fits
+returns-in_err-names-clause-fits g c = let o = c.loop-frame.invariant.fits in let e = c.in_err-names.ensures.fits in (e.0, e.1 ∙ o.1, e.2 ∙ o.2)
+
+pub returns-then-branch-clause-fits : goal.returns-then-branch-clause-fits
+returns-then-branch-clause-fits g c = let o = c.loop-frame.invariant.fits in let e = c.in_ok-names.ensures.fits in (e.0, e.1 ∙ o.1, e.2 ∙ o.2)

@@ -1,4 +1,4 @@
-use Rattle.std.proofs.Common.{ℕ, Option}
+use Rattle.std.proofs.Common.{◌∙◌, Option, ℕ}
 use Rattle.std.proofs.lemmas.Result.{IfErr-weaker, IfOk-weaker}
 use Rattle.row_image.specs.Looks.{Watched}
 use Rattle.row_image.specs.declared.sight.Sight.{Sight}
@@ -7,6 +7,7 @@ use Rattle.page_provider.specs.Finds.{Naming}
 use Rattle.page_provider.specs.Inside.{Missed}
 use Rattle.page_provider.specs.declared.refusal.Refusal.{Refusal}
 use Rattle.page_provider.proofs.Sightings.{missed_before, naming_before, sound_still}
+use Rattle.page_provider.proofs.Asks.{actor_on, sized_on}
 use Rattle.page_provider.proofs.finding.naming.Goals as goal
 
 pub naming_any-requires-clause-sound : goal.naming_any-requires-clause-sound
@@ -47,3 +48,15 @@ returns-then-first-frames-clause-kind g c = c.naming_any.ensures.kind
 
 pub returns-clause-kind : goal.returns-clause-kind
 returns-clause-kind g c = c.naming_any-2.ensures.kind
+
+pub naming_any-requires-clause-fits : goal.naming_any-requires-clause-fits
+naming_any-requires-clause-fits g c = c.in_ok-found.ensures.fits.0
+
+pub naming_any-requires-clause-sized : goal.naming_any-requires-clause-sized
+naming_any-requires-clause-sized g c = let o = c.in_ok-found.ensures in sized_on o.fits.1 o.kept c.requires.sized
+
+pub naming_any-requires-clause-actor : goal.naming_any-requires-clause-actor
+naming_any-requires-clause-actor g c = let o = c.in_ok-found.ensures in actor_on o.fits.1 o.kept c.requires.actor
+
+pub returns-then-first-frames-clause-fits : goal.returns-then-first-frames-clause-fits
+returns-then-first-frames-clause-fits g c = let o = c.in_ok-found.ensures.fits in let e = c.naming_any.ensures.fits in (e.0, e.1 ∙ o.1, e.2 ∙ o.2)

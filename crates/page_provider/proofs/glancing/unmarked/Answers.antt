@@ -1,4 +1,4 @@
-use Rattle.std.proofs.Common.{◌∙◌, ◌<◌, sym, subst}
+use Rattle.std.proofs.Common.{subst, sym, ◌<◌, ◌∙◌}
 use Rattle.btree_descent.specs.row_words.Moments.{pager}
 use Rattle.btree_descent.specs.row_words.Openings.{opening}
 use Rattle.btree_descent.specs.rows_trait.Views.{state}
@@ -8,6 +8,7 @@ use Rattle.row_image.proofs.Watching.{watched_load, watched_then, watched_shape,
 use Rattle.row_image.proofs.Sighting.{begun_at, again_shape, moved_since, bare}
 use Rattle.btree_descent.specs.swips.declared.hint.TheConstants.{MARK}
 use Rattle.page_provider.proofs.Peeks.{unequal_not}
+use Rattle.page_provider.proofs.Asks.{actor_on}
 use Rattle.page_provider.proofs.glancing.unmarked.Goals as goal
 
 pub returns-in-Ok-again-clause-kept : goal.returns-in-Ok-again-clause-kept
@@ -48,3 +49,24 @@ returns-in-Err-again-clause-quiet g c =
     let s1 = c.begin.ensures.fits.1 in
     let k = watched_shape s1 (watched_load c.word-hint.ensures.step) in
     never_refused (moved_since (c.word-hint.ensures.fits.1 ∙ s1) (begun_at o.0 o.1) k c.in-Err-again.ensures.err)
+
+pub again-requires-clause-actor : goal.again-requires-clause-actor
+again-requires-clause-actor g c =
+    let o = c.in-Ok.ensures.ok in
+    let s1 = c.begin.ensures.fits.1 in
+    let k = watched_shape s1 (watched_load c.word-hint.ensures.step) in
+    actor_on (c.word-hint.ensures.fits.1 ∙ s1) (watched_then o.1.watched k) c.requires.actor
+
+pub returns-in-Ok-again-clause-fits : goal.returns-in-Ok-again-clause-fits
+returns-in-Ok-again-clause-fits g c =
+    let s1 = c.begin.ensures.fits.1 in
+    let k = watched_shape s1 (watched_load c.word-hint.ensures.step) in
+    let e = c.in-Ok-again.ensures.fits in
+    (e.0, e.1 ∙ (c.word-hint.ensures.fits.1 ∙ s1), e.2 ∙ (k.held ∙ c.begin.ensures.fits.2))
+
+pub returns-in-Err-again-clause-fits : goal.returns-in-Err-again-clause-fits
+returns-in-Err-again-clause-fits g c =
+    let s1 = c.begin.ensures.fits.1 in
+    let k = watched_shape s1 (watched_load c.word-hint.ensures.step) in
+    let e = c.in-Err-again.ensures.fits in
+    (e.0, e.1 ∙ (c.word-hint.ensures.fits.1 ∙ s1), e.2 ∙ (k.held ∙ c.begin.ensures.fits.2))

@@ -1,4 +1,4 @@
-use Rattle.std.proofs.Common.{◌∙◌, subst, sym, ap}
+use Rattle.std.proofs.Common.{◌∙◌, subst, sym, ap, ◌≡◌, ◌<◌}
 use Rattle.btree_descent.specs.row_words.Moments.{pager}
 use Rattle.btree_descent.specs.rows_trait.declared.view.View.{View}
 use Rattle.btree_descent.specs.rows_trait.Views.{Shape}
@@ -8,6 +8,11 @@ use Rattle.held_rows.proofs.GivingUp.{released_as}
 use Rattle.row_image.specs.Sights.{HasTaken, IsUnheld}
 use Rattle.btree_descent.specs.row_words.declared.given.Given.{Given}
 use Rattle.page_provider.proofs.Latches.{behind_missed, both_moved, both_spent, seen_still, spent_missed, stopped_second, taken_words, takes_two}
+use Rattle.page_provider.proofs.Savings.{if_err}
+use Rattle.page_provider.specs.declared.refusal.Refusal.{Refusal}
+use Rattle.page_provider.specs.Finds.{SinceBoth, Stopped}
+use Rattle.std.proofs.lemmas.Result.{err_from_is_err_and}
+use Rattle.page_provider.proofs.Asks.{actor_ran, stopped_more}
 use Rattle.page_provider.proofs.latching.take_two.Goals as goal
 
 pub take-requires-clause-sound : goal.take-requires-clause-sound
@@ -65,3 +70,42 @@ returns-in-RowSpent-clause-cause g c =
     let w = g.R.Rows.view c.take.new.seat in
     let k = subst (λ (q : Unheld). IsUnheld y.alone pager c.args.second.now u q w) c.in-RowSpent.is c.in-Err.ensures.cause in
     both_spent c.args.second.now c.requires.apart c.in_ok-held.ensures.taken (released_as (c.in-Err.ensures.fits.1 ∙ c.in_ok-held.ensures.fits.1) c.in_ok-held.ensures.ok.0 c.release.ensures.step) c.requires.second.frame k.0 k.1
+
+pub take-requires-clause-fits : goal.take-requires-clause-fits
+take-requires-clause-fits g c = c.in_ok-held.ensures.fits.0
+
+pub take-requires-clause-actor : goal.take-requires-clause-actor
+take-requires-clause-actor g c = let o = c.in_ok-held.ensures in actor_ran o.fits.1 o.taken.ran c.requires.actor
+
+pub returns-in_err-held-clause-err : goal.returns-in_err-held-clause-err
+returns-in_err-held-clause-err g c =
+    let p = err_from_is_err_and c.from_residual.result c.from_residual.ensures.1 in
+    let p2 = p.2 in
+    let why = c.in_err-held.field-0.0 in
+    let e : why ≡ p.0 = cc in
+    let P : Refusal → Type 0 = λ q. Stopped 2 (g.R.Rows.shape c.args.rows.now) (g.R.Rows.view c.args.seat.now) q (g.R.Rows.view c.take_seen.new.seat) in
+    if_err c.from_residual.result p.0 P p.1 (subst P e (stopped_more c.in_err-held.ensures.err))
+
+pub returns-in-Ok-clause-fits : goal.returns-in-Ok-clause-fits
+returns-in-Ok-clause-fits g c = let o = c.in_ok-held.ensures.fits in let e = c.in-Ok.ensures.fits in (e.0, e.1 ∙ o.1)
+
+pub returns-in-Moved-clause-fits : goal.returns-in-Moved-clause-fits
+returns-in-Moved-clause-fits g c = (c.release.ensures.fits.0, c.release.ensures.fits.1 ∙ (c.in-Err.ensures.fits.1 ∙ c.in_ok-held.ensures.fits.1))
+
+pub returns-in-RowSpent-clause-fits : goal.returns-in-RowSpent-clause-fits
+returns-in-RowSpent-clause-fits g c = (c.release.ensures.fits.0, c.release.ensures.fits.1 ∙ (c.in-Err.ensures.fits.1 ∙ c.in_ok-held.ensures.fits.1))
+
+pub take-requires-clause-frame : goal.take-requires-clause-frame
+take-requires-clause-frame g c =
+    let o = c.in_ok-held.ensures in
+    let s = seen_still c.laws.ensures.rows.sights c.requires.apart o.taken c.requires.second in
+    (subst (λ (q : Shape). c.args.second.now.glimpse.row < q.sizes.frames) (sym o.fits.1) s.inside, s.frame)
+
+pub returns-in_err-held-clause-cause : goal.returns-in_err-held-clause-cause
+returns-in_err-held-clause-cause g c =
+    let p = err_from_is_err_and c.from_residual.result c.from_residual.ensures.1 in
+    let p2 = p.2 in
+    let why = c.in_err-held.field-0.0 in
+    let e : why ≡ p.0 = cc in
+    let P : Refusal → Type 0 = λ q. SinceBoth c.args.first.now c.args.second.now (g.R.Rows.view c.args.seat.now) q (g.R.Rows.view c.take_seen.new.seat) in
+    if_err c.from_residual.result p.0 P p.1 (subst P e (λ from first second. c.in_err-held.ensures.cause from first))

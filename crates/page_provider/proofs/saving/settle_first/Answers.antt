@@ -3,6 +3,8 @@ use Rattle.std.proofs.Common.{◌≡◌, Some, refl, slice_get, subst}
 use Rattle.page_provider.proofs.Mirrored.{keeps_same}
 use Rattle.lean_disk.proofs.MomentLemmas.{framed}
 use Rattle.page_provider.proofs.Framing.{within_none}
+use Rattle.page_provider.proofs.Parts.{cause_none}
+use Rattle.lean_disk.proofs.FaultLemmas.{done_only}
 use Rattle.page_provider.proofs.saving.settle_first.Goals as goal
 
 pub returns-then-not-of-clause-any_moment : goal.returns-then-not-of-clause-any_moment
@@ -22,3 +24,6 @@ returns-then-not-of-clause-frame g c = framed 1 (g.P.Part.story c.args.dev.now)
 
 pub returns-then-not-of-clause-within : goal.returns-then-not-of-clause-within
 returns-then-not-of-clause-within g c = within_none (g.met.P.Part.lawful c.args.dev.now)
+
+pub returns-then-not-of-clause-cause : goal.returns-then-not-of-clause-cause
+returns-then-not-of-clause-cause g c = cause_none (done_only _ refl)

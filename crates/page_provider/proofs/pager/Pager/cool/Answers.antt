@@ -10,11 +10,12 @@ use Rattle.page_provider.specs.Providers.{Provider}
 use Rattle.page_provider.specs.declared.refusal.Refusal.{Refusal}
 use Rattle.page_provider.proofs.Cooled.{answered, answered_not, cool_broken, cool_missed, idle_bare, idle_zero, is_there, there_is}
 use Rattle.page_provider.proofs.Keeping.{keeps_ran}
-use Rattle.page_provider.proofs.Parts.{keeps_shape}
+use Rattle.page_provider.proofs.Parts.{keeps_shape, row_unlike}
 use Rattle.page_provider.proofs.Savings.{if_err}
 use Rattle.page_provider.proofs.Unlinks.{seen_sight}
 use Rattle.btree_descent.proofs.rows_trait.Runs.{ran_none}
 use Rattle.page_provider.proofs.Mirrored.{cooled_saves, saves_after, saves_none, stopped_saves}
+use Rattle.page_provider.proofs.Asks.{sized_of}
 use Rattle.page_provider.proofs.pager.Pager.cool.Goals as goal
 
 pub returns-then-self-clause-err : goal.returns-then-self-clause-err
@@ -129,3 +130,34 @@ returns-clause-unsaved g c =
     let k = subst (λ (x : Option Sight). Candidate z v c.args.frame x n) c.in-Some.is c.in_ok-seen.ensures.ok in
     let h = subst (λ (q : Shape). CoolsOrNot q n c.args.self.now s.node.number s.glimpse.row c.in_ok-cool_seen.field-0 u c.cool_seen.new.self) c.in_ok-seen.ensures.fits.1 c.in_ok-cool_seen.ensures.ok in
     saves_after k.sight.ran (cooled_saves s.node.number s.glimpse.row c.in_ok-cool_seen.field-0 h)
+
+pub candidate-requires-clause-sized : goal.candidate-requires-clause-sized
+candidate-requires-clause-sized g c = sized_of c.requires.keeps (c.frames-frames.ensures ∙ ap (λ (p : Provider). p.frames) c.self.view_is)
+
+pub cool_seen-requires-clause-fits : goal.cool_seen-requires-clause-fits
+cool_seen-requires-clause-fits g c = c.in_ok-seen.ensures.fits.0
+
+pub cool_seen-requires-clause-held : goal.cool_seen-requires-clause-held
+cool_seen-requires-clause-held g c = c.in_ok-seen.ensures.fits.2 ∙ c.requires.held
+
+pub returns-in_err-cool_seen-clause-fits : goal.returns-in_err-cool_seen-clause-fits
+returns-in_err-cool_seen-clause-fits g c = let o = c.in_ok-seen.ensures.fits in let e = c.in_err-cool_seen.ensures.fits in (e.0, e.1 ∙ o.1)
+
+pub returns-clause-fits : goal.returns-clause-fits
+returns-clause-fits g c = let o = c.in_ok-seen.ensures.fits in let e = c.in_ok-cool_seen.ensures.fits in (e.0, e.1 ∙ o.1)
+
+pub returns-in_err-seen-clause-device : goal.returns-in_err-seen-clause-device
+returns-in_err-seen-clause-device g c =
+    let p = err_from_is_err_and c.from_residual.result c.from_residual.ensures.1 in
+    let p2 = p.2 in
+    let why = c.in_err-seen.field-0.0 in
+    let e : why ≡ p.0 = cc in
+    row_unlike c.from_residual.result p.1 e c.in_err-seen.ensures.err.kind
+
+pub returns-in_err-cool_seen-clause-device : goal.returns-in_err-cool_seen-clause-device
+returns-in_err-cool_seen-clause-device g c =
+    let p = err_from_is_err_and c.from_residual-in_err-cool_seen.result c.from_residual-in_err-cool_seen.ensures.1 in
+    let p2 = p.2 in
+    let why = c.in_err-cool_seen.field-0.0 in
+    let e : why ≡ p.0 = cc in
+    row_unlike c.from_residual-in_err-cool_seen.result p.1 e c.in_err-cool_seen.ensures.err.kind

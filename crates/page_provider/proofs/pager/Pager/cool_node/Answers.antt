@@ -13,6 +13,8 @@ use Rattle.page_provider.proofs.Chills.{unhooked_as}
 use Rattle.page_provider.proofs.Keeping.{keeps_ran}
 use Rattle.page_provider.proofs.Savings.{if_err}
 use Rattle.page_provider.proofs.Unlinks.{both_since, idle_ran, link_apart, missed_since, node_absent, node_room, node_unhooked, node_unlinks, not_alone, seen_sight, seen_watched, stopped_after}
+use Rattle.page_provider.proofs.Coming.{halts_missed}
+use Rattle.page_provider.proofs.Asks.{actor_on, sized_of, two_held}
 use Rattle.page_provider.proofs.pager.Pager.cool_node.Goals as goal
 
 pub returns-in_err-parent-clause-cause : goal.returns-in_err-parent-clause-cause
@@ -136,3 +138,41 @@ returns-clause-ok g c =
     let w = went_as (c.in_ok-above.ensures.fits.1 ∙ c.in_ok-parent.ensures.fits.1) c.unlink.ensures.went in
     unhooked_as c.self.view_is c.chill.new.self c.self.inside.free _ c.chill.ensures refl
     (node_unhooked c.args.entry c.laws.ensures.rows k few c.requires.childless c.requires.other c.requires.live c.requires.entry c.in_ok-parent.ensures.kept.ran two c.in_ok-above.ensures.words w)
+
+pub naming-requires-clause-sized : goal.naming-requires-clause-sized
+naming-requires-clause-sized g c = sized_of c.requires.keeps (c.frames-frames.ensures ∙ ap (λ (p : Provider). p.frames) c.self.view_is)
+
+pub returns-in_err-parent-clause-err : goal.returns-in_err-parent-clause-err
+returns-in_err-parent-clause-err g c =
+    let z = g.R.Rows.shape c.args.rows.now in
+    let v = g.R.Rows.view c.args.seat.now in
+    let n = g.R.Rows.view c.naming.new.seat in
+    let p = err_from_is_err_and c.from_residual.result c.from_residual.ensures.1 in
+    let p2 = p.2 in
+    let why = c.in_err-parent.field-0.0 in
+    let e : why ≡ p.0 = cc in
+    let P : Refusal → Type 0 = λ q. Stopped 2 z v q n in
+    if_err c.from_residual.result p.0 P p.1 (subst P e (halts_missed c.requires.held c.in_err-parent.ensures.err).stopped)
+
+pub take_two-requires-clause-fits : goal.take_two-requires-clause-fits
+take_two-requires-clause-fits g c = c.in_ok-parent.ensures.fits.0
+
+pub take_two-requires-clause-actor : goal.take_two-requires-clause-actor
+take_two-requires-clause-actor g c = let o = c.in_ok-parent.ensures in actor_on o.fits.1 o.kept c.requires.keeps.actor
+
+pub take_two-requires-clause-held : goal.take_two-requires-clause-held
+take_two-requires-clause-held g c = c.in_ok-parent.ensures.fits.2 ∙ c.requires.held
+
+pub returns-in_err-above-clause-fits : goal.returns-in_err-above-clause-fits
+returns-in_err-above-clause-fits g c = let o = c.in_ok-parent.ensures.fits in let e = c.in_err-above.ensures.fits in (e.0, e.1 ∙ o.1)
+
+pub unlink-requires-clause-fits : goal.unlink-requires-clause-fits
+unlink-requires-clause-fits g c = c.in_ok-above.ensures.fits.0
+
+pub unlink-requires-clause-two : goal.unlink-requires-clause-two
+unlink-requires-clause-two g c =
+    let o = c.in_ok-above.ensures in
+    two_held o.fits.1 o.ok.0 o.ok.1 o.ok.2.two
+
+pub returns-clause-fits : goal.returns-clause-fits
+returns-clause-fits g c = (c.unlink.ensures.fits.0, c.unlink.ensures.fits.1 ∙ (c.in_ok-above.ensures.fits.1 ∙ c.in_ok-parent.ensures.fits.1))

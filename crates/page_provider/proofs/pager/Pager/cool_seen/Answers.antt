@@ -80,3 +80,15 @@ returns-then-epoch-ge-LAST-clause-cause g c from f =
     let k = c.stamp-epoch.ensures.answer in
     let late = c.if-epoch-ge-LAST.true in
     inr (subst (λ (y : Given). c.args.seen.now.glimpse.row < (opening y).frames) (sym k.ran.given) c.requires.seen.frame, subst (λ n. 4611686018427387904 ≤ n) (sym k.epoch_is) late)
+
+pub unhook-requires-clause-fits : goal.unhook-requires-clause-fits
+unhook-requires-clause-fits g c = c.stamp-epoch.ensures.fits.0
+
+pub returns-in_err-unhook-clause-fits : goal.returns-in_err-unhook-clause-fits
+returns-in_err-unhook-clause-fits g c = let o = c.stamp-epoch.ensures.fits in let e = c.in_err-unhook.ensures.fits in (e.0, e.1 ∙ o.1)
+
+pub returns-then-not-branch-clause-fits : goal.returns-then-not-branch-clause-fits
+returns-then-not-branch-clause-fits g c = let o = c.stamp-epoch.ensures.fits in let e = c.in_ok-unhook.ensures.fits in (e.0, e.1 ∙ o.1)
+
+pub returns-clause-fits : goal.returns-clause-fits
+returns-clause-fits g c = (c.tick.ensures.fits.0, c.tick.ensures.fits.1 ∙ (c.in_ok-unhook.ensures.fits.1 ∙ c.stamp-epoch.ensures.fits.1))

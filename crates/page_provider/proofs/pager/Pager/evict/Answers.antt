@@ -8,7 +8,7 @@ use Rattle.page_provider.specs.Inside.{HasCleared, HasGone}
 use Rattle.page_provider.specs.Providers.{Provider}
 use Rattle.page_provider.specs.declared.refusal.Refusal.{Refusal}
 use Rattle.page_provider.proofs.Outcomes.{entry_within, stayed_broken, stayed_missed}
-use Rattle.page_provider.proofs.Parts.{cause_none, cleared_left, disk_after, first_stayed, keeps_shape, leave_disk, seen}
+use Rattle.page_provider.proofs.Parts.{cause_none, cleared_left, disk_after, first_stayed, keeps_shape, leave_disk, seen, cause_row}
 use Rattle.page_provider.proofs.Loaded.{spent_others}
 use Rattle.page_provider.proofs.Savings.{entered_is, frame_is, if_err, is_found, left_clean}
 use Rattle.page_provider.proofs.Writing.{disked_misses}
@@ -16,6 +16,7 @@ use Rattle.page_provider.proofs.Mirrored.{leave_mirrored, mirrored_after, mirror
 use Rattle.lean_disk.proofs.MomentLemmas.{framed}
 use Rattle.page_provider.proofs.Framing.{within_none}
 use Rattle.page_provider.proofs.Unwritten.{left_unsaved, reads_untouched, unsaved_then}
+use Rattle.page_provider.proofs.Asks.{sized_of}
 use Rattle.page_provider.proofs.pager.Pager.evict.Goals as goal
 
 pub returns-then-self-clause-err : goal.returns-then-self-clause-err
@@ -204,3 +205,26 @@ pub returns-clause-reads : goal.returns-clause-reads
 returns-clause-reads g c =
     let law = g.met.P.Part.lawful c.args.dev.now in
     unsaved_then c.args.self.now (ap (λ (p : Provider). p.broken) (sym c.self.view_is) ∙ c.if-self.false) (reads_untouched law c.in_ok-dirty.ensures.ok.ran) (left_unsaved (g.R.Rows.shape c.is_dirty.new.rows) c.args.self.now c.in-Some.entry law c.leave.result c.leave.ensures.ok c.leave.ensures.err)
+
+pub is_dirty-requires-clause-sized : goal.is_dirty-requires-clause-sized
+is_dirty-requires-clause-sized g c = sized_of c.requires.keeps (c.frames.ensures ∙ ap (λ (p : Provider). p.frames) c.self.view_is)
+
+pub returns-in_err-dirty-clause-cause : goal.returns-in_err-dirty-clause-cause
+returns-in_err-dirty-clause-cause g c =
+    let p = err_from_is_err_and c.from_residual.result c.from_residual.ensures.1 in
+    let p2 = p.2 in
+    let why = c.in_err-dirty.field-0.0 in
+    let e : why ≡ p.0 = cc in
+    cause_row c.from_residual.result p.1 e c.in_err-dirty.ensures.err.kind
+
+pub leave_dirty-requires-clause-fits : goal.leave_dirty-requires-clause-fits
+leave_dirty-requires-clause-fits g c = c.in_ok-dirty.ensures.fits.0
+
+pub leave-requires-clause-fits : goal.leave-requires-clause-fits
+leave-requires-clause-fits g c = c.in_ok-dirty.ensures.fits.0
+
+pub returns-then-dirty-clause-fits : goal.returns-then-dirty-clause-fits
+returns-then-dirty-clause-fits g c = let o = c.in_ok-dirty.ensures.fits in let e = c.leave_dirty.ensures.fits in (e.0, e.1 ∙ o.1)
+
+pub returns-clause-fits : goal.returns-clause-fits
+returns-clause-fits g c = let o = c.in_ok-dirty.ensures.fits in let e = c.leave.ensures.fits in (e.0, e.1 ∙ o.1)

@@ -7,9 +7,10 @@ use Rattle.btree_descent.proofs.rows_trait.Runs.{ran_append}
 use Rattle.page_provider.specs.Finds.{Halts, IsSeen, Naming}
 use Rattle.page_provider.specs.Providers.{Provider}
 use Rattle.page_provider.specs.declared.refusal.Refusal.{Refusal}
-use Rattle.page_provider.proofs.Coming.{cold_hot, come_on, comes_within, empty_is, filled_node, node_is}
+use Rattle.page_provider.proofs.Coming.{cold_hot, come_on, comes_within, empty_is, filled_node, node_is, halts_missed}
 use Rattle.page_provider.proofs.Parents.{can_fill, frame_fits, halts_stopped, linked, named_off, named_keeps, named_seen, none_comes}
 use Rattle.page_provider.proofs.Savings.{if_err}
+use Rattle.page_provider.proofs.Asks.{actor_on, sized_of, two_held}
 use Rattle.page_provider.proofs.pager.Pager.fill_node.Goals as goal
 
 pub returns-in_default-clause-ok : goal.returns-in_default-clause-ok
@@ -83,3 +84,39 @@ returns-clause-ok g c =
 
 pub come-requires : goal.come-requires
 come-requires g c = record { within = comes_within c.self.view_is c.requires.keeps c.requires.comes }
+
+pub naming-requires-clause-sized : goal.naming-requires-clause-sized
+naming-requires-clause-sized g c = sized_of c.requires.keeps (c.frames-frames.ensures ∙ ap (λ (p : Provider). p.frames) c.self.view_is)
+
+pub take_with-requires-clause-fits : goal.take_with-requires-clause-fits
+take_with-requires-clause-fits g c = c.in_ok-parent.ensures.fits.0
+
+pub take_with-requires-clause-actor : goal.take_with-requires-clause-actor
+take_with-requires-clause-actor g c = let o = c.in_ok-parent.ensures in actor_on o.fits.1 o.kept c.requires.keeps.actor
+
+pub take_with-requires-clause-held : goal.take_with-requires-clause-held
+take_with-requires-clause-held g c = c.in_ok-parent.ensures.fits.2 ∙ c.requires.held
+
+pub returns-in_err-parent-clause-err : goal.returns-in_err-parent-clause-err
+returns-in_err-parent-clause-err g c =
+    let z = g.R.Rows.shape c.args.rows.now in
+    let v = g.R.Rows.view c.args.seat.now in
+    let n = g.R.Rows.view c.naming.new.seat in
+    let p = err_from_is_err_and c.from_residual.result c.from_residual.ensures.1 in
+    let p2 = p.2 in
+    let why = c.in_err-parent.field-0.0 in
+    let e : why ≡ p.0 = cc in
+    let P : Refusal → Type 0 = λ q. Halts 2 z v q n in
+    if_err c.from_residual.result p.0 P p.1 (subst P e (halts_missed c.requires.held c.in_err-parent.ensures.err))
+
+pub returns-in_err-above-clause-fits : goal.returns-in_err-above-clause-fits
+returns-in_err-above-clause-fits g c = let o = c.in_ok-parent.ensures.fits in let e = c.in_err-above.ensures.fits in (e.0, e.1 ∙ o.1)
+
+pub fill-requires-clause-fits : goal.fill-requires-clause-fits
+fill-requires-clause-fits g c = c.in_ok-above.ensures.fits.0
+
+pub fill-requires-clause-two : goal.fill-requires-clause-two
+fill-requires-clause-two g c = let o = c.in_ok-above.ensures in two_held o.fits.1 o.ok.0 o.ok.1 o.ok.2.two
+
+pub returns-clause-fits : goal.returns-clause-fits
+returns-clause-fits g c = (c.fill.ensures.fits.0, c.fill.ensures.fits.1 ∙ (c.in_ok-above.ensures.fits.1 ∙ c.in_ok-parent.ensures.fits.1))

@@ -2,6 +2,7 @@ use Rattle.std.proofs.Common.{◌∙◌, ◌<◌, sym, ap, subst}
 use Rattle.page_provider.specs.Providers.{Provider}
 use Rattle.page_provider.proofs.Judging.{entry_fits, is_judge, judged_above, judged_held, judged_yes}
 use Rattle.page_provider.proofs.Keeping.{keeps_ran}
+use Rattle.page_provider.proofs.Asks.{sized_of}
 use Rattle.page_provider.proofs.pager.Pager.judge.Goals as goal
 
 pub number-requires-clause-frame : goal.number-requires-clause-frame
@@ -21,3 +22,6 @@ returns-in-Yes-clause-ok g c =
 pub returns-in-Held-clause-ok : goal.returns-in-Held-clause-ok
 returns-in-Held-clause-ok g c =
     judged_held c.laws.ensures.rows c.requires.keeps c.requires.held c.requires.flushed c.requires.there c.in_ok-number.ensures.ok c.in_ok-number.ensures.fits.2 c.in_ok-number.ensures.fits.1 c.in-Held.ensures.after
+
+pub number-requires-clause-sized : goal.number-requires-clause-sized
+number-requires-clause-sized g c = sized_of c.requires.keeps (c.frames.ensures ∙ ap (λ (p : Provider). p.frames) c.self.view_is)

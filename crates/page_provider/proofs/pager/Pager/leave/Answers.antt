@@ -13,6 +13,8 @@ use Rattle.page_provider.specs.declared.refusal.Refusal.{Refusal}
 use Rattle.page_provider.proofs.Loaded.{spent_others}
 use Rattle.page_provider.proofs.Outcomes.{entry_room, entry_stays, entry_within, stayed_missed}
 use Rattle.page_provider.proofs.Savings.{can_evict, frame_is, gone_as, has_gone, if_err, image_is, leaves_within, names_within}
+use Rattle.page_provider.proofs.Asks.{actor_ran, one_held, sized_of, sized_ran}
+use Rattle.page_provider.proofs.Parts.{row_unlike}
 use Rattle.page_provider.proofs.pager.Pager.leave.Goals as goal
 
 pub page_in-requires-clause-frame : goal.page_in-requires-clause-frame
@@ -95,3 +97,46 @@ returns-clause-ok g c =
     let is = image_is c.laws.ensures.rows c.requires.keeps c.requires.entered c.in_ok-node.ensures.ok in
     gone_as c.self.view_is c.take-2.new.self c.push_reserved.new.self.items c.leave.new.self c.in_ok-node.node c.take-2.ensures c.push_reserved.ensures.items c.leave.ensures
     (has_gone c.self.view_is c.laws.ensures.rows c.requires.keeps c.requires.entered c.requires.clean all went.held c.in_ok-node.node (ap (λ (n : Page). contents_of n) is))
+
+pub page_in-requires-clause-sized : goal.page_in-requires-clause-sized
+page_in-requires-clause-sized g c = sized_of c.requires.keeps (c.frames-frames.ensures ∙ ap (λ (p : Provider). p.frames) c.self.view_is)
+
+pub take-requires-clause-fits : goal.take-requires-clause-fits
+take-requires-clause-fits g c = c.in_ok-node.ensures.fits.0
+
+pub take-requires-clause-sized : goal.take-requires-clause-sized
+take-requires-clause-sized g c = let o = c.in_ok-node.ensures in sized_ran o.fits.1 o.ok.ran (sized_of c.requires.keeps (c.frames-frames.ensures ∙ ap (λ (p : Provider). p.frames) c.self.view_is))
+
+pub take-requires-clause-actor : goal.take-requires-clause-actor
+take-requires-clause-actor g c = let o = c.in_ok-node.ensures in actor_ran o.fits.1 o.ok.ran c.requires.keeps.actor
+
+pub take-requires-clause-held : goal.take-requires-clause-held
+take-requires-clause-held g c = c.in_ok-node.ensures.fits.2 ∙ c.requires.held
+
+pub returns-in_err-hold-clause-fits : goal.returns-in_err-hold-clause-fits
+returns-in_err-hold-clause-fits g c = let o = c.in_ok-node.ensures.fits in let e = c.in_err-hold.ensures.fits in (e.0, e.1 ∙ o.1)
+
+pub evict-requires-clause-fits : goal.evict-requires-clause-fits
+evict-requires-clause-fits g c = c.in_ok-hold.ensures.fits.0
+
+pub evict-requires-clause-one : goal.evict-requires-clause-one
+evict-requires-clause-one g c = let o = c.in_ok-hold.ensures in one_held o.fits.1 o.ok.0 o.ok.1.one
+
+pub returns-clause-fits : goal.returns-clause-fits
+returns-clause-fits g c = (c.evict.ensures.fits.0, c.evict.ensures.fits.1 ∙ (c.in_ok-hold.ensures.fits.1 ∙ c.in_ok-node.ensures.fits.1))
+
+pub returns-in_err-node-clause-device : goal.returns-in_err-node-clause-device
+returns-in_err-node-clause-device g c =
+    let p = err_from_is_err_and c.from_residual.result c.from_residual.ensures.1 in
+    let p2 = p.2 in
+    let why = c.in_err-node.field-0.0 in
+    let e : why ≡ p.0 = cc in
+    row_unlike c.from_residual.result p.1 e c.in_err-node.ensures.err.kind
+
+pub returns-in_err-hold-clause-device : goal.returns-in_err-hold-clause-device
+returns-in_err-hold-clause-device g c =
+    let p = err_from_is_err_and c.from_residual-in_err-hold.result c.from_residual-in_err-hold.ensures.1 in
+    let p2 = p.2 in
+    let why = c.in_err-hold.field-0.0 in
+    let e : why ≡ p.0 = cc in
+    row_unlike c.from_residual-in_err-hold.result p.1 e c.in_err-hold.ensures.err.kind

@@ -6,7 +6,7 @@ use Rattle.page_provider.specs.Inside.{HasCleared, HasGone}
 use Rattle.page_provider.specs.Providers.{Provider}
 use Rattle.page_provider.specs.declared.refusal.Refusal.{Refusal}
 use Rattle.page_provider.proofs.Outcomes.{stayed_saved}
-use Rattle.page_provider.proofs.Parts.{cause_to, err_to, keeps_shape, leave_disk, saved_well}
+use Rattle.page_provider.proofs.Parts.{cause_to, err_to, keeps_shape, leave_disk, saved_well, cause_up}
 use Rattle.page_provider.proofs.Running.{disked_then}
 use Rattle.page_provider.proofs.Savings.{frame_is, if_err}
 use Rattle.page_provider.proofs.Mirrored.{leave_mirrored, mirrored_then}
@@ -82,3 +82,17 @@ returns-clause-mirrors g c =
 pub returns-clause-reads : goal.returns-clause-reads
 returns-clause-reads g c =
     unsaved_then c.save.new.self (saved_well c.in_ok-save.ensures.ok c.requires.well) c.in_ok-save.ensures.reads (left_unsaved (g.R.Rows.shape c.save.new.rows) c.save.new.self c.args.entry (g.met.P.Part.lawful c.save.new.dev) c.leave.result c.leave.ensures.ok c.leave.ensures.err)
+
+pub returns-in_err-save-clause-cause : goal.returns-in_err-save-clause-cause
+returns-in_err-save-clause-cause g c =
+    let p = err_from_is_err_and c.from_residual.result c.from_residual.ensures.1 in
+    let p2 = p.2 in
+    let why = c.in_err-save.field-0.0 in
+    let e : why ≡ p.0 = cc in
+    cause_up c.from_residual.result refl p.1 e c.in_err-save.ensures.cause
+
+pub leave-requires-clause-fits : goal.leave-requires-clause-fits
+leave-requires-clause-fits g c = c.in_ok-save.ensures.fits.0
+
+pub returns-clause-fits : goal.returns-clause-fits
+returns-clause-fits g c = let o = c.in_ok-save.ensures.fits in let e = c.leave.ensures.fits in (e.0, e.1 ∙ o.1)

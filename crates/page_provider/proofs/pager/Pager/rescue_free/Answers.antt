@@ -1,10 +1,15 @@
-use Rattle.std.proofs.Common.{[], ◌∷◌, length, ap, subst, arith}
+use Rattle.std.proofs.Common.{[], ◌∷◌, length, ap, subst, arith, ◌∙◌, ◌≡◌}
 use Rattle.btree_descent.specs.row_words.declared.event.Event.TheVariants.{Rescue}
 use Rattle.btree_descent.specs.rows_trait.Turns.{Ran}
 use Rattle.btree_descent.specs.rows_trait.Views.{Shape}
 use Rattle.btree_descent.proofs.rows_trait.Runs.{ran_append}
 use Rattle.page_provider.specs.Providers.{Provider}
-use Rattle.page_provider.proofs.Coming.{can_revive, entry_is, revived}
+use Rattle.page_provider.proofs.Coming.{can_revive, entry_is, revived, halts_missed}
+use Rattle.page_provider.proofs.Asks.{one_held, sized_of}
+use Rattle.page_provider.specs.declared.refusal.Refusal.{Refusal}
+use Rattle.page_provider.proofs.Savings.{if_err}
+use Rattle.std.proofs.lemmas.Result.{err_from_is_err_and}
+use Rattle.page_provider.specs.Finds.{Halts}
 use Rattle.page_provider.proofs.pager.Pager.rescue_free.Goals as goal
 
 pub take-requires-clause-frame : goal.take-requires-clause-frame
@@ -38,3 +43,21 @@ returns-clause-ok g c =
     let went = c.revive.ensures.went in
     let all = ran_append z.alone v [] t (Rescue c.args.entry.page ∷ []) w c.in_ok-own.ensures.ok.1.ran (subst (λ (s : Shape). Ran s.alone t (Rescue c.args.entry.page ∷ []) w) c.in_ok-own.ensures.fits.1 went.ran) in
     revived c.self.view_is c.laws.ensures.rows c.requires.keeps went.held c.requires.there c.requires.free all c.take-2.new.self c.take-2.ensures c.remove.new.self c.remove.ensures
+
+pub take-requires-clause-sized : goal.take-requires-clause-sized
+take-requires-clause-sized g c = sized_of c.requires.keeps (c.frames.ensures ∙ ap (λ (p : Provider). p.frames) c.self.view_is)
+
+pub revive-requires-clause-one : goal.revive-requires-clause-one
+revive-requires-clause-one g c = let o = c.in_ok-own.ensures in one_held o.fits.1 o.ok.0 o.ok.1.one
+
+pub returns-clause-fits : goal.returns-clause-fits
+returns-clause-fits g c = (c.revive.ensures.fits.0, c.revive.ensures.fits.1 ∙ c.in_ok-own.ensures.fits.1)
+
+pub returns-in_err-own-clause-err : goal.returns-in_err-own-clause-err
+returns-in_err-own-clause-err g c =
+    let p = err_from_is_err_and c.from_residual.result c.from_residual.ensures.1 in
+    let p2 = p.2 in
+    let why = c.in_err-own.field-0.0 in
+    let e : why ≡ p.0 = cc in
+    let P : Refusal → Type 0 = λ q. Halts 2 (g.R.Rows.shape c.args.rows.now) (g.R.Rows.view c.args.seat.now) q (g.R.Rows.view c.take.new.seat) in
+    if_err c.from_residual.result p.0 P p.1 (subst P e (halts_missed c.requires.held c.in_err-own.ensures.err))

@@ -19,6 +19,10 @@ use Rattle.page_provider.proofs.Mirrored.{mirrored_broken, mirrored_misses, mirr
 use Rattle.lean_disk.proofs.MomentLemmas.{framed}
 use Rattle.page_provider.proofs.Framing.{within_none}
 use Rattle.page_provider.proofs.Unwritten.{reads_broken, reads_saved, reads_untouched}
+use Rattle.page_provider.proofs.Asks.{actor_ran, one_held, sized_of, sized_ran}
+use Rattle.page_provider.proofs.Parts.{cause_row, cause_to}
+use Rattle.page_provider.proofs.Reading.{came_unlike}
+use Rattle.lean_disk.proofs.FaultLemmas.{done_only}
 use Rattle.page_provider.proofs.pager.Pager.save.Goals as goal
 
 pub page_in-requires-clause-frame : goal.page_in-requires-clause-frame
@@ -255,3 +259,58 @@ returns-clause-reads g c =
     let w = g.R.Rows.view c.note_saved.new.seat in
     let all = ran_append z.alone v [] t (Save c.args.entry.page ∷ []) w r (subst (λ (s : Shape). Ran s.alone t (Save c.args.entry.page ∷ []) w) s2 c.note_saved.ensures.went.ran) in
     reads_saved all
+
+pub page_in-requires-clause-sized : goal.page_in-requires-clause-sized
+page_in-requires-clause-sized g c = sized_of c.requires.keeps (c.frames-frames.ensures ∙ ap (λ (p : Provider). p.frames) c.self.view_is)
+
+pub take-requires-clause-fits : goal.take-requires-clause-fits
+take-requires-clause-fits g c = c.in_ok-node.ensures.fits.0
+
+pub take-requires-clause-sized : goal.take-requires-clause-sized
+take-requires-clause-sized g c = let o = c.in_ok-node.ensures in sized_ran o.fits.1 o.ok.ran (sized_of c.requires.keeps (c.frames-frames.ensures ∙ ap (λ (p : Provider). p.frames) c.self.view_is))
+
+pub take-requires-clause-actor : goal.take-requires-clause-actor
+take-requires-clause-actor g c = let o = c.in_ok-node.ensures in actor_ran o.fits.1 o.ok.ran c.requires.keeps.actor
+
+pub take-requires-clause-held : goal.take-requires-clause-held
+take-requires-clause-held g c = c.in_ok-node.ensures.fits.2 ∙ c.requires.held
+
+pub returns-in_err-hold-clause-fits : goal.returns-in_err-hold-clause-fits
+returns-in_err-hold-clause-fits g c = let o = c.in_ok-node.ensures.fits in let e = c.in_err-hold.ensures.fits in (e.0, e.1 ∙ o.1)
+
+pub note_saved-requires-clause-fits : goal.note_saved-requires-clause-fits
+note_saved-requires-clause-fits g c = c.in_ok-hold.ensures.fits.0
+
+pub note_saved-requires-clause-one : goal.note_saved-requires-clause-one
+note_saved-requires-clause-one g c = let o = c.in_ok-hold.ensures in one_held o.fits.1 o.ok.0 o.ok.1.one
+
+pub returns-clause-fits : goal.returns-clause-fits
+returns-clause-fits g c = (c.note_saved.ensures.fits.0, c.note_saved.ensures.fits.1 ∙ (c.in_ok-hold.ensures.fits.1 ∙ c.in_ok-node.ensures.fits.1))
+
+pub give_up-requires-clause-fits : goal.give_up-requires-clause-fits
+give_up-requires-clause-fits g c = c.in_ok-hold.ensures.fits.0
+
+pub give_up-requires-clause-one : goal.give_up-requires-clause-one
+give_up-requires-clause-one g c = let o = c.in_ok-hold.ensures in one_held o.fits.1 o.ok.0 o.ok.1.one
+
+pub returns-in_default-clause-fits : goal.returns-in_default-clause-fits
+returns-in_default-clause-fits g c = (c.give_up.ensures.fits.0, c.give_up.ensures.fits.1 ∙ (c.in_ok-hold.ensures.fits.1 ∙ c.in_ok-node.ensures.fits.1))
+
+pub returns-in_err-node-clause-cause : goal.returns-in_err-node-clause-cause
+returns-in_err-node-clause-cause g c =
+    let p = err_from_is_err_and c.from_residual.result c.from_residual.ensures.1 in
+    let p2 = p.2 in
+    let why = c.in_err-node.field-0.0 in
+    let e : why ≡ p.0 = cc in
+    cause_row c.from_residual.result p.1 e c.in_err-node.ensures.err.kind
+
+pub returns-in_err-hold-clause-cause : goal.returns-in_err-hold-clause-cause
+returns-in_err-hold-clause-cause g c =
+    let p = err_from_is_err_and c.from_residual-in_err-hold.result c.from_residual-in_err-hold.ensures.1 in
+    let p2 = p.2 in
+    let why = c.in_err-hold.field-0.0 in
+    let e : why ≡ p.0 = cc in
+    cause_row c.from_residual-in_err-hold.result p.1 e c.in_err-hold.ensures.err.kind
+
+pub returns-clause-cause : goal.returns-clause-cause
+returns-clause-cause g c = cause_to c.write.ensures.cause (done_only c.write.result c.in-Done.is) (λ e. came_unlike _ refl e)

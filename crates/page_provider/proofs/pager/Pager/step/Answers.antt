@@ -1,4 +1,4 @@
-use Rattle.std.proofs.Common.{◌∙◌, Option, subst}
+use Rattle.std.proofs.Common.{◌∙◌, Option, subst, ap}
 use Rattle.std.proofs.lemmas.Result.{IfErr-weaker, IfOk-weaker}
 use Rattle.cooling_stage.specs.declared.stage.Cooling.{Cooling}
 use Rattle.btree_descent.specs.rows_trait.Views.{Shape}
@@ -8,6 +8,8 @@ use Rattle.page_provider.specs.declared.refusal.Refusal.{Refusal}
 use Rattle.page_provider.proofs.Hands.{candidate_none, halts_behind, steps_behind}
 use Rattle.page_provider.proofs.Keeping.{keeps_ran}
 use Rattle.page_provider.proofs.Parts.{keeps_shape}
+use Rattle.page_provider.specs.Providers.{Provider}
+use Rattle.page_provider.proofs.Asks.{sized_of}
 use Rattle.page_provider.proofs.pager.Pager.step.Goals as goal
 
 pub returns-then-not-branch-clause-ok : goal.returns-then-not-branch-clause-ok
@@ -42,3 +44,15 @@ returns-clause-err g c =
     let P : Refusal → Type 0 = λ why. Halts 2 (g.R.Rows.shape c.is_hot.new.rows) t why u in
     let Q : Refusal → Type 0 = λ why. Halts 2 z v why u in
     IfErr-weaker c.step_from.result P Q (λ why h. halts_behind o.kept.ran (subst (λ (s : Shape). Halts 2 s t why u) o.fits.1 h)) c.step_from.ensures.err
+
+pub is_hot-requires-clause-sized : goal.is_hot-requires-clause-sized
+is_hot-requires-clause-sized g c = sized_of c.requires.keeps (c.frames.ensures ∙ ap (λ (p : Provider). p.frames) c.self.view_is)
+
+pub step_from-requires-clause-fits : goal.step_from-requires-clause-fits
+step_from-requires-clause-fits g c = c.in_ok-is_hot.ensures.fits.0
+
+pub step_from-requires-clause-held : goal.step_from-requires-clause-held
+step_from-requires-clause-held g c = c.in_ok-is_hot.ensures.fits.2 ∙ c.requires.held
+
+pub returns-clause-fits : goal.returns-clause-fits
+returns-clause-fits g c = let o = c.in_ok-is_hot.ensures.fits in let e = c.step_from.ensures.fits in (e.0, e.1 ∙ o.1)

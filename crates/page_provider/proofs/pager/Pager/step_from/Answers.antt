@@ -11,6 +11,8 @@ use Rattle.page_provider.proofs.Moving.{missed_halts}
 use Rattle.page_provider.proofs.Parts.{keeps_shape}
 use Rattle.page_provider.proofs.Savings.{if_err}
 use Rattle.page_provider.proofs.pager.Pager.step_from.Goals as goal
+use Rattle.page_provider.specs.Providers.{Provider}
+use Rattle.page_provider.proofs.Asks.{sized_of}
 use Rattle.page_provider.proofs.pager.Pager.step_from.Goals.{then-number-eq0-via-then-number-eq0, then-number-eq0-via-else-number-eq0+then-contains}
 
 pub returns-in_default-clause-ok : goal.returns-in_default-clause-ok
@@ -80,3 +82,15 @@ returns-in_err-seen-clause-err g c =
     let e : why ≡ p.0 = cc in
     let P : Refusal → Type 0 = λ q. Halts 2 z v q t in
     if_err c.from_residual.result p.0 P p.1 (subst P e (halts_up (omega arith) (missed_halts c.requires.held c.in_err-seen.ensures.err)))
+
+pub candidate-requires-clause-sized : goal.candidate-requires-clause-sized
+candidate-requires-clause-sized g c = sized_of c.requires.keeps (c.frames-frames.ensures ∙ ap (λ (p : Provider). p.frames) c.self.view_is)
+
+pub cool_seen-requires-clause-fits : goal.cool_seen-requires-clause-fits
+cool_seen-requires-clause-fits g c = c.in_ok-seen.ensures.fits.0
+
+pub cool_seen-requires-clause-held : goal.cool_seen-requires-clause-held
+cool_seen-requires-clause-held g c = c.in_ok-seen.ensures.fits.2 ∙ c.requires.held
+
+pub returns-clause-fits : goal.returns-clause-fits
+returns-clause-fits g c = let o = c.in_ok-seen.ensures.fits in let e = c.cool_seen.ensures.fits in (e.0, e.1 ∙ o.1)
