@@ -24,7 +24,7 @@ use Rattle.script_lang.specs.Reading.{Unread, Reading}
 use Rattle.transcripts.specs.Told.{ask, asked_text, EachLineFits, LineFits}
 use Rattle.script_run.specs.Runs.{EngineStands, Hand, InHand, ReadsTo, ScriptRuns, calls_of, works_behind}
 use Rattle.script_run.specs.Runs.InHand.{OfLine, OfAbort, OfScan}
-use Rattle.script_run.specs.Inside.{AnsweredTo, AnswersRun, CallsRun, EngineGoes, GoOn, HasTold, IsDueBehind, IsDueTo, IsNewest, IsOfEngine, IsOfPutting, IsOfReading, Laws, LineRuns, MayRun, Says, Stepped, StopsFor}
+use Rattle.script_run.specs.Inside.{AnsweredTo, AnswersRun, CallsRun, EngineGoes, GoOn, HasTold, IsDueBehind, IsDueTo, IsNewest, IsOfEngine, IsOfPutting, IsOfReading, Laws, LineRuns, LineSteps, MayRun, Says, Stepped, StopsFor}
 use Rattle.script_run.specs.Inside.IsDueTo.{Abort, Step}
 use Rattle.script_run.specs.declared.stop.Stop.{Stop}
 use Rattle.script_run.specs.declared.stop.Stop.TheVariants.{WriteFault, DiskFault, Damaged}
@@ -80,16 +80,19 @@ module _ (stop : Option Stop) (sessions group : ℕ) (g : Opening) (xs : List Do
 
     -- one asked, with this line
     pub one_step : (session : ℕ) (call : Call) → LineFits sessions session call → script_of (calls_of newer) ≡ (session, call) ∷ [] → before + 1 < 2 ^ 40 → (stop ≡ None → is_open_line (calls_of newer) ≡ false)
-        → ReadsTo stop sessions newer hand (suc (before + 1)) start feed reader (seen ++ (ask session call ++ 10 ∷ [])) → Stepped Stands 1 stop sessions group g xs before start seen m0 m1 reader feed h0 h1 old new
+        → ReadsTo stop sessions newer hand (suc (before + 1)) start feed reader (seen ++ (ask session call ++ 10 ∷ [])) → LineSteps Stands session call stop sessions group g xs before start seen m0 m1 reader feed h0 h1 old new
     unfolding script_run
     one_step session call fits is few closed reads =
         let size : length (script_of (calls_of newer)) ≡ 1 = ap (λ (ls : List (ℕ × Call)). length ls) is in
         record {
-          run = script_run before start feed seen reader (subst (EachLineFits sessions) (sym is) (fits, tt)) (omega (arith, size, few))
-              (subst (λ (ls : List (ℕ × Call)). ReadsTo stop sessions newer hand (suc (before + length ls)) start feed reader (seen ++ asked_text ls)) (sym is) reads);
-          stands = stands;
-          count_is = λ none. size;
-          closed = closed;
+          step = record {
+            run = script_run before start feed seen reader (subst (EachLineFits sessions) (sym is) (fits, tt)) (omega (arith, size, few))
+                (subst (λ (ls : List (ℕ × Call)). ReadsTo stop sessions newer hand (suc (before + length ls)) start feed reader (seen ++ asked_text ls)) (sym is) reads);
+            stands = stands;
+            count_is = λ none. size;
+            closed = closed;
+          };
+          asks = λ none. is;
         }
 
 -- ## The line of one outcome, and of those that go on with it
@@ -182,10 +185,12 @@ module _ (laws : Laws) (sessions group : ℕ) (g : Opening) (xs : List Done) (be
     Never = StandsNot g group xs m0 old
 
     -- the disk failed in its call, or a page of it was damaged
-    pub fault_step : (stop : Stop) (m1 : Memory) → before < 2 ^ 40 → IsOfEngine stop → StopsFor stop Failed Never → Stepped Stands 1 (Some stop) sessions group g xs before start seen m0 m1 reader feed h0 h0 old mid
-    fault_step stop m1 few of stops =
-        none_step (Some stop) sessions group g xs m0 m1 h0 h0 old mid [] hand (fault_call laws group g xs m0 old law hand m1 mid h0 stop of stops) Stands (engine_stands stop (Stands xs) g xs of)
-        before start feed seen reader refl few (line_in_hand stop sessions hand (suc before) start feed reader seen of fits reading) 1 (λ none. let clash : Some stop ≡ None = none in cc)
+    pub fault_step : (stop : Stop) (m1 : Memory) → before < 2 ^ 40 → IsOfEngine stop → StopsFor stop Failed Never → LineSteps Stands session asks (Some stop) sessions group g xs before start seen m0 m1 reader feed h0 h0 old mid
+    fault_step stop m1 few of stops = record {
+      step = none_step (Some stop) sessions group g xs m0 m1 h0 h0 old mid [] hand (fault_call laws group g xs m0 old law hand m1 mid h0 stop of stops) Stands (engine_stands stop (Stands xs) g xs of)
+          before start feed seen reader refl few (line_in_hand stop sessions hand (suc before) start feed reader seen of fits reading) 1 (λ none. let clash : Some stop ≡ None = none in cc);
+      asks = λ none. let clash : Some stop ≡ None = none in cc;
+    }
 
     -- it was answered
     module _ (a : Answer) (m1 m2 : Memory) (does : Does g group xs session asks a m0 m1 old mid) (few : before + 1 < 2 ^ 40) (h1 : Held) (new : Story) (same : m2 ≡ m1) where
@@ -194,7 +199,7 @@ module _ (laws : Laws) (sessions group : ℕ) (g : Opening) (xs : List Done) (be
 
       -- and the sink failed
       pub cut_step : (stop : Stop) → stop ≡ WriteFault → Says (lines_of g xs does.done) (Some stop) h0 h1 mid new → HasTold (Some stop) (Stands (does.done ∷ xs)) (durables g (moments (does.done ∷ xs)))
-          → Stepped Stands 1 (Some stop) sessions group g xs before start seen m0 m2 reader feed h0 h1 old new
+          → LineSteps Stands session asks (Some stop) sessions group g xs before start seen m0 m2 reader feed h0 h1 old new
       cut_step stop of said told =
           one_step (Some stop) sessions group g xs m0 m2 h0 h1 old new (does.done ∷ []) nobody (answer_call laws group g xs m0 old law session asks a m1 m2 mid new does (Some stop) nobody h0 h1 said same) Stands
           (putting_goes (Some stop) (Stands (does.done ∷ xs)) g (does.done ∷ xs) of told) before start feed seen reader session asks fits script few (λ none. let clash : Some stop ≡ None = none in cc)
@@ -202,7 +207,7 @@ module _ (laws : Laws) (sessions group : ℕ) (g : Opening) (xs : List Done) (be
 
       -- and then further, as far as its line goes
       pub line_step : Says (lines_of g xs does.done) None h0 h1 mid new → (stop : Option Stop) → MayRun stop → (m3 : Memory) (h2 : Held) (last : Story)
-          → LineRuns Stands stop group g (does.done ∷ xs) m2 m3 h1 h2 new last → Stepped Stands 1 stop sessions group g xs before start seen m0 m3 reader feed h0 h2 old last
+          → LineRuns Stands stop group g (does.done ∷ xs) m2 m3 h1 h2 new last → LineSteps Stands session asks stop sessions group g xs before start seen m0 m3 reader feed h0 h2 old last
       line_step said stop may m3 h2 last b =
           let x = does.done in
           let r : AnswersRun Stands stop group g (x ∷ xs) m2 m3 h1 h2 new last = b.run in

@@ -26,14 +26,14 @@ use Rattle.script_lang.specs.Reading.{Unread, Reading}
 use Rattle.transcripts.specs.Told.{asked_text, EachLineFits}
 use Rattle.transcripts.proofs.TranscriptLemmas.{script_append}
 use Rattle.script_run.specs.Runs.{DiskTo, ScriptRuns, StaysAside, calls_of}
-use Rattle.script_run.specs.Inside.{CallsRun, EngineGoes, Laws, Stepped}
+use Rattle.script_run.specs.Inside.{CallsRun, EngineGoes, Laws, LineSteps, Stepped}
 use Rattle.script_run.specs.declared.stop.Stop.{Stop}
 use Rattle.script_run.proofs.CallLemmas.{calls_then}
 use Rattle.script_run.proofs.DiskLemmas.{disk_later}
 use Rattle.script_run.proofs.StepLemmas.{script_run}
 use Rattle.script_run.proofs.StopLemmas.{reads_more, seen_more}
 
-calls_append : (newer xs : List Done) → calls_of (newer ++ xs) ≡ calls_of newer ++ calls_of xs
+pub calls_append : (newer xs : List Done) → calls_of (newer ++ xs) ≡ calls_of newer ++ calls_of xs
 calls_append [] xs = refl
 calls_append (x ∷ newer) xs = ap (λ (ys : List Answered). in_words x.outcome ∷ ys) (calls_append newer xs)
 
@@ -119,6 +119,21 @@ module _ (laws : Laws) (sessions group : ℕ) (g : Opening) (xs : List Done) (st
       → ((ys : List Done) (seen : List ℕ) → EngineGoes None (First ys) g ys → Reading start f0 r0 seen → Stepped Stands count stop sessions group g ys so_far start seen m1 m2 r1 f1 h1 h2 s1 s2)
       → Stepped Stands (count + so_far) stop sessions group g xs 0 start seen m0 m2 r1 f1 h0 h2 s0 s2
   stepped_then count next = both_stepped count (next (a.run.newer ++ xs) (seen ++ asked_text firsts) a.stands a.run.reads)
+
+  -- behind it one line
+  pub record OneMore (session : ℕ) (call : Call) : Type 0 where
+    pub all : Stepped Stands (1 + so_far) stop sessions group g xs 0 start seen m0 m2 r1 f1 h0 h2 s0 s2
+    pub news : List Done
+    pub are : all.run.newer ≡ news ++ a.run.newer
+    pub asks : stop ≡ None → script_of (calls_of news) ≡ (session, call) ∷ []
+
+  pub one_more : (session : ℕ) (call : Call)
+      → ((ys : List Done) (seen : List ℕ) → EngineGoes None (First ys) g ys → Reading start f0 r0 seen → LineSteps Stands session call stop sessions group g ys so_far start seen m1 m2 r1 f1 h1 h2 s1 s2)
+      → OneMore session call
+  unfolding both_stepped script_run
+  one_more session call next =
+      let b : LineSteps Stands session call stop sessions group g (a.run.newer ++ xs) so_far start (seen ++ asked_text firsts) m1 m2 r1 f1 h1 h2 s1 s2 = next (a.run.newer ++ xs) (seen ++ asked_text firsts) a.stands a.run.reads in
+      record { all = both_stepped 1 b.step; news = b.step.run.newer; are = refl; asks = b.asks }
 
 -- for equal sizes
 pub same_sizes : (Stands : List Done → List Name → Type 0) (count : ℕ) (stop : Option Stop) (n p m q : ℕ) (g : Opening) (xs : List Done) (before : ℕ) (start feed : Feed) (seen : List ℕ) (m0 m1 : Memory) (reader : Unread) (h0 h1 : Held) (old new : Story)

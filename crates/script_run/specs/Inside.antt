@@ -1,7 +1,8 @@
--- What private functions say: what a line asks, and what was put of a call.
+-- What private functions say: what a line asks, and what was put of a call; and a run of one line, wherever it comes from.
 use Rattle.std.specs.Prelude.{◌≡◌, ◌⊎◌, ◌<◌, ◌≤◌, ◌+◌, ◌^◌, ◌++◌, ℕ, Bool, true, false, List, [], ◌∷◌, length, Option, Some, None, Result, Ok, Err, IsTrue}
 use Rattle.map_model.specs.declared.call.Answer.{Answer}
 use Rattle.map_model.specs.declared.call.Answer.TheVariants as answer
+use Rattle.map_model.specs.declared.call.Call.{Call}
 use Rattle.map_model.specs.Journals.{Name}
 use Rattle.map_model.specs.Outputs.{Reply}
 use Rattle.map_model.specs.Pairings.{is_last, is_open_line, script_of}
@@ -227,3 +228,8 @@ pub record Stepped (Stands : List Done → List Name → Type 0) (count : ℕ) (
   pub stands : EngineGoes stop (Stands (run.newer ++ xs)) g (run.newer ++ xs)
   pub count_is : stop ≡ None → length (script_of (calls_of run.newer)) ≡ count
   pub closed : stop ≡ None → is_open_line (calls_of run.newer) ≡ false
+
+-- a run of this one line, which is all that was executed where it goes on
+pub record LineSteps (Stands : List Done → List Name → Type 0) (session : ℕ) (call : Call) (stop : Option Stop) (sessions group : ℕ) (g : Opening) (xs : List Done) (before : ℕ) (start : Feed) (seen : List ℕ) (m0 m1 : Memory) (reader : Unread) (feed : Feed) (held0 held1 : Held) (old new : Story) : Type 0 where
+  pub step : Stepped Stands 1 stop sessions group g xs before start seen m0 m1 reader feed held0 held1 old new
+  pub asks : stop ≡ None → script_of (calls_of step.run.newer) ≡ (session, call) ∷ []

@@ -8,5 +8,6 @@ mod run;
 mod stop;
 
 pub use laws::every_script;
-pub use run::run_script;
+pub use lines::LINES;
+pub use run::{execute_line, run_script};
 pub use stop::Stop;

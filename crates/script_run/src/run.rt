@@ -1,5 +1,5 @@
 // Line by line: read, asked, printed.
-ghost use Rattle.std.specs.Prelude.{◌≡◌, ◌↔◌, ◌≤◌, ◌+◌, ◌^◌, ◌++◌, ◌∷◌, ◌<◌, ◌-◌, ℕ, true, false, List, Some, None, Err, IfOk, IfErr, IsErr};
+ghost use Rattle.std.specs.Prelude.{◌≡◌, ◌↔◌, ◌≤◌, ◌+◌, ◌^◌, ◌++◌, [], ◌∷◌, ◌<◌, ◌-◌, ℕ, true, false, List, Some, None, Err, IfOk, IfErr, IsErr};
 ghost use Rattle.call_parts.specs.core_state.Openings.{Opening};
 ghost use Rattle.call_parts.specs.core_calls.Deeds.{asked};
 ghost use Rattle.call_parts.specs.core_calls.Durables.{durables, moments};
@@ -15,10 +15,11 @@ ghost use Rattle.engine_front.specs.declared.calls.Next.{Next};
 ghost use Rattle.map_model.specs.Journals.{Name};
 ghost use Rattle.map_model.specs.Pairings.{is_last};
 ghost use Rattle.map_model.specs.declared.call.Call.{Call as Asked};
-ghost use Rattle.script_lang.specs.Reading.{Reading};
+ghost use Rattle.script_lang.specs.Reading.{Reading, Unread};
 ghost use Rattle.script_lang.specs.Replies.{AnswerFits};
+ghost use Rattle.transcripts.specs.Told.{LineFits, ask};
 ghost use Rattle.script_run.specs.Runs.{EngineStands, ScriptRuns, works_behind, works_on};
-ghost use Rattle.script_run.specs.Inside.{AnsweredTo, AnswersRun, IsNewest, IsOfEngine, IsOfRunning, Laws, LineRuns, MayRun, Stepped, StopsFor, is_pair};
+ghost use Rattle.script_run.specs.Inside.{AnsweredTo, AnswersRun, IsNewest, IsOfEngine, IsOfRunning, Laws, LineRuns, LineSteps, MayRun, Stepped, StopsFor, is_pair};
 
 use crate::lines::{LINES, next_call};
 use crate::replies::{has_line, put_answer};
@@ -118,14 +119,42 @@ fn take_step<S: Source, K: Sink<D>, D: Disk, E: Calls<D>>(
         Ok(line) => line,
         Err(stop) => return Some(stop),
     };
-    let answer = match call_engine(engine, line.session, &line.call) {
+    execute_line(engine, sink, buffer, line.session, &line.call)
+}
+
+/// Executes a line on an engine that works, of which the next line may be asked, and puts what it is answered. The answer is why the engine stops there, if it
+/// does. Whatever was read before, and wherever the line comes from: it stands in the run as if it had been handed out last.
+pub fn execute_line<K: Sink<D>, D: Disk, E: Calls<D>>(
+    engine: &mut E,
+    sink: &mut K,
+    buffer: &mut [u8; REPLY],
+    session: u32,
+    call: &Call,
+) -> Option<Stop>
+    requires fits { LineFits (E.sessions engine.old) session call.now }
+    requires works { E.works engine.old ≡ true }
+    requires next { E.next engine.old ≡ Next.Line }
+    ensures runs { (g : Opening) (xs : List Done) (before : ℕ) (start feed : Feed) (seen : List ℕ) (reader : Unread) → before + 1 < 2 ^ 40 → E.in_run engine.old g xs (durables g (moments xs)) → Reading start feed reader (seen ++ (ask session call.now ++ 10 ∷ []))
+        → LineSteps (E.in_run engine.new g) session call.now result (E.sessions engine.old) (E.group engine.old) g xs before start seen (E.memory engine.old) (E.memory engine.new) reader feed (K.held sink.old) (K.held sink.new) (D.story (E.disk engine.old)) (D.story (E.disk engine.new)) }
+    ensures stops { MayRun result }
+    ensures works { E.works engine.new ≡ works_behind result }
+    ensures next { result ≡ None → E.next engine.new ≡ Next.Line }
+    ensures sizes { (E.sessions engine.new ≡ E.sessions engine.old) × (E.group engine.new ≡ E.group engine.old) }
+
+    ensures cause_write_fault { HasCause (K.faults sink.old) (K.faults sink.new) (result ≡ Some Stop.WriteFault) }
+    ensures cause_disk_fault { HasCause (D.faults (E.disk engine.old)) (D.faults (E.disk engine.new)) (result ≡ Some Stop.DiskFault) }
+{
+    // What a crash between two calls leaves.
+    laws();
+    engine.told();
+    let answer = match call_engine(engine, session, call) {
         Ok(answer) => answer,
         Err(stop) => return Some(stop),
     };
-    if let Some(stop) = put_answer(engine, sink, buffer, line.session, &answer) {
+    if let Some(stop) = put_answer(engine, sink, buffer, session, &answer) {
         return Some(stop);
     }
-    finish_line(engine, sink, buffer, line.session, answer)
+    finish_line(engine, sink, buffer, session, answer)
 }
 
 // What a line is answered further, behind an answer that was put: what follows the pairs of a scan, and the abort of a call that met a conflict.
