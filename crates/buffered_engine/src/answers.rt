@@ -7,10 +7,12 @@ ghost use Rattle.buffered_engine.specs.Calls.{DurableDoes, HinderedDoes, LineDoe
 
 use crate::engine::{Engine, disk_of};
 use engine_front::calls::{Calls, Durable};
+use engine_front::{Front, seen};
 use lean_disk::MemDisk;
 use lean_edge::{Put, Sink};
 use map_model::{Answer, Call};
 use paged_scans::{Stages, Unanswered};
+use std::marker::Brand;
 
 impl<D: Stages> Engine<D> {
     /// What a line of a session asks; for a sync the session is 0.
@@ -114,6 +116,10 @@ impl<D: Hosts> Calls<D> for Engine<D> {
     ghost disk = { λ e. e.disk };
 
     fn told(&self) {}
+
+    fn front(&self) -> Front {
+        seen::<Brand>(&self.machine.machine.seat)
+    }
 
     fn session_count(&self) -> u32 {
         self.machine.machine.work.session.workers

@@ -2,7 +2,7 @@
 ghost use Rattle.std.specs.Prelude.{◌≡◌, ◌↔◌, ◌≤◌, ◌<◌, ◌^◌, ℕ, Bool, true, false, List, ◌∷◌, IfOk, IfErr, IfSome, IsErr, Err, MatchOption, Some};
 ghost use Rattle.call_parts.specs.core_state.Openings.{Opening};
 ghost use Rattle.call_parts.specs.core_calls.Deeds.{asked};
-ghost use Rattle.call_parts.specs.core_calls.Fronts.{Done};
+ghost use Rattle.call_parts.specs.core_calls.Fronts.{Done, front};
 ghost use Rattle.call_parts.specs.core_calls.Runs.{EachTells};
 ghost use Rattle.call_parts.specs.core_calls.Steps.{hindered_in};
 ghost use Rattle.lean_disk.specs.Faults.{HasCause};
@@ -17,9 +17,11 @@ ghost use Rattle.call_parts.specs.engine_trait.declared.unserved.Unanswered.{Una
 ghost use Rattle.call_parts.specs.engine_trait.Limits.{limits};
 ghost use Rattle.call_parts.specs.Deeds.{Does, Fails};
 ghost use Rattle.call_parts.specs.Memory.{Memory};
+ghost use Rattle.engine_front.specs.Fronts.{events_in};
 ghost use Rattle.engine_front.specs.Stops.{StandsNot, StopsBy};
 ghost use Rattle.engine_front.specs.Turns.{IsNext, IsTaken, behind_answer, behind_durables, told_with};
 
+use crate::Front;
 pub use call_parts::Unanswered;
 use lean_disk::Disk;
 use lean_edge::{Put, Sink};
@@ -81,6 +83,10 @@ pub trait Calls<D: Disk> {
         // Each session is a worker.
         ensures workers { (g : Opening) (xs : List Done) (names : List Name) → in_run self.now g xs names → g.workers ≡ sessions self.now }
         ensures lawful { IsLawful (D.story (disk self.now)) };
+
+    /// What it has done: the events of the outcomes, whatever run it stands in.
+    fn front(&self) -> Front
+        ensures { (g : Opening) (xs : List Done) (names : List Name) → in_run self.now g xs names → events_in result.view ≡ front xs };
 
     /// How many sessions there are.
     fn session_count(&self) -> u32

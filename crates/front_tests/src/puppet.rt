@@ -2,10 +2,12 @@
 ghost use Rattle.std.specs.Prelude.{◌≡◌};
 ghost use Rattle.engine_front.specs.Turns.{behind_answer, behind_durables};
 
+use engine_front::Front;
 use engine_front::calls::{Calls, Durable, Next, Unanswered};
 use lean_disk::Disk;
 use lean_edge::{Put, Sink};
 use map_model::{Answer, Call, Refusal};
+use std::marker::Brand;
 
 /// A get of this key meets a damaged page, at this place; so does a scan that comes to it.
 pub(crate) const DAMAGED: u64 = 13;
@@ -78,6 +80,10 @@ impl<D: Disk> Calls<D> for Puppet<D> {
     ghost disk = { λ e. e.disk };
 
     fn told(&self) {}
+
+    fn front(&self) -> Front {
+        Front::of::<Brand>()
+    }
 
     fn session_count(&self) -> u32 {
         2

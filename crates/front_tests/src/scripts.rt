@@ -4,7 +4,7 @@ use engine_front::calls::{Calls, Next};
 use lean_disk::MemDisk;
 use lean_edge::{MemSink, MemSource};
 use script_lang::LineReader;
-use script_run::{Stop, run_script};
+use script_run::{Stop, no_events, run_script};
 use std::alloc::{AllocError, Global};
 
 // A script, how many commits are durable behind its first line, whether an abort that is due meets a damaged page, and the puts that fail, of which three bytes are
@@ -141,7 +141,13 @@ fn is_met(alloc: Global, case: &Case) -> Result<bool, AllocError> {
         pairs: 0,
         is_abort_damaged: case.is_abort_damaged,
     };
-    let stop = run_script(&mut engine, &mut reader, &mut source, &mut sink);
+    let stop = run_script(
+        &mut engine,
+        &mut reader,
+        &mut source,
+        &mut sink,
+        &mut no_events(),
+    );
     let asked = engine.asked;
     engine.close();
     Ok(stop == case.stop && asked == case.asked && sink.bytes() == case.printed)

@@ -44,6 +44,7 @@ fn main(rt: HostRuntime) -> ExitCode {
     let Ended {
         status,
         disk: _disk,
+        front: _,
     } = run(&rt, alloc, &words, &mut source, &mut sink, disk, &Open);
     ExitCode::from(status)
 }

@@ -1,5 +1,5 @@
 -- How each command ended, as an end whatever the words.
-use Rattle.std.proofs.Common.{◌≡◌, ◌≢◌, ◌⊎◌, inl, inr, ◌≤◌, ℕ, List, length, Some, refl, sym, ◌∙◌, ap, subst, arith, codes}
+use Rattle.std.proofs.Common.{◌≡◌, ◌≢◌, ◌⊎◌, inl, inr, ◌≤◌, ℕ, List, length, Some, refl, sym, ◌∙◌, ap, subst, arith, codes, []}
 use Rattle.std.proofs.lemmas.Fmt.{decimal_injective}
 use Rattle.lean_disk.specs.Area.{Leaves}
 use Rattle.lean_disk.specs.Faults.{HasCause, IsBlamed}
@@ -12,6 +12,7 @@ use Rattle.buffered_engine.specs.recovery.declared.opening.Unrecovered.TheVarian
 use Rattle.script_run.specs.declared.stop.Stop.{Stop}
 use Rattle.script_run.specs.declared.stop.Stop.TheVariants as stops
 use Rattle.lean_shell.specs.Dumps.{DumpEnds, Dumped, PutOrCut, dump_text}
+use Rattle.buffered_engine.specs.core_state.Events.{Event}
 use Rattle.lean_shell.specs.Ends.{RunEnds}
 use Rattle.lean_shell.specs.Runs.{HowRun, NotOpened, ended, status_of}
 use Rattle.lean_shell.specs.Runs.HowRun.{OfCut, OfReason, OfScript}
@@ -141,9 +142,9 @@ usage_moments s0 s1 law notes = noted_moments s0 s0 s1 (Stays s0) (stays_of_byte
 
 -- ## Ends
 
-module _ (words : List (List ℕ)) (status : ℕ) (s0 s1 : Story) (feed0 feed1 : Feed) (held0 held1 : Held) (before now : Counts) where
+module _ (words : List (List ℕ)) (status : ℕ) (events : List Event) (s0 s1 : Story) (feed0 feed1 : Feed) (held0 held1 : Held) (before now : Counts) where
   abbrev Ends : Type 0
-  Ends = CommandEnds words status s0 s1 feed0 feed1 held0 held1 before now
+  Ends = CommandEnds words status events s0 s1 feed0 feed1 held0 held1 before now
 
   pub of_format : (shape : Shape) → AsksFormat words shape → now.source ≡ before.source
       → FormatEnds shape status s0 s1 held0 held1 before.sink now.sink before.disk now.disk → Ends
@@ -159,7 +160,7 @@ module _ (words : List (List ℕ)) (status : ℕ) (s0 s1 : Story) (feed0 feed1 :
     none = λ none. absurd (none (Format shape) asks);
   }
 
-  pub of_run : (size : Size) → AsksRun words size → RunEnds size status s0 s1 feed0 feed1 held0 held1 before.sink now.sink
+  pub of_run : (size : Size) → AsksRun words size → RunEnds size status events s0 s1 feed0 feed1 held0 held1 before.sink now.sink
       → HasCause before.source now.source (status ≡ 4) → IsBlamed before.sink now.sink (status ≡ 5) → HasCause before.disk now.disk (status ≡ 6) → Ends
   of_run size asks ends read write disk =
       let is = of_run_status size status s0 s1 feed0 feed1 ends.put before.sink now.sink ends.how in
@@ -170,7 +171,7 @@ module _ (words : List (List ℕ)) (status : ℕ) (s0 s1 : Story) (feed0 feed1 :
         cause_write_fault = write;
         cause_disk_fault = disk;
         format = λ shape also. absurd (not_both words shape size also asks);
-        run = λ other also. subst (λ (x : Size). RunEnds x status s0 s1 feed0 feed1 held0 held1 before.sink now.sink) (same_size words size other asks also) ends;
+        run = λ other also. subst (λ (x : Size). RunEnds x status events s0 s1 feed0 feed1 held0 held1 before.sink now.sink) (same_size words size other asks also) ends;
         dump = λ also. absurd (not_run words size also asks);
         none = λ none. absurd (none (Run size) asks);
       }
@@ -206,7 +207,7 @@ module _ (words : List (List ℕ)) (status : ℕ) (s0 s1 : Story) (feed0 feed1 :
   }
 
   -- whatever the words
-  pub of_unread : feed1 ≡ feed0 → now.source ≡ before.source → UnreadEnds status s0 s1 held0 held1 before.sink now.sink before.disk now.disk → Ends
+  pub of_unread : feed1 ≡ feed0 → now.source ≡ before.source → UnreadEnds status events s0 s1 held0 held1 before.sink now.sink before.disk now.disk → Ends
   of_unread same unread ends =
       let eight : status ≡ 8 = ends.status_is in
       record {
@@ -216,14 +217,14 @@ module _ (words : List (List ℕ)) (status : ℕ) (s0 s1 : Story) (feed0 feed1 :
         cause_write_fault = record { later = ends.none.printed.cause.later; cause = λ e. absurd (omega (arith, eight, e)) };
         cause_disk_fault = record { later = omega (arith, ends.none.faults); cause = λ e. absurd (omega (arith, eight, e)); calm = λ n. ends.none.faults };
         format = λ shape asks. ends.format shape;
-        run = λ size asks. subst (λ (f : Feed). RunEnds size status s0 s1 feed0 f held0 held1 before.sink now.sink) (sym same) (ends.run size feed0);
+        run = λ size asks. subst (λ (f : Feed). RunEnds size status events s0 s1 feed0 f held0 held1 before.sink now.sink) (sym same) (ends.run size feed0);
         dump = λ asks. ends.dump;
         none = λ nothing. ends.none;
       }
 
 -- ## Words that could not be read
 
-module _ (notice_law : EveryNotice) (tail_law : EveryTail) (s0 s1 : Story) (law : IsLawful s0) (held0 held1 : Held) (sink0 sink1 disk0 disk1 status : ℕ) (eight : status ≡ 8) (r : Refuses why.Memory held0 held1 sink0 sink1 s0 s1) (calm : disk1 ≡ disk0) where
+module _ (notice_law : EveryNotice) (tail_law : EveryTail) (s0 s1 : Story) (law : IsLawful s0) (held0 held1 : Held) (sink0 sink1 disk0 disk1 status : ℕ) (eight : status ≡ 8) (r : Refuses why.Memory held0 held1 sink0 sink1 s0 s1) (calm : disk1 ≡ disk0) (events : List Event) (none : events ≡ []) where
   notes : OnlyNotes s0 s1
   notes = put_notes s0 s1 r.answer r.line.noted r.line.same
 
@@ -233,13 +234,13 @@ module _ (notice_law : EveryNotice) (tail_law : EveryTail) (s0 s1 : Story) (law 
   keeps : Keeps s0 s0
   keeps = record { notes = refl; tells = λ a. refl; areas = refl; counts = refl; later = omega arith }
 
-  pub unread : UnreadEnds status s0 s1 held0 held1 sink0 sink1 disk0 disk1
+  pub unread : UnreadEnds status events s0 s1 held0 held1 sink0 sink1 disk0 disk1
   unread = record {
     status_is = eight;
     format = λ shape. failed shape s0 s0 s1 law (keeps_all s0) (unmoved shape s0 law) (λ a lt. refl) notes held0 held1 sink0 sink1 disk0 disk1
         Memory status eight (λ e. let n : number_of Memory ≡ number_of Usage = ap number_of e in omega (arith, n)) printed (λ e. absurd (let n : number_of Memory ≡ number_of AlreadyFormatted = ap number_of e in omega (arith, n))) (λ e a. refl)
         (record { later = omega (arith, calm); cause = λ e. absurd (let n : number_of Memory ≡ number_of DiskFault = ap number_of e in omega (arith, n)); calm = λ n. calm });
-    run = λ size feed. refused_ends size notice_law tail_law status s0 s0 s1 law keeps (λ a lt. refl) (λ m tells clean. not_moved m s0 law) feed why.Memory eight tt (λ refused a. absurd refused) held0 held1 sink0 sink1 r;
+    run = λ size feed. refused_ends size notice_law tail_law status s0 s0 s1 law keeps (λ a lt. refl) (λ m tells clean. not_moved m s0 law) feed why.Memory eight tt (λ refused a. absurd refused) held0 held1 sink0 sink1 r events none;
     headline = λ feed. refused_headline (record { frames = 32; rows = 16; group = 1; sessions = 16 }) notice_law tail_law s0 s0 s1 law keeps (λ m tells clean. not_moved m s0 law) feed why.Memory held0 held1 sink0 sink1 r;
     dump = dumps.refused s0 s0 s1 law (record { keeps = keeps; logs = λ a lt. record { bytes = refl; writes = refl; first = refl }; others = λ a lt. refl; any = λ m tells clean. not_moved m s0 law }) why.Memory tt (λ refused a. absurd refused) held0 held1 sink0 sink1 r.answer status eight r.line r.cause;
     none = record {

@@ -277,6 +277,12 @@ pub data HowRun (size : Size) (status : ℕ) (s0 s1 : Story) (feed0 feed1 : Feed
   OfCut : CutFirst size.sessions status s0 feed0 feed1 put sink0 sink1 → HowRun size status s0 s1 feed0 feed1 put sink0 sink1
   OfScript : Ran size status s0 s1 feed0 feed1 put sink0 sink1 → HowRun size status s0 s1 feed0 feed1 put sink0 sink1
 
+-- the events of the core that it made, from the start that the opening left: those of its calls, in their order
+abbrev pub front_of : {size : Size} {status : ℕ} {s0 s1 : Story} {feed0 feed1 : Feed} {put : List ℕ} {sink0 sink1 : ℕ} → HowRun size status s0 s1 feed0 feed1 put sink0 sink1 → List Event
+front_of (OfReason reason unread) = []
+front_of (OfCut cut) = []
+front_of (OfScript ran) = front ran.calls
+
 -- These calls that were heard, and the next one, are of the run that ended so; where no script was executed there are none.
 abbrev pub AreOf : {size : Size} {status : ℕ} {s0 s1 : Story} {feed0 feed1 : Feed} {put : List ℕ} {sink0 sink1 : ℕ} → HowRun size status s0 s1 feed0 feed1 put sink0 sink1 → Opening → List Done → Option Done → Type 0
 AreOf (OfReason reason unread) = λ opening heard next_one. ⊥

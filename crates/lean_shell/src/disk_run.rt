@@ -1,7 +1,8 @@
 // The run of a script.
-ghost use Rattle.std.specs.Prelude.{◌≡◌, ◌≤◌, ℕ, IsTrue};
+ghost use Rattle.std.specs.Prelude.{◌≡◌, ◌≤◌, ℕ, IsTrue, []};
 ghost use Rattle.lean_disk.specs.Faults.{HasCause, IsBlamed};
 ghost use Rattle.buffered_engine.specs.lean_edge.Outside.{added};
+ghost use Rattle.buffered_engine.specs.engine_front.Fronts.{events_in};
 ghost use Rattle.buffered_engine.specs.recovery.Telling.{TellsAll};
 ghost use Rattle.lean_shell.specs.Ends.{RunEnds};
 ghost use Rattle.lean_shell.specs.Headline.{Headline};
@@ -19,7 +20,7 @@ use buffered_engine::{
 };
 use lean_disk::Disk;
 use script_lang::LineReader;
-use script_run::{Stop, run_script};
+use script_run::{Stop, all_events, no_events, run_script};
 use std::alloc::Global;
 
 /// The status of a disk that was not opened.
@@ -51,18 +52,20 @@ fn ended(stop: Stop) -> u8
 fn refuse<K: Sink<D>, D: Disk>(reason: Unrecovered, sink: &mut K, mut disk: D) -> Ended<D>
     ensures status { result.status ≡ status_of reason }
     ensures put { Refuses reason (K.held sink.old) (K.held sink.new) (K.faults sink.old) (K.faults sink.new) (D.story disk) (D.story result.disk) }
+    ensures front { events_in result.front.view ≡ [] }
     ensures faults { D.faults result.disk ≡ D.faults disk }
 {
     put_reason(reason, sink, &mut disk);
     Ended {
         status: status_of(reason),
         disk,
+        front: no_events(),
     }
 }
 
 /// Memory to read the words of a command line was refused.
 pub(crate) fn unread<K: Sink<D>, D: Disk>(sink: &mut K, disk: D) -> Ended<D>
-    ensures { UnreadEnds result.status (D.story disk) (D.story result.disk) (K.held sink.old) (K.held sink.new) (K.faults sink.old) (K.faults sink.new) (D.faults disk) (D.faults result.disk) }
+    ensures { UnreadEnds result.status (events_in result.front.view) (D.story disk) (D.story result.disk) (K.held sink.old) (K.held sink.new) (K.faults sink.old) (K.faults sink.new) (D.faults disk) (D.faults result.disk) }
 {
     transcripts::every_notice();
     transcripts::every_tail();
@@ -84,7 +87,7 @@ pub fn run_disk<S: Source, K: Sink<D>, D: Hosts>(
     requires group { 1 ≤ size.group }
     requires sessions { size.sessions ≤ 16 }
     ensures headline { IsTrue (S.feed source.old).tells → IsTrue (K.held sink.old).tells → TellsAll size.sessions (D.story disk) → Headline (D.story disk) (D.story result.disk) (S.feed source.old).left (added (K.held sink.old) (K.held sink.new)) }
-    ensures ends { RunEnds size result.status (D.story disk) (D.story result.disk) (S.feed source.old) (S.feed source.new) (K.held sink.old) (K.held sink.new) (K.faults sink.old) (K.faults sink.new) }
+    ensures ends { RunEnds size result.status (events_in result.front.view) (D.story disk) (D.story result.disk) (S.feed source.old) (S.feed source.new) (K.held sink.old) (K.held sink.new) (K.faults sink.old) (K.faults sink.new) }
 
     ensures cause_read_fault { HasCause (S.faults source.old) (S.faults source.new) (result.status ≡ 4) }
     // A last line that is cut off leaves the status as it is.
@@ -110,15 +113,19 @@ pub fn run_disk<S: Source, K: Sink<D>, D: Hosts>(
         return Ended {
             status: 5,
             disk: engine.close(),
+            front: no_events(),
         };
     };
-    let stop = run_script(&mut engine, &mut reader, source, sink);
+    let mut events = no_events();
+    let stop = run_script(&mut engine, &mut reader, source, sink, &mut events);
     // What may be asked next, by the run in which it stands.
     engine.told();
+    let front = all_events(stop, &engine, events);
     put_last(stop, sink, &mut engine);
     Ended {
         status: ended(stop),
         disk: engine.close(),
+        front,
     }
 }
 

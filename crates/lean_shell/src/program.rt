@@ -3,6 +3,7 @@ ghost use Rattle.std.specs.Prelude.{◌≡◌, ◌≤◌, IsTrue};
 ghost use Rattle.lean_disk.specs.Faults.{HasCause, IsBlamed};
 ghost use Rattle.buffered_engine.specs.lean_edge.Outside.{added};
 ghost use Rattle.buffered_engine.specs.recovery.Telling.{TellsAll};
+ghost use Rattle.buffered_engine.specs.engine_front.Fronts.{events_in};
 ghost use Rattle.lean_shell.specs.Dumps.{DumpEnds};
 ghost use Rattle.lean_shell.specs.Ends.{RunEnds};
 ghost use Rattle.lean_shell.specs.Headline.{Headline};
@@ -22,6 +23,7 @@ use crate::words::{Command, read_words};
 use buffered_engine::{Formatted, Hosts, Put, Shape, Sink, Source, format};
 use lean_disk::Disk;
 use script_lang::{REPLY, formatted_bytes, notices_are_no_replies};
+use script_run::{Front, no_events};
 use std::alloc::Global;
 use std::sync::Wait;
 use std::thread::Threads;
@@ -72,6 +74,8 @@ pub struct Ended<D> {
     /// What the program ends with.
     pub status: u8,
     pub disk: D,
+    /// The events of the core that a run made, from the start that its opening left. It takes no bytes.
+    pub front: Front,
 }
 
 // Every command but those that take threads.
@@ -82,7 +86,7 @@ fn run_alone<S: Source, K: Sink<D>, D: Hosts>(
     sink: &mut K,
     mut disk: D,
 ) -> Ended<D>
-    ensures ends { CommandEnds (texts words.now) result.status (D.story disk) (D.story result.disk) (S.feed source.old) (S.feed source.new) (K.held sink.old) (K.held sink.new)
+    ensures ends { CommandEnds (texts words.now) result.status (events_in result.front.view) (D.story disk) (D.story result.disk) (S.feed source.old) (S.feed source.new) (K.held sink.old) (K.held sink.new)
         (record { source = S.faults source.old; sink = K.faults sink.old; disk = D.faults disk }) (record { source = S.faults source.new; sink = K.faults sink.new; disk = D.faults result.disk }) }
     ensures headline { (size : Size) → Asks (texts words.now) (Run size) → IsTrue (S.feed source.old).tells → IsTrue (K.held sink.old).tells → TellsAll 16 (D.story disk) → Headline (D.story disk) (D.story result.disk) (S.feed source.old).left (added (K.held sink.old) (K.held sink.new)) }
     ensures source { ((size : Size) → Asks (texts words.now) (Run size) → ⊥) → source.new ≡ source.old }
@@ -90,16 +94,28 @@ fn run_alone<S: Source, K: Sink<D>, D: Hosts>(
     match read_words(alloc, words) {
         Ok(Some(Command::Format(shape))) => {
             let status = run_format(alloc, shape, sink, &mut disk);
-            Ended { status, disk }
+            Ended {
+                status,
+                disk,
+                front: no_events(),
+            }
         }
         Ok(Some(Command::Run(size))) => run_disk(alloc, source, sink, disk, size),
         Ok(Some(Command::Dump)) => {
             let status = dump_disk(alloc, sink, &mut disk);
-            Ended { status, disk }
+            Ended {
+                status,
+                disk,
+                front: no_events(),
+            }
         }
         Ok(None) => {
             let status = fail(Failure::Usage, sink, &mut disk);
-            Ended { status, disk }
+            Ended {
+                status,
+                disk,
+                front: no_events(),
+            }
         }
         Err(_) => unread(sink, disk),
     }
@@ -132,7 +148,7 @@ pub fn run<R: Threads + Wait + Sync, S: Source, K: Sink<D>, D: Hosts, G: Gate + 
 
     // What each command does.
     ensures format { (shape : Shape) → Asks (texts words.now) (Format shape) → FormatEnds shape result.status (D.story disk) (D.story result.disk) (K.held sink.old) (K.held sink.new) (K.faults sink.old) (K.faults sink.new) (D.faults disk) (D.faults result.disk) }
-    ensures run { (size : Size) → Asks (texts words.now) (Run size) → RunEnds size result.status (D.story disk) (D.story result.disk) (S.feed source.old) (S.feed source.new) (K.held sink.old) (K.held sink.new) (K.faults sink.old) (K.faults sink.new) }
+    ensures run { (size : Size) → Asks (texts words.now) (Run size) → RunEnds size result.status (events_in result.front.view) (D.story disk) (D.story result.disk) (S.feed source.old) (S.feed source.new) (K.held sink.old) (K.held sink.new) (K.faults sink.old) (K.faults sink.new) }
     ensures dump { Asks (texts words.now) Dump → DumpEnds result.status (D.story disk) (D.story result.disk) (K.held sink.old) (K.held sink.new) (K.faults sink.old) (K.faults sink.new) }
     ensures none { AsksNothing (texts words.now) → UsageEnds result.status (D.story disk) (D.story result.disk) (K.held sink.old) (K.held sink.new) (K.faults sink.old) (K.faults sink.new) (D.faults disk) (D.faults result.disk) }
 

@@ -164,15 +164,11 @@ fn show_zeros<R: Threads + Wait + Sync + Abort>(
     let text = plain.text.as_bytes();
     let mut source = MemSource::new(alloc, text, 4096).expect(rt, MEMORY);
     let mut sink = MemSink::new(alloc);
-    let Ended { status, disk: left } = run(
-        rt,
-        alloc,
-        &words,
-        &mut source,
-        &mut sink,
-        flawed,
-        &Open,
-    );
+    let Ended {
+        status,
+        disk: left,
+        front: _front,
+    } = run(rt, alloc, &words, &mut source, &mut sink, flawed, &Open);
     let printed = str::from_utf8(sink.bytes()).unwrap_or("no text");
     expect(rt, "the status of a damaged page", status == 7);
     let (lines, last) = printed

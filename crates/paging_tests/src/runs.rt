@@ -60,7 +60,11 @@ pub(crate) fn run_command<R: Threads + Wait + Sync + Abort>(
     let words = words_of(rt, alloc, command);
     let mut source = MemSource::new(alloc, text.as_bytes(), 4096).expect(rt, MEMORY);
     let mut sink = TimedSink::new(alloc);
-    let Ended { status, disk } = run(rt, alloc, &words, &mut source, &mut sink, disk, &Open);
+    let Ended {
+        status,
+        disk,
+        front: _front,
+    } = run(rt, alloc, &words, &mut source, &mut sink, disk, &Open);
     Outcome { status, disk, sink }
 }
 

@@ -4,6 +4,7 @@ use Rattle.lean_disk.specs.MemDisk.{disk_story}
 use Rattle.lean_disk.specs.Story.{Crash, Story, areas_of}
 use Rattle.lean_disk.specs.Told.{Begins, BeginsAfter}
 use Rattle.lean_disk.specs.declared.mem_disk.MemDisk.{MemDisk}
+use Rattle.lean_shell.specs.core_state.Events.{Event}
 use Rattle.lean_shell.specs.lean_edge.Outside.{Feed, Held}
 use Rattle.lean_shell.specs.disk_slots.declared.master.Master.{Master}
 use Rattle.lean_shell.specs.disk_image.Fair.{IsFairCrash}
@@ -25,13 +26,14 @@ pub record IsCutOff (m : Master) (first last left : MemDisk) : Type 0 where
   -- the run
   pub size : Size
   pub status : ℕ
+  pub events : List Event
   pub feed : Feed
   pub feed_after : Feed
   pub held : Held
   pub held_after : Held
   pub sink : ℕ
   pub sink_after : ℕ
-  pub ends : RunEnds size status (disk_story first) (disk_story last) feed feed_after held held_after sink sink_after
+  pub ends : RunEnds size status events (disk_story first) (disk_story last) feed feed_after held held_after sink sink_after
   pub script : IsTrue feed.tells
   pub headline : Headline (disk_story first) (disk_story last) feed.left ends.put
   -- the crash

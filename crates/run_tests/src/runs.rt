@@ -98,7 +98,11 @@ pub(crate) fn run_into<R: Threads + Wait + Sync + Abort>(
 ) -> Outcome {
     let words = copies_of(rt, alloc, command);
     let mut source = MemSource::new(alloc, text.as_bytes(), 7).expect(rt, MEMORY);
-    let Ended { status, disk } = run(rt, alloc, &words, &mut source, &mut sink, disk, &Open);
+    let Ended {
+        status,
+        disk,
+        front: _front,
+    } = run(rt, alloc, &words, &mut source, &mut sink, disk, &Open);
     Outcome { status, disk, sink }
 }
 

@@ -58,7 +58,7 @@ module _ (stop : Option Stop) (sessions group : ℕ) (g : Opening) (xs : List Do
     disk = calls.disk;
   }
 
-  module _ (Stands : List Done → List Name → Type 0) (stands : EngineGoes stop (Stands (newer ++ xs)) g (newer ++ xs)) (before : ℕ) (start feed : Feed) (seen : List ℕ) (reader : Unread) where
+  module _ (Stands : List Done → Option (List Name) → Type 0) (stands : EngineGoes stop (Stands (newer ++ xs)) g (newer ++ xs)) (before : ℕ) (start feed : Feed) (seen : List ℕ) (reader : Unread) where
     -- none asked
     pub none_step : newer ≡ [] → before < 2 ^ 40 → ReadsTo stop sessions [] hand (suc before) start feed reader seen → (count : ℕ) → (stop ≡ None → 0 ≡ count)
         → Stepped Stands count stop sessions group g xs before start seen m0 m1 reader feed h0 h1 old new
@@ -150,26 +150,26 @@ line_in_hand DiskFault sessions hand n start now r seen of fits is = OfLine fits
 line_in_hand (Damaged place) sessions hand n start now r seen of fits is = OfLine fits is
 line_in_hand _ sessions hand n start now r seen of fits is = absurd of
 
-engine_stands : (stop : Stop) (Stands : List Name → Type 0) (g : Opening) (calls : List Done) → IsOfEngine stop → EngineStands stop Stands g calls
-engine_stands DiskFault Stands g calls of = tt
-engine_stands (Damaged place) Stands g calls of = tt
-engine_stands _ Stands g calls of = absurd of
+engine_stands : (stop : Stop) (Stands : Option (List Name) → Type 0) (g : Opening) (calls : List Done) → IsOfEngine stop → Stands None → EngineStands stop Stands g calls
+engine_stands DiskFault Stands g calls of stood = stood
+engine_stands (Damaged place) Stands g calls of stood = stood
+engine_stands _ Stands g calls of stood = absurd of
 
 -- a hand that counts for nothing
 abbrev nobody : Hand
 nobody = record { session = 0; call = call.Begin }
 
 module _ (laws : Laws) (sessions group : ℕ) (g : Opening) (xs : List Done) (before number : ℕ) (is : number ≡ suc before) (start feed : Feed) (seen : List ℕ) (reader : Unread) (m0 : Memory) (h0 : Held) (old : Story) (law : IsLawful old)
-    (Stands : List Done → List Name → Type 0) where
+    (Stands : List Done → Option (List Name) → Type 0) where
   -- it asked nothing
-  pub no_step : (stop : Stop) → before < 2 ^ 40 → IsOfReading stop → Stands xs (durables g (moments xs)) → ((newer : List Done) → (hand : Hand) → ReadsTo (Some stop) sessions newer hand number start feed reader seen)
+  pub no_step : (stop : Stop) → before < 2 ^ 40 → IsOfReading stop → Stands xs (Some (durables g (moments xs))) → ((newer : List Done) → (hand : Hand) → ReadsTo (Some stop) sessions newer hand number start feed reader seen)
       → Stepped Stands 1 (Some stop) sessions group g xs before start seen m0 m0 reader feed h0 h0 old old
   no_step stop few of stands reads =
       none_step (Some stop) sessions group g xs m0 m0 h0 h0 old old [] nobody (no_call laws group g xs m0 old law (Some stop) nobody h0 of (prints_none stop of) (of_no_sink stop of)) Stands (reading_stands stop (Stands xs) g xs of stands)
       before start feed seen reader refl few (subst (λ (n : ℕ). ReadsTo (Some stop) sessions [] nobody n start feed reader seen) is (reads [] nobody)) 1 (λ none. let clash : Some stop ≡ None = none in cc)
 
   -- before the first line
-  pub first_step : 0 < 2 ^ 40 → Stands xs (durables g (moments xs)) → Reading start feed reader seen → Stepped Stands 0 None sessions group g xs 0 start seen m0 m0 reader feed h0 h0 old old
+  pub first_step : 0 < 2 ^ 40 → Stands xs (Some (durables g (moments xs))) → Reading start feed reader seen → Stepped Stands 0 None sessions group g xs 0 start seen m0 m0 reader feed h0 h0 old old
   first_step few stands reading =
       none_step None sessions group g xs m0 m0 h0 h0 old old [] nobody (no_call laws group g xs m0 old law None nobody h0 tt (record { told_is = refl; none = refl }) (λ e. let clash : None ≡ Some WriteFault = e in cc)) Stands stands
       0 start feed seen reader refl few reading 0 (λ none. refl)
@@ -185,9 +185,9 @@ module _ (laws : Laws) (sessions group : ℕ) (g : Opening) (xs : List Done) (be
     Never = StandsNot g group xs m0 old
 
     -- the disk failed in its call, or a page of it was damaged
-    pub fault_step : (stop : Stop) (m1 : Memory) → before < 2 ^ 40 → IsOfEngine stop → StopsFor stop Failed Never → LineSteps Stands session asks (Some stop) sessions group g xs before start seen m0 m1 reader feed h0 h0 old mid
-    fault_step stop m1 few of stops = record {
-      step = none_step (Some stop) sessions group g xs m0 m1 h0 h0 old mid [] hand (fault_call laws group g xs m0 old law hand m1 mid h0 stop of stops) Stands (engine_stands stop (Stands xs) g xs of)
+    pub fault_step : (stop : Stop) (m1 : Memory) → before < 2 ^ 40 → IsOfEngine stop → StopsFor stop Failed Never → Stands xs None → LineSteps Stands session asks (Some stop) sessions group g xs before start seen m0 m1 reader feed h0 h0 old mid
+    fault_step stop m1 few of stops stood = record {
+      step = none_step (Some stop) sessions group g xs m0 m1 h0 h0 old mid [] hand (fault_call laws group g xs m0 old law hand m1 mid h0 stop of stops) Stands (engine_stands stop (Stands xs) g xs of stood)
           before start feed seen reader refl few (line_in_hand stop sessions hand (suc before) start feed reader seen of fits reading) 1 (λ none. let clash : Some stop ≡ None = none in cc);
       asks = λ none. let clash : Some stop ≡ None = none in cc;
     }
@@ -198,7 +198,7 @@ module _ (laws : Laws) (sessions group : ℕ) (g : Opening) (xs : List Done) (be
       script = line_of_one does.done session asks does.session does.asked_is
 
       -- and the sink failed
-      pub cut_step : (stop : Stop) → stop ≡ WriteFault → Says (lines_of g xs does.done) (Some stop) h0 h1 mid new → HasTold (Some stop) (Stands (does.done ∷ xs)) (durables g (moments (does.done ∷ xs)))
+      pub cut_step : (stop : Stop) → stop ≡ WriteFault → Says (lines_of g xs does.done) (Some stop) h0 h1 mid new → HasTold (Some stop) (λ names. Stands (does.done ∷ xs) (Some names)) (durables g (moments (does.done ∷ xs)))
           → LineSteps Stands session asks (Some stop) sessions group g xs before start seen m0 m2 reader feed h0 h1 old new
       cut_step stop of said told =
           one_step (Some stop) sessions group g xs m0 m2 h0 h1 old new (does.done ∷ []) nobody (answer_call laws group g xs m0 old law session asks a m1 m2 mid new does (Some stop) nobody h0 h1 said same) Stands
@@ -238,7 +238,7 @@ module _ (laws : Laws) (group : ℕ) (g : Opening) (y : Done) (earlier : List Do
   heard = y ∷ earlier
 
   -- none yet
-  unfoldable pub none_yet : (Stands : List Done → List Name → Type 0) → Stands heard (durables g (moments heard)) → AnswersRun Stands None group g heard m0 m0 h0 h0 old old
+  unfoldable pub none_yet : (Stands : List Done → Option (List Name) → Type 0) → Stands heard (Some (durables g (moments heard))) → AnswersRun Stands None group g heard m0 m0 h0 h0 old old
   none_yet Stands stands = record {
     newer = [];
     go_on = tt;
@@ -248,35 +248,35 @@ module _ (laws : Laws) (group : ℕ) (g : Opening) (y : Done) (earlier : List Do
     stands = stands;
   }
 
-  pub first_answer : (Stands : List Done → List Name → Type 0) → Stands heard (durables g (moments heard)) → (session : ℕ) (a : Answer) → IsNewest session a heard → AnsweredTo Stands session a group g heard m0 m0 h0 h0 old old
+  pub first_answer : (Stands : List Done → Option (List Name) → Type 0) → Stands heard (Some (durables g (moments heard))) → (session : ℕ) (a : Answer) → IsNewest session a heard → AnsweredTo Stands session a group g heard m0 m0 h0 h0 old old
   unfolding none_yet
   first_answer Stands stands session a newest = record { run = none_yet Stands stands; newest = newest }
 
   -- none follows, where the newest was the last
-  pub none_follows : (Stands : List Done → List Name → Type 0) → Stands heard (durables g (moments heard)) → is_last (answered y.outcome.deed) ≡ true → LineRuns Stands None group g heard m0 m0 h0 h0 old old
+  pub none_follows : (Stands : List Done → Option (List Name) → Type 0) → Stands heard (Some (durables g (moments heard))) → is_last (answered y.outcome.deed) ≡ true → LineRuns Stands None group g heard m0 m0 h0 h0 old old
   unfolding none_yet
   none_follows Stands stands last = record { run = none_yet Stands stands; closed = λ none. closed_one y earlier last }
 
   -- what is due was asked
-  module _ (Stands : List Done → List Name → Type 0) (hand : Hand) (due : IsDueTo y hand) (mid : Story) where
+  module _ (Stands : List Done → Option (List Name) → Type 0) (hand : Hand) (due : IsDueTo y hand) (mid : Story) where
     pub unfinished : IsDueTo y hand → is_last (answered y.outcome.deed) ≡ false
     unfinished (Abort session hindered) = hindered_open y.outcome.deed hand.call hindered
     unfinished (Step session asks more none) = more
 
     -- the disk failed in it, or a page of it was damaged
-    pub further_fault : (stop : Stop) (m1 : Memory) → IsOfEngine stop → StopsFor stop (Fails g group heard hand.session hand.call m0 old mid) (StandsNot g group heard m0 old) → AnswersRun Stands (Some stop) group g heard m0 m1 h0 h0 old mid
-    further_fault stop m1 of stops = record {
+    pub further_fault : (stop : Stop) (m1 : Memory) → IsOfEngine stop → StopsFor stop (Fails g group heard hand.session hand.call m0 old mid) (StandsNot g group heard m0 old) → Stands heard None → AnswersRun Stands (Some stop) group g heard m0 m1 h0 h0 old mid
+    further_fault stop m1 of stops stood = record {
       newer = [];
       go_on = tt;
       hand = hand;
       due = λ ends. due;
       calls = fault_call laws group g heard m0 old law hand m1 mid h0 stop of stops;
-      stands = engine_stands stop (Stands heard) g heard of;
+      stands = engine_stands stop (Stands heard) g heard of stood;
     }
 
     -- it was answered
     unfoldable pub further_answer : (own : ℕ) (a : Answer) (m1 m2 : Memory) (does : Does g group heard own hand.call a m0 m1 old mid) (h1 : Held) (new : Story) → m2 ≡ m1 → (stop : Option Stop) → IsOfPutting stop → Says (lines_of g heard does.done) stop h0 h1 mid new
-        → HasTold stop (Stands (does.done ∷ heard)) (durables g (moments (does.done ∷ heard))) → AnswersRun Stands stop group g heard m0 m2 h0 h1 old new
+        → HasTold stop (λ names. Stands (does.done ∷ heard) (Some names)) (durables g (moments (does.done ∷ heard))) → AnswersRun Stands stop group g heard m0 m2 h0 h1 old new
     further_answer own a m1 m2 does h1 new same stop of said told = record {
       newer = does.done ∷ [];
       go_on = (tt, open_one y earlier (unfinished due));
@@ -288,13 +288,13 @@ module _ (laws : Laws) (group : ℕ) (g : Opening) (y : Done) (earlier : List Do
 
     -- and a further one may follow
     pub answered_to : (own : ℕ) (a : Answer) (m1 m2 : Memory) (does : Does g group heard own hand.call a m0 m1 old mid) (h1 : Held) (new : Story) → m2 ≡ m1 → Says (lines_of g heard does.done) None h0 h1 mid new
-        → Stands (does.done ∷ heard) (durables g (moments (does.done ∷ heard))) → (session : ℕ) → does.done.outcome.session ≡ session → AnsweredTo Stands session a group g heard m0 m2 h0 h1 old new
+        → Stands (does.done ∷ heard) (Some (durables g (moments (does.done ∷ heard)))) → (session : ℕ) → does.done.outcome.session ≡ session → AnsweredTo Stands session a group g heard m0 m2 h0 h1 old new
     unfolding further_answer
     answered_to own a m1 m2 does h1 new same said told session is = record { run = further_answer own a m1 m2 does h1 new same None tt said told; newest = (is, does.answer_is) }
 
     -- and it was the last
     pub last_answer : (own : ℕ) (a : Answer) (m1 m2 : Memory) (does : Does g group heard own hand.call a m0 m1 old mid) (h1 : Held) (new : Story) → m2 ≡ m1 → is_last a ≡ true → (stop : Option Stop) → IsOfPutting stop → Says (lines_of g heard does.done) stop h0 h1 mid new
-        → HasTold stop (Stands (does.done ∷ heard)) (durables g (moments (does.done ∷ heard))) → LineRuns Stands stop group g heard m0 m2 h0 h1 old new
+        → HasTold stop (λ names. Stands (does.done ∷ heard) (Some names)) (durables g (moments (does.done ∷ heard))) → LineRuns Stands stop group g heard m0 m2 h0 h1 old new
     unfolding further_answer
     last_answer own a m1 m2 does h1 new same last stop of said told = record { run = further_answer own a m1 m2 does h1 new same stop of said told; closed = λ none. closed_one does.done heard (ap is_last does.answer_is ∙ last) }
 
@@ -304,7 +304,7 @@ pub go_on_then : (zs ys xs : List Done) → GoOn zs (ys ++ xs) → GoOn ys xs �
 go_on_then [] ys xs second first = first
 go_on_then (z ∷ zs) ys xs second first = (go_on_then zs ys xs second.0 first, ap (λ (ws : List Done). is_open_line (calls_of ws)) (append_assoc zs ys xs) ∙ second.1)
 
-module _ (laws : Laws) (group : ℕ) (g : Opening) (xs : List Done) (m0 m1 m2 : Memory) (h0 h1 h2 : Held) (s0 s1 s2 : Story) (First Stands : List Done → List Name → Type 0) (a : AnswersRun First None group g xs m0 m1 h0 h1 s0 s1) where
+module _ (laws : Laws) (group : ℕ) (g : Opening) (xs : List Done) (m0 m1 m2 : Memory) (h0 h1 h2 : Held) (s0 s1 s2 : Story) (First Stands : List Done → Option (List Name) → Type 0) (a : AnswersRun First None group g xs m0 m1 h0 h1 s0 s1) where
   unfoldable pub answers_then : (stop : Option Stop) → AnswersRun Stands stop group g (a.newer ++ xs) m1 m2 h1 h2 s1 s2 → AnswersRun Stands stop group g xs m0 m2 h0 h2 s0 s2
   answers_then stop b = record {
     newer = b.newer ++ a.newer;
@@ -330,5 +330,5 @@ module _ (laws : Laws) (group : ℕ) (g : Opening) (xs : List Done) (m0 m1 m2 : 
   }
 
 -- a line that was stopped is not done with
-pub stopped_line : (Stands : List Done → List Name → Type 0) (stop : Stop) (group : ℕ) (g : Opening) (xs : List Done) (m0 m1 : Memory) (h0 h1 : Held) (old new : Story) → AnswersRun Stands (Some stop) group g xs m0 m1 h0 h1 old new → LineRuns Stands (Some stop) group g xs m0 m1 h0 h1 old new
+pub stopped_line : (Stands : List Done → Option (List Name) → Type 0) (stop : Stop) (group : ℕ) (g : Opening) (xs : List Done) (m0 m1 : Memory) (h0 h1 : Held) (old new : Story) → AnswersRun Stands (Some stop) group g xs m0 m1 h0 h1 old new → LineRuns Stands (Some stop) group g xs m0 m1 h0 h1 old new
 stopped_line Stands stop group g xs m0 m1 h0 h1 old new a = record { run = a; closed = λ none. let clash : Some stop ≡ None = none in cc }

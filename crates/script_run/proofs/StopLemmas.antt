@@ -88,7 +88,7 @@ first_of stop all told tail is = go stop is
 
 -- ## The engine
 
-pub reading_stands : (stop : Stop) (Stands : List Name → Type 0) (g : Opening) (calls : List Done) → IsOfReading stop → Stands (durables g (moments calls)) → EngineStands stop Stands g calls
+pub reading_stands : (stop : Stop) (Stands : Option (List Name) → Type 0) (g : Opening) (calls : List Done) → IsOfReading stop → Stands (Some (durables g (moments calls))) → EngineStands stop Stands g calls
 reading_stands End Stands g calls of stands = stands
 reading_stands (Refused line) Stands g calls of stands = stands
 reading_stands ReadFault Stands g calls of stands = stands
@@ -96,7 +96,7 @@ reading_stands WriteFault Stands g calls of stands = absurd of
 reading_stands DiskFault Stands g calls of stands = absurd of
 reading_stands (Damaged place) Stands g calls of stands = absurd of
 
-pub putting_goes : (stop : Option Stop) (Stands : List Name → Type 0) (g : Opening) (calls : List Done) → IsOfPutting stop → HasTold stop Stands (durables g (moments calls)) → EngineGoes stop Stands g calls
+pub putting_goes : (stop : Option Stop) (Stands : Option (List Name) → Type 0) (g : Opening) (calls : List Done) → IsOfPutting stop → HasTold stop (λ names. Stands (Some names)) (durables g (moments calls)) → EngineGoes stop Stands g calls
 putting_goes None Stands g calls of told = told
 putting_goes (Some stop) Stands g calls of told = subst (λ (s : Stop). EngineStands s Stands g calls) (sym of) told
 

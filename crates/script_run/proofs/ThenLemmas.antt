@@ -69,7 +69,7 @@ of_run stop sessions group g xs before start feed seen m0 m1 reader h0 h1 old ne
 }
 
 -- From one run to the next: what the run so far leaves is what the next one begins with.
-module _ (laws : Laws) (sessions group : ℕ) (g : Opening) (xs : List Done) (start f0 f1 : Feed) (seen : List ℕ) (m0 m1 m2 : Memory) (r0 r1 : Unread) (h0 h1 h2 : Held) (s0 s1 s2 : Story) (stop : Option Stop) (so_far : ℕ) (First Stands : List Done → List Name → Type 0)
+module _ (laws : Laws) (sessions group : ℕ) (g : Opening) (xs : List Done) (start f0 f1 : Feed) (seen : List ℕ) (m0 m1 m2 : Memory) (r0 r1 : Unread) (h0 h1 h2 : Held) (s0 s1 s2 : Story) (stop : Option Stop) (so_far : ℕ) (First Stands : List Done → Option (List Name) → Type 0)
     (a : Stepped First so_far None sessions group g xs 0 start seen m0 m1 r0 f0 h0 h1 s0 s1) where
   abbrev firsts : List (ℕ × Call)
   firsts = script_of (calls_of a.run.newer)
@@ -136,7 +136,7 @@ module _ (laws : Laws) (sessions group : ℕ) (g : Opening) (xs : List Done) (st
       record { all = both_stepped 1 b.step; news = b.step.run.newer; are = refl; asks = b.asks }
 
 -- for equal sizes
-pub same_sizes : (Stands : List Done → List Name → Type 0) (count : ℕ) (stop : Option Stop) (n p m q : ℕ) (g : Opening) (xs : List Done) (before : ℕ) (start feed : Feed) (seen : List ℕ) (m0 m1 : Memory) (reader : Unread) (h0 h1 : Held) (old new : Story)
+pub same_sizes : (Stands : List Done → Option (List Name) → Type 0) (count : ℕ) (stop : Option Stop) (n p m q : ℕ) (g : Opening) (xs : List Done) (before : ℕ) (start feed : Feed) (seen : List ℕ) (m0 m1 : Memory) (reader : Unread) (h0 h1 : Held) (old new : Story)
     → n ≡ p → m ≡ q → Stepped Stands count stop n m g xs before start seen m0 m1 reader feed h0 h1 old new → Stepped Stands count stop p q g xs before start seen m0 m1 reader feed h0 h1 old new
 same_sizes Stands count stop n p m q g xs before start feed seen m0 m1 reader h0 h1 old new sessions group s =
     subst (λ (k : ℕ). Stepped Stands count stop p k g xs before start seen m0 m1 reader feed h0 h1 old new) group (subst (λ (k : ℕ). Stepped Stands count stop k m g xs before start seen m0 m1 reader feed h0 h1 old new) sessions s)

@@ -171,8 +171,8 @@ pub record CallsRun (newer : List Done) (stop : Option Stop) (hand : Hand) (grou
       → LeavesOnly old new (StaysAside g.workers (length told) old) × DiskTo stop hand g group (newer ++ xs) (front newer) s0 m k old new memory
 
 -- how the engine stands, where it goes on or stops
-abbrev pub EngineGoes : Option Stop → (List Name → Type 0) → Opening → List Done → Type 0
-EngineGoes None Stands g calls = Stands (durables g (moments calls))
+abbrev pub EngineGoes : Option Stop → (Option (List Name) → Type 0) → Opening → List Done → Type 0
+EngineGoes None Stands g calls = Stands (Some (durables g (moments calls)))
 EngineGoes (Some stop) Stands g calls = EngineStands stop Stands g calls
 
 -- ## The further answers to a line
@@ -203,7 +203,7 @@ GoOn [] xs = Unit {0}
 GoOn (x ∷ newer) xs = GoOn newer xs × (is_open_line (calls_of (newer ++ xs)) ≡ true)
 
 -- Further answers to the line of the newest of these outcomes, which were put; or it stopped there.
-pub record AnswersRun (Stands : List Done → List Name → Type 0) (stop : Option Stop) (group : ℕ) (g : Opening) (xs : List Done) (m0 m1 : Memory) (held0 held1 : Held) (old new : Story) : Type 0 where
+pub record AnswersRun (Stands : List Done → Option (List Name) → Type 0) (stop : Option Stop) (group : ℕ) (g : Opening) (xs : List Done) (m0 m1 : Memory) (held0 held1 : Held) (old new : Story) : Type 0 where
   pub newer : List Done
   pub go_on : GoOn newer xs
   -- the call that was not answered, if one was not
@@ -213,23 +213,23 @@ pub record AnswersRun (Stands : List Done → List Name → Type 0) (stop : Opti
   pub stands : EngineGoes stop (Stands (newer ++ xs)) g (newer ++ xs)
 
 -- they were put up to this one
-pub record AnsweredTo (Stands : List Done → List Name → Type 0) (session : ℕ) (a : Answer) (group : ℕ) (g : Opening) (xs : List Done) (m0 m1 : Memory) (held0 held1 : Held) (old new : Story) : Type 0 where
+pub record AnsweredTo (Stands : List Done → Option (List Name) → Type 0) (session : ℕ) (a : Answer) (group : ℕ) (g : Opening) (xs : List Done) (m0 m1 : Memory) (held0 held1 : Held) (old new : Story) : Type 0 where
   pub run : AnswersRun Stands None group g xs m0 m1 held0 held1 old new
   pub newest : IsNewest session a (run.newer ++ xs)
 
 -- all of them were put; or it stopped there
-pub record LineRuns (Stands : List Done → List Name → Type 0) (stop : Option Stop) (group : ℕ) (g : Opening) (xs : List Done) (m0 m1 : Memory) (held0 held1 : Held) (old new : Story) : Type 0 where
+pub record LineRuns (Stands : List Done → Option (List Name) → Type 0) (stop : Option Stop) (group : ℕ) (g : Opening) (xs : List Done) (m0 m1 : Memory) (held0 held1 : Held) (old new : Story) : Type 0 where
   pub run : AnswersRun Stands stop group g xs m0 m1 held0 held1 old new
   pub closed : stop ≡ None → is_open_line (calls_of (run.newer ++ xs)) ≡ false
 
 -- A run of lines, which are so many where it goes on.
-pub record Stepped (Stands : List Done → List Name → Type 0) (count : ℕ) (stop : Option Stop) (sessions group : ℕ) (g : Opening) (xs : List Done) (before : ℕ) (start : Feed) (seen : List ℕ) (m0 m1 : Memory) (reader : Unread) (feed : Feed) (held0 held1 : Held) (old new : Story) : Type 0 where
+pub record Stepped (Stands : List Done → Option (List Name) → Type 0) (count : ℕ) (stop : Option Stop) (sessions group : ℕ) (g : Opening) (xs : List Done) (before : ℕ) (start : Feed) (seen : List ℕ) (m0 m1 : Memory) (reader : Unread) (feed : Feed) (held0 held1 : Held) (old new : Story) : Type 0 where
   pub run : ScriptRuns stop sessions group g xs before start seen m0 m1 reader feed held0 held1 old new
   pub stands : EngineGoes stop (Stands (run.newer ++ xs)) g (run.newer ++ xs)
   pub count_is : stop ≡ None → length (script_of (calls_of run.newer)) ≡ count
   pub closed : stop ≡ None → is_open_line (calls_of run.newer) ≡ false
 
 -- a run of this one line, which is all that was executed where it goes on
-pub record LineSteps (Stands : List Done → List Name → Type 0) (session : ℕ) (call : Call) (stop : Option Stop) (sessions group : ℕ) (g : Opening) (xs : List Done) (before : ℕ) (start : Feed) (seen : List ℕ) (m0 m1 : Memory) (reader : Unread) (feed : Feed) (held0 held1 : Held) (old new : Story) : Type 0 where
+pub record LineSteps (Stands : List Done → Option (List Name) → Type 0) (session : ℕ) (call : Call) (stop : Option Stop) (sessions group : ℕ) (g : Opening) (xs : List Done) (before : ℕ) (start : Feed) (seen : List ℕ) (m0 m1 : Memory) (reader : Unread) (feed : Feed) (held0 held1 : Held) (old new : Story) : Type 0 where
   pub step : Stepped Stands 1 stop sessions group g xs before start seen m0 m1 reader feed held0 held1 old new
   pub asks : stop ≡ None → script_of (calls_of step.run.newer) ≡ (session, call) ∷ []

@@ -224,11 +224,16 @@ pub record ScriptRuns (stop : Option Stop) (sessions group : ℕ) (g : Opening) 
   pub disk : (s0 : Crash) (m : Master) (k : Known) → Between limits g group xs s0 k old → IsOfRunBy (front xs) m k.master → IsOf g m0 k → old.notes + length told < 2 ^ 64
       → LeavesOnly old new (StaysAside g.workers (length told) old) × DiskTo stop hand g group (newer ++ xs) (front newer) s0 m k old new memory
 
+-- It stands in this run, where these commits were told durable; or it works no longer, and these are the events that it had made by then.
+abbrev pub Standing : (In : List Done → List Name → Type 0) → List Event → List Done → Option (List Name) → Type 0
+Standing In events calls (Some names) = In calls names
+Standing In events calls None = events ≡ front calls
+
 -- how the engine stands then: all lines that are due were told; unless the sink failed, behind the lines of some, or it works no longer
-abbrev pub EngineStands : Stop → (List Name → Type 0) → Opening → List Done → Type 0
-EngineStands End Stands g calls = Stands (durables g (moments calls))
-EngineStands (Refused line) Stands g calls = Stands (durables g (moments calls))
-EngineStands ReadFault Stands g calls = Stands (durables g (moments calls))
-EngineStands WriteFault Stands g calls = (names : List Name) × Stands names
-EngineStands DiskFault Stands g calls = Unit {0}
-EngineStands (Damaged place) Stands g calls = Unit {0}
+abbrev pub EngineStands : Stop → (Option (List Name) → Type 0) → Opening → List Done → Type 0
+EngineStands End Stands g calls = Stands (Some (durables g (moments calls)))
+EngineStands (Refused line) Stands g calls = Stands (Some (durables g (moments calls)))
+EngineStands ReadFault Stands g calls = Stands (Some (durables g (moments calls)))
+EngineStands WriteFault Stands g calls = (names : List Name) × Stands (Some names)
+EngineStands DiskFault Stands g calls = Stands None
+EngineStands (Damaged place) Stands g calls = Stands None

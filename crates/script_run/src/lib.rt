@@ -7,7 +7,8 @@ mod replies;
 mod run;
 mod stop;
 
+pub use engine_front::Front;
 pub use laws::every_script;
 pub use lines::LINES;
-pub use run::{execute_line, run_script};
+pub use run::{all_events, execute_line, no_events, run_script};
 pub use stop::Stop;

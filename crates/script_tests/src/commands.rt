@@ -47,7 +47,11 @@ pub(crate) fn run_words<R: Threads + Wait + Sync>(
     mut sink: MemSink,
 ) -> Result<Outcome, AllocError> {
     let words = words_of(alloc, words)?;
-    let Ended { status, disk } = run(rt, alloc, &words, &mut source, &mut sink, disk, &Open);
+    let Ended {
+        status,
+        disk,
+        front: _front,
+    } = run(rt, alloc, &words, &mut source, &mut sink, disk, &Open);
     Ok(Outcome { status, disk, sink })
 }
 
@@ -60,7 +64,11 @@ pub(crate) fn run_list<R: Threads + Wait + Sync>(
     mut sink: MemSink,
 ) -> Result<Outcome, AllocError> {
     let mut source = MemSource::new(alloc, b"", 1)?;
-    let Ended { status, disk } = run(rt, alloc, words, &mut source, &mut sink, disk, &Open);
+    let Ended {
+        status,
+        disk,
+        front: _front,
+    } = run(rt, alloc, words, &mut source, &mut sink, disk, &Open);
     Ok(Outcome { status, disk, sink })
 }
 

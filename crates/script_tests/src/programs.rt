@@ -172,6 +172,7 @@ fn runs<T: Threads + Wait + Sync>(
     let Ended {
         status,
         disk: _disk,
+        front: _front,
     } = run(threads, alloc, &words, &mut source, &mut sink, disk, &Open);
     Ok(status == command.status && sink.bytes() == command.printed)
 }

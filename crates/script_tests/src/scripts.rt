@@ -5,6 +5,7 @@ use lean_disk::MemDisk;
 use lean_shell::{
     Engine, LineReader, MemSink, MemSource, Opened, Size, Stop, Unopened, run_script,
 };
+use script_run::no_events;
 use std::alloc::{AllocError, Global};
 use std::sync::Wait;
 use std::thread::Threads;
@@ -101,7 +102,7 @@ fn stop_on(
         ) => engine,
         Err(Unopened { disk: _, reason: _ }) => return None,
     };
-    let stop = run_script(&mut engine, reader, source, sink);
+    let stop = run_script(&mut engine, reader, source, sink, &mut no_events());
     engine.close();
     Some(stop)
 }

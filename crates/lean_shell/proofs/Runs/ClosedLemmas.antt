@@ -1,5 +1,5 @@
 -- Behind a conflict the abort was executed.
-use Rattle.std.proofs.Common.{◌≡◌, ◌++◌, Bool, true, false, cond, List, [], ◌∷◌, refl, sym, ap, subst, true≢false}
+use Rattle.std.proofs.Common.{◌≡◌, ◌++◌, Bool, true, false, cond, List, [], ◌∷◌, refl, sym, ap, subst, true≢false, Option, Some}
 use Rattle.std.proofs.lemmas.List.{append-nil}
 use Rattle.map_model.specs.Journals.{Name}
 use Rattle.map_model.specs.Pairings.{is_open_line}
@@ -19,8 +19,8 @@ new_line [] l = refl
 new_line (y ∷ earlier) l = ap (λ (b : Bool). cond b false true) l.1
 
 -- of an engine that stands in such runs, and of which this may be asked next
-module _ (Stands : List Done → List Name → Type 0) (next : Next) (told : (xs : List Done) (names : List Name) → Stands xs names → IsNext next xs) (g : Opening) where
-  closed_in : (xs : List Done) (names : List Name) → Stands xs names → next ≡ Line → is_open_line (calls_of xs) ≡ false
+module _ (Stands : List Done → Option (List Name) → Type 0) (next : Next) (told : (xs : List Done) (names : List Name) → Stands xs (Some names) → IsNext next xs) (g : Opening) where
+  closed_in : (xs : List Done) (names : List Name) → Stands xs (Some names) → next ≡ Line → is_open_line (calls_of xs) ≡ false
   closed_in xs names r line = new_line xs (subst (λ (n : Next). IsNext n xs) line (told xs names r))
 
   at_stop : (stop : Stop) (xs : List Done) → EngineStands stop (Stands xs) g xs → ((stop ≡ stops.WriteFault → ⊥) → works_on stop ≡ true → next ≡ Line) → IsClosed stop xs

@@ -1,5 +1,5 @@
 -- How a run ends whose disk was not opened, or whose first line was cut off.
-use Rattle.std.proofs.Common.{◌≡◌, ◌<◌, ◌+◌, ℕ, List, Option, IsTrue, drop, length, refl, sym, ◌∙◌, ap, subst, arith}
+use Rattle.std.proofs.Common.{◌≡◌, ◌<◌, ◌+◌, ℕ, List, Option, IsTrue, drop, length, refl, sym, ◌∙◌, ap, subst, arith, []}
 use Rattle.lean_disk.specs.Area.{Area}
 use Rattle.lean_disk.specs.Faults.{Rose}
 use Rattle.lean_disk.specs.Moments.{LeavesOnly}
@@ -27,6 +27,7 @@ use Rattle.buffered_engine.specs.paged_engine.Openings.{Shows}
 use Rattle.buffered_engine.specs.paged_engine.declared.opening.Size.{Size}
 use Rattle.lean_shell.specs.Crashes.{IsYoung, MasterLeaves, TellsCrashes}
 use Rattle.lean_shell.specs.Headline.{Headline, RunLeaves}
+use Rattle.buffered_engine.specs.core_state.Events.{Event}
 use Rattle.lean_shell.specs.Ends.{RunEnds}
 use Rattle.lean_shell.specs.Inside.Openings.{Refuses}
 use Rattle.lean_shell.specs.Inside.Lefts.{LivesOn}
@@ -84,8 +85,8 @@ NoCalls opening heard next_one = ⊥
 pub refused_ends : (size : Size) → EveryNotice → EveryTail → (status : ℕ) (s0 old new : Story) → IsLawful old → Keeps s0 old → ((a : ℕ) → 1 + size.sessions < a → old.area a ≡ s0.area a)
     → ((m : Master) → TellsAll size.sessions s0 → IsCleanDisk m (areas_of s0) → LeavesOnly s0 old (RecoveryLeaves m s0)) → (feed : Feed) (reason : Unrecovered) → status ≡ status_of reason → Shows size.sessions s0 reason
     → (IsRefusal reason → (a : ℕ) → IsUntouched (s0.area a) (old.area a))
-    → (held0 held1 : Held) (sink0 sink1 : ℕ) → Refuses reason held0 held1 sink0 sink1 old new → RunEnds size status s0 new feed feed held0 held1 sink0 sink1
-refused_ends size notice_law tail_law status s0 old new law keeps others any feed reason is shown left held0 held1 sink0 sink1 r =
+    → (held0 held1 : Held) (sink0 sink1 : ℕ) → Refuses reason held0 held1 sink0 sink1 old new → (events : List Event) → events ≡ [] → RunEnds size status events s0 new feed feed held0 held1 sink0 sink1
+refused_ends size notice_law tail_law status s0 old new law keeps others any feed reason is shown left held0 held1 sink0 sink1 r events none =
     let t = line_text size NoCalls notice_law s0 old new law keeps any feed (notice_of reason) r.fits r.answer held0 held1 r.line in record {
       put = t.text;
       holds = t.holds;
@@ -97,6 +98,7 @@ refused_ends size notice_law tail_law status s0 old new law keeps others any fee
             printed = went_out (line_of (notice_of reason)) t.text r.answer sink0 sink1 t.prefix t.is_prefix t.whole r.cause;
             left = λ refused a. subst (λ (x : Area). IsUntouched (s0.area a) x) (sym ((put_notes old new r.answer r.line.noted r.line.same).area a)) (left refused a);
           }) refl;
+      front = none;
       others = λ a lt. (put_notes old new r.answer r.line.noted r.line.same).area a ∙ others a lt;
       tells_on = line_on size NoCalls notice_law s0 old new law keeps any feed (notice_of reason) r.fits r.answer held0 held1 r.line;
       headline = λ tells. line_says size NoCalls notice_law s0 old new law keeps any feed (notice_of reason) r.fits r.answer held0 held1 r.line tail_law;
@@ -112,12 +114,13 @@ module _ (size : Size) (notice_law : EveryNotice) (s0 old new : Story) (law : Is
   abbrev opened : Notice
   opened = Notice.Opened n.generation n.winners n.undone
 
-  pub cut_ends : EveryTail → ((a : ℕ) → 1 + size.sessions < a → old.area a ≡ s0.area a) → (g : Opening) → (TellsAll size.sessions s0 → IsFrom size.sessions g s0 n) → (sink0 sink1 : ℕ) → Rose sink0 sink1 → RunEnds size 5 s0 new feed feed held0 held1 sink0 sink1
-  cut_ends tail_law others g from sink0 sink1 rose =
+  pub cut_ends : EveryTail → ((a : ℕ) → 1 + size.sessions < a → old.area a ≡ s0.area a) → (g : Opening) → (TellsAll size.sessions s0 → IsFrom size.sessions g s0 n) → (sink0 sink1 : ℕ) → Rose sink0 sink1 → (events : List Event) → events ≡ [] → RunEnds size 5 events s0 new feed feed held0 held1 sink0 sink1
+  cut_ends tail_law others g from sink0 sink1 rose events none =
       let t = line_text size NoCalls notice_law s0 old new law keeps any feed opened fits answer held0 held1 p in record {
         put = t.text;
         holds = t.holds;
         how = OfCut (record { status_is = refl; cause = rose; counts = n; opening = g; from = from; prefix = t.prefix; printed = t.is_prefix; unread = refl });
+        front = none;
         others = λ a lt. (put_notes old new answer p.noted p.same).area a ∙ others a lt;
         tells_on = line_on size NoCalls notice_law s0 old new law keeps any feed opened fits answer held0 held1 p;
         headline = λ tells. line_says size NoCalls notice_law s0 old new law keeps any feed opened fits answer held0 held1 p tail_law;

@@ -626,8 +626,8 @@ module _ (size : Size) (few : size.sessions ≤ 16) (frames : 32 ≤ size.frames
   beside : (a : ℕ) → suc g.workers < a → IsUntouched (s0.area a) (s1.area a)
   beside a high = subst (λ (x : Area). IsUntouched (s0.area a) x) (sym (l.notes.area a ∙ (r.others.area a high ∙ (noted.area a ∙ o.untouched a high)))) (record { bytes = refl; writes = refl; first = refl })
 
-  pub run_ends : (status : ℕ) → status ≡ ended stop → (sink0 : ℕ) → HasCause sink0 sink_c (stop ≡ stops.WriteFault) → ((a : ℕ) → 1 + size.sessions < a → sa.area a ≡ s0.area a) → IsClosed stop r.newer → RunEnds size status s0 s1 feed0 feed1 held0 held1 sink0 sink1
-  run_ends status is sink0 sinks others closed = record {
+  pub run_ends : (status : ℕ) → status ≡ ended stop → (sink0 : ℕ) → HasCause sink0 sink_c (stop ≡ stops.WriteFault) → ((a : ℕ) → 1 + size.sessions < a → sa.area a ≡ s0.area a) → IsClosed stop r.newer → (events : List Event) → events ≡ front r.newer → RunEnds size status events s0 s1 feed0 feed1 held0 held1 sink0 sink1
+  run_ends status is sink0 sinks others closed events made = record {
     put = put;
     holds = holds;
     how = OfScript (record {
@@ -664,6 +664,7 @@ module _ (size : Size) (few : size.sessions ≤ 16) (frames : 32 ≤ size.frames
       left = λ no_fault tells m all clean young. stays tells m all clean young no_fault;
       disk = λ no_fault tells m all clean young. on_disk tells m all clean young no_fault;
     });
+    front = made;
     others = λ a lt. l.notes.area a ∙ (r.others.area a (let f = o.of_size.few in omega arith) ∙ (noted.area a ∙ others a lt));
     tells_on = record {
       counts = l.notes.counts ∙ (r.others.counts ∙ (noted.counts ∙ keeps.counts));
@@ -679,7 +680,7 @@ module _ (size : Size) (few : size.sessions ≤ 16) (frames : 32 ≤ size.frames
   run_headline tells sink_tells all = subst (Headline s0 s1 input) (sym (ap (drop (length held0.bytes)) (holds sink_tells) ∙ drop-append_seam held0.bytes put)) (run_says tells all)
 
 pub every_run : Laws → (s0 sa sb sc s1 : Story) → EveryRun s0 sa sb sc s1
-every_run laws s0 sa sb sc s1 size feed0 feed1 held0 held_b held_c held1 stop sink_c sink1 x = record {
-  ends = λ status is sink0 sinks others. run_ends size x.few x.frames laws s0 sa sb sc s1 x.law_a x.law_c x.law_1 x.g x.first x.counts x.starts x.keeps x.any held0 held_b held_c held1 x.opened_fits x.put feed0 feed1 x.reader stop x.last_memory x.runs sink_c sink1 x.last status is sink0 sinks others x.closed;
+every_run laws s0 sa sb sc s1 size feed0 feed1 held0 held_b held_c held1 stop sink_c sink1 events x = record {
+  ends = λ status is sink0 sinks others. run_ends size x.few x.frames laws s0 sa sb sc s1 x.law_a x.law_c x.law_1 x.g x.first x.counts x.starts x.keeps x.any held0 held_b held_c held1 x.opened_fits x.put feed0 feed1 x.reader stop x.last_memory x.runs sink_c sink1 x.last status is sink0 sinks others x.closed events x.made;
   headline = run_headline size x.few x.frames laws s0 sa sb sc s1 x.law_a x.law_c x.law_1 x.g x.first x.counts x.starts x.keeps x.any held0 held_b held_c held1 x.opened_fits x.put feed0 feed1 x.reader stop x.last_memory x.runs sink_c sink1 x.last;
 }

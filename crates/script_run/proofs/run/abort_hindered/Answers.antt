@@ -7,6 +7,8 @@ use Rattle.script_run.specs.declared.stop.Stop.TheVariants.{DiskFault}
 use Rattle.script_run.proofs.FitLemmas.{abort_behind, abort_fits, last_behind}
 use Rattle.script_run.proofs.StepLemmas.{further_fault, last_answer, stopped_line}
 use Rattle.script_run.proofs.StopLemmas.{no_cause, putting_no_disk, putting_runs, ok_no_err}
+use Rattle.engine_front.specs.Fronts.{events_in}
+use Rattle.script_run.specs.Runs.{Standing}
 use Rattle.script_run.proofs.run.abort_hindered.Goals as goal
 
 pub returns-in-Err-clause-runs : goal.returns-in-Err-clause-runs
@@ -16,9 +18,9 @@ returns-in-Err-clause-runs g c o y earlier call run hindered session =
     let held = g.K.Sink.held c.args.sink.now in
     let e0 = c.args.engine.now in
     let e1 = c.abort_engine.new.engine in
-    stopped_line (E.in_run e1 o) c.in-Err.stop (E.group e0) o (y ∷ earlier) (E.memory e0) (E.memory e1) held held (D.story (E.disk e0)) (D.story (E.disk e1))
-    (further_fault c.laws.ensures (E.group e0) o y earlier (E.memory e0) held (D.story (E.disk e0)) c.told.ensures.lawful (E.in_run e1 o) (record { session = y.outcome.session; call = call }) (Abort refl hindered) (D.story (E.disk e1))
-    c.in-Err.stop (E.memory e1) (c.in-Err.ensures).stops ((c.in-Err.ensures).fails o y earlier (durables o (moments (y ∷ earlier))) run call hindered))
+    stopped_line (Standing (E.in_run e1 o) (events_in c.abort_engine.new.events.view)) c.in-Err.stop (E.group e0) o (y ∷ earlier) (E.memory e0) (E.memory e1) held held (D.story (E.disk e0)) (D.story (E.disk e1))
+    (further_fault c.laws.ensures (E.group e0) o y earlier (E.memory e0) held (D.story (E.disk e0)) c.told.ensures.lawful (Standing (E.in_run e1 o) (events_in c.abort_engine.new.events.view)) (record { session = y.outcome.session; call = call }) (Abort refl hindered) (D.story (E.disk e1))
+    c.in-Err.stop (E.memory e1) (c.in-Err.ensures).stops ((c.in-Err.ensures).fails o y earlier (durables o (moments (y ∷ earlier))) run call hindered) ((c.in-Err.ensures).stood o (y ∷ earlier) (durables o (moments (y ∷ earlier))) run))
 
 pub returns-clause-runs : goal.returns-clause-runs
 returns-clause-runs g c o y earlier call run hindered session =
@@ -33,7 +35,7 @@ returns-clause-runs g c o y earlier call run hindered session =
     let x = does.0.done in
     let fits = abort_fits c.args.session call a x.outcome.deed (abort_behind (hindered_in y.outcome.deed) call y.outcome.session x.outcome hindered does.0.happens.tells.hindered) does.0.answer_is (omega arith) (c.in-Ok.ensures).fits in
     let says = put.says o (y ∷ earlier) x does.1 (does.0.session ∙ session) does.0.answer_is fits in
-    last_answer c.laws.ensures (E.group e0) o y earlier (E.memory e0) (g.K.Sink.held c.args.sink.now) (D.story (E.disk e0)) c.told.ensures.lawful (E.in_run e2 o) (record { session = y.outcome.session; call = call }) (Abort refl hindered) (D.story (E.disk e1))
+    last_answer c.laws.ensures (E.group e0) o y earlier (E.memory e0) (g.K.Sink.held c.args.sink.now) (D.story (E.disk e0)) c.told.ensures.lawful (Standing (E.in_run e2 o) (events_in c.abort_engine.new.events.view)) (record { session = y.outcome.session; call = call }) (Abort refl hindered) (D.story (E.disk e1))
     y.outcome.session a (E.memory e1) (E.memory e2) does.0 (g.K.Sink.held c.put_answer.new.sink) (D.story (E.disk e2)) put.same.0 (c.in-Ok.ensures).last c.put_answer.result put.stops says.0 says.1
 
 pub returns-clause-stops : goal.returns-clause-stops

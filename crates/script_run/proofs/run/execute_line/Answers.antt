@@ -1,4 +1,4 @@
-use Rattle.std.proofs.Common.{◌≡◌, ◌^◌, ◌∷◌, ◌∙◌, ℕ, suc, Some, None, refl, sym, ap, subst, arith}
+use Rattle.std.proofs.Common.{◌≡◌, ◌∷◌, ◌∙◌, ℕ, suc, Some, None, refl, sym, ap, subst, arith}
 use Rattle.call_parts.specs.core_calls.Durables.{durables, moments}
 use Rattle.engine_front.specs.Turns.{behind_durables}
 use Rattle.script_run.specs.Inside.{LineRuns}
@@ -6,6 +6,8 @@ use Rattle.script_run.specs.declared.stop.Stop.TheVariants.{DiskFault, WriteFaul
 use Rattle.script_run.proofs.FitLemmas.{answer_fits, asked_of}
 use Rattle.script_run.proofs.StepLemmas.{cut_step, fault_step, line_step}
 use Rattle.script_run.proofs.StopLemmas.{cause_behind, engine_runs, no_cause, ok_no_err, putting_no_disk, putting_runs}
+use Rattle.engine_front.specs.Fronts.{events_in}
+use Rattle.script_run.specs.Runs.{Standing}
 use Rattle.script_run.proofs.run.execute_line.Goals as goal
 
 pub call_engine-requires-clause-asked : goal.call_engine-requires-clause-asked
@@ -17,9 +19,9 @@ returns-in-Err-clause-runs g c o xs before start feed seen reader few run readin
     let D = g.D.Disk in
     let e0 = c.args.engine.now in
     let e1 = c.call_engine.new.engine in
-    fault_step c.laws.ensures (E.sessions e0) (E.group e0) o xs before (suc before) refl start feed seen reader (E.memory e0) (g.K.Sink.held c.args.sink.now) (D.story (E.disk e0)) c.told.ensures.lawful (E.in_run e1 o)
+    fault_step c.laws.ensures (E.sessions e0) (E.group e0) o xs before (suc before) refl start feed seen reader (E.memory e0) (g.K.Sink.held c.args.sink.now) (D.story (E.disk e0)) c.told.ensures.lawful (Standing (E.in_run e1 o) (events_in c.call_engine.new.events.view))
     c.args.session c.args.call.now c.requires.fits (D.story (E.disk e1)) reading c.in-Err.stop (E.memory e1) (omega arith)
-    (c.in-Err.ensures).stops ((c.in-Err.ensures).fails o xs (durables o (moments xs)) run)
+    (c.in-Err.ensures).stops ((c.in-Err.ensures).fails o xs (durables o (moments xs)) run) ((c.in-Err.ensures).stood o xs (durables o (moments xs)) run)
 
 pub returns-in-Err-clause-stops : goal.returns-in-Err-clause-stops
 returns-in-Err-clause-stops g c = engine_runs c.in-Err.stop (c.in-Err.ensures).stops
@@ -37,7 +39,7 @@ returns-in-Some-clause-runs g c o xs before start feed seen reader few run readi
     let x = does.0.done in
     let says = (c.in-Some.ensures).says o xs x does.1 does.0.session does.0.answer_is
     (answer_fits (E.sessions e0) c.args.session c.args.call.now a x.outcome.deed (asked_of (E.sessions e0) c.args.session c.args.call.now fits) does.0.asked_is does.0.answer_is (omega arith) (c.in-Ok.ensures).fits) in
-    cut_step c.laws.ensures (E.sessions e0) (E.group e0) o xs before (suc before) refl start feed seen reader (E.memory e0) (g.K.Sink.held c.args.sink.now) (D.story (E.disk e0)) c.told.ensures.lawful (E.in_run e2 o)
+    cut_step c.laws.ensures (E.sessions e0) (E.group e0) o xs before (suc before) refl start feed seen reader (E.memory e0) (g.K.Sink.held c.args.sink.now) (D.story (E.disk e0)) c.told.ensures.lawful (Standing (E.in_run e2 o) (events_in c.call_engine.new.events.view))
     c.args.session c.args.call.now fits (D.story (E.disk e1)) reading a (E.memory e1) (E.memory e2) does.0 few (g.K.Sink.held c.put_answer.new.sink) (D.story (E.disk e2)) c.put_answer.ensures.same.0
     c.in-Some.stop (c.in-Some.ensures).stops says.0 says.1
 
@@ -70,10 +72,10 @@ returns-clause-runs g c o xs before start feed seen reader few run reading =
     let says = (c.in_default.ensures).says o xs x does.1 does.0.session does.0.answer_is
     (answer_fits (E.sessions e0) c.args.session c.args.call.now a x.outcome.deed (asked_of (E.sessions e0) c.args.session c.args.call.now fits) does.0.asked_is does.0.answer_is (omega arith) (c.in-Ok.ensures).fits) in
     let line_on = c.finish_line.ensures.runs o x xs says.1 (does.0.session, does.0.answer_is) in
-    line_step c.laws.ensures (E.sessions e0) (E.group e0) o xs before (suc before) refl start feed seen reader (E.memory e0) (held c.args.sink.now) (D.story (E.disk e0)) c.told.ensures.lawful (E.in_run e3 o)
+    line_step c.laws.ensures (E.sessions e0) (E.group e0) o xs before (suc before) refl start feed seen reader (E.memory e0) (held c.args.sink.now) (D.story (E.disk e0)) c.told.ensures.lawful (Standing (E.in_run e3 o) (events_in c.finish_line.new.events.view))
     c.args.session c.args.call.now fits (D.story (E.disk e1)) reading a (E.memory e1) (E.memory e2) does.0 few (held c.put_answer.new.sink) (D.story (E.disk e2)) c.put_answer.ensures.same.0
     says.0 c.finish_line.result c.finish_line.ensures.stops (E.memory e3) (held c.finish_line.new.sink) (D.story (E.disk e3))
-    (subst (λ (n : ℕ). LineRuns (E.in_run e3 o) c.finish_line.result n o (x ∷ xs) (E.memory e2) (E.memory e3) (held c.put_answer.new.sink) (held c.finish_line.new.sink) (D.story (E.disk e2)) (D.story (E.disk e3)))
+    (subst (λ (n : ℕ). LineRuns (Standing (E.in_run e3 o) (events_in c.finish_line.new.events.view)) c.finish_line.result n o (x ∷ xs) (E.memory e2) (E.memory e3) (held c.put_answer.new.sink) (held c.finish_line.new.sink) (D.story (E.disk e2)) (D.story (E.disk e3)))
     (c.put_answer.ensures.sizes.1 ∙ c.call_engine.ensures.sizes.1) line_on)
 
 pub returns-clause-cause_write_fault : goal.returns-clause-cause_write_fault

@@ -6,6 +6,8 @@ use Rattle.script_run.specs.declared.stop.Stop.TheVariants.{DiskFault, WriteFaul
 use Rattle.script_run.proofs.FitLemmas.{behind_pair, fewer_pairs}
 use Rattle.script_run.proofs.StepLemmas.{answered_then, answers_then, behind_any, first_answer, line_then, stopped_line}
 use Rattle.script_run.proofs.StopLemmas.{ok_no_err}
+use Rattle.engine_front.specs.Fronts.{events_in}
+use Rattle.script_run.specs.Runs.{Standing}
 use Rattle.script_run.proofs.run.finish_line.Goals as goal
 
 pub pairs-init : goal.pairs-init
@@ -13,7 +15,7 @@ pairs-init g c =
     let E = g.E.Calls in
     let e0 = c.args.engine.now in
     record {
-      runs = λ o y earlier run newest. first_answer c.laws.ensures (E.group e0) o y earlier (E.memory e0) (g.K.Sink.held c.args.sink.now) (g.D.Disk.story (E.disk e0)) c.told.ensures.lawful (E.in_run e0 o) run c.args.session c.args.answer newest;
+      runs = λ o y earlier run newest. first_answer c.laws.ensures (E.group e0) o y earlier (E.memory e0) (g.K.Sink.held c.args.sink.now) (g.D.Disk.story (E.disk e0)) c.told.ensures.lawful (Standing (E.in_run e0 o) (events_in c.args.events.now.view)) run c.args.session c.args.answer newest;
       works = c.requires.works;
       next = c.requires.next;
       sessions = refl;
@@ -44,10 +46,10 @@ pairs-preserved g c =
       runs = λ o y earlier run newest.
           let r = was.runs o y earlier run newest in
           let P : List Done → Type 0 = λ ws. E.in_run e1 o ws (durables o (moments ws)) → IsNewest c.args.session c.pairs.newest ws
-          → AnsweredTo (E.in_run e2 o) c.args.session a (E.group e0) o ws (E.memory e1) (E.memory e2) (held c.pairs.sink) (held c.scan_on.new.sink) (D.story (E.disk e1)) (D.story (E.disk e2)) in
+          → AnsweredTo (Standing (E.in_run e2 o) (events_in c.scan_on.new.events.view)) c.args.session a (E.group e0) o ws (E.memory e1) (E.memory e2) (held c.pairs.sink) (held c.scan_on.new.sink) (D.story (E.disk e1)) (D.story (E.disk e2)) in
           answered_then c.laws.ensures (E.group e0) o (y ∷ earlier) (E.memory e0) (E.memory e1) (E.memory e2) (held c.args.sink.now) (held c.pairs.sink) (held c.scan_on.new.sink) (D.story (E.disk e0)) (D.story (E.disk e1)) (D.story (E.disk e2))
-          (E.in_run e1 o) (E.in_run e2 o) r.run c.args.session a
-          (behind_any P (λ z zs stands is. subst (λ (n : ℕ). AnsweredTo (E.in_run e2 o) c.args.session a n o (z ∷ zs) (E.memory e1) (E.memory e2) (held c.pairs.sink) (held c.scan_on.new.sink) (D.story (E.disk e1)) (D.story (E.disk e2))) was.group
+          (Standing (E.in_run e1 o) (events_in c.pairs.events.view)) (Standing (E.in_run e2 o) (events_in c.scan_on.new.events.view)) r.run c.args.session a
+          (behind_any P (λ z zs stands is. subst (λ (n : ℕ). AnsweredTo (Standing (E.in_run e2 o) (events_in c.scan_on.new.events.view)) c.args.session a n o (z ∷ zs) (E.memory e1) (E.memory e2) (held c.pairs.sink) (held c.scan_on.new.sink) (D.story (E.disk e1)) (D.story (E.disk e2))) was.group
           (step.runs o z zs stands is.0)) r.run.newer y earlier r.run.stands r.newest);
       works = step.works;
       next = step.next;
@@ -76,11 +78,11 @@ returns-in-Err-clause-runs g c o y earlier run newest =
     let stop = c.in-Err.stop in
     let r = was.runs o y earlier run newest in
     let P : List Done → Type 0 = λ ws. E.in_run e1 o ws (durables o (moments ws)) → IsNewest c.args.session c.pairs.newest ws
-    → AnswersRun (E.in_run e2 o) (Some stop) (E.group e0) o ws (E.memory e1) (E.memory e2) (held c.pairs.sink) (held c.scan_on.new.sink) (D.story (E.disk e1)) (D.story (E.disk e2)) in
-    stopped_line (E.in_run e2 o) stop (E.group e0) o (y ∷ earlier) (E.memory e0) (E.memory e2) (held c.args.sink.now) (held c.scan_on.new.sink) (D.story (E.disk e0)) (D.story (E.disk e2))
+    → AnswersRun (Standing (E.in_run e2 o) (events_in c.scan_on.new.events.view)) (Some stop) (E.group e0) o ws (E.memory e1) (E.memory e2) (held c.pairs.sink) (held c.scan_on.new.sink) (D.story (E.disk e1)) (D.story (E.disk e2)) in
+    stopped_line (Standing (E.in_run e2 o) (events_in c.scan_on.new.events.view)) stop (E.group e0) o (y ∷ earlier) (E.memory e0) (E.memory e2) (held c.args.sink.now) (held c.scan_on.new.sink) (D.story (E.disk e0)) (D.story (E.disk e2))
     (answers_then c.laws.ensures (E.group e0) o (y ∷ earlier) (E.memory e0) (E.memory e1) (E.memory e2) (held c.args.sink.now) (held c.pairs.sink) (held c.scan_on.new.sink) (D.story (E.disk e0)) (D.story (E.disk e1)) (D.story (E.disk e2))
-    (E.in_run e1 o) (E.in_run e2 o) r.run (Some stop)
-    (behind_any P (λ z zs stands is. subst (λ (n : ℕ). AnswersRun (E.in_run e2 o) (Some stop) n o (z ∷ zs) (E.memory e1) (E.memory e2) (held c.pairs.sink) (held c.scan_on.new.sink) (D.story (E.disk e1)) (D.story (E.disk e2))) was.group
+    (Standing (E.in_run e1 o) (events_in c.pairs.events.view)) (Standing (E.in_run e2 o) (events_in c.scan_on.new.events.view)) r.run (Some stop)
+    (behind_any P (λ z zs stands is. subst (λ (n : ℕ). AnswersRun (Standing (E.in_run e2 o) (events_in c.scan_on.new.events.view)) (Some stop) n o (z ∷ zs) (E.memory e1) (E.memory e2) (held c.pairs.sink) (held c.scan_on.new.sink) (D.story (E.disk e1)) (D.story (E.disk e2))) was.group
     ((c.in-Err.ensures).ends o z zs stands is.0)) r.run.newer y earlier r.run.stands r.newest))
 
 pub returns-then-not-is_pair-clause-runs : goal.returns-then-not-is_pair-clause-runs
@@ -95,8 +97,8 @@ returns-then-not-is_pair-clause-runs g c o y earlier run newest =
     let stop = c.end_line.result in
     let r = was.runs o y earlier run newest in
     let P : List Done → Type 0 = λ ws. E.in_run e1 o ws (durables o (moments ws)) → IsNewest c.args.session c.pairs.newest ws
-    → LineRuns (E.in_run e2 o) stop (E.group e0) o ws (E.memory e1) (E.memory e2) (held c.pairs.sink) (held c.end_line.new.sink) (D.story (E.disk e1)) (D.story (E.disk e2)) in
+    → LineRuns (Standing (E.in_run e2 o) (events_in c.end_line.new.events.view)) stop (E.group e0) o ws (E.memory e1) (E.memory e2) (held c.pairs.sink) (held c.end_line.new.sink) (D.story (E.disk e1)) (D.story (E.disk e2)) in
     line_then c.laws.ensures (E.group e0) o (y ∷ earlier) (E.memory e0) (E.memory e1) (E.memory e2) (held c.args.sink.now) (held c.pairs.sink) (held c.end_line.new.sink) (D.story (E.disk e0)) (D.story (E.disk e1)) (D.story (E.disk e2))
-    (E.in_run e1 o) (E.in_run e2 o) r.run stop
-    (behind_any P (λ z zs stands is. subst (λ (n : ℕ). LineRuns (E.in_run e2 o) stop n o (z ∷ zs) (E.memory e1) (E.memory e2) (held c.pairs.sink) (held c.end_line.new.sink) (D.story (E.disk e1)) (D.story (E.disk e2))) was.group
+    (Standing (E.in_run e1 o) (events_in c.pairs.events.view)) (Standing (E.in_run e2 o) (events_in c.end_line.new.events.view)) r.run stop
+    (behind_any P (λ z zs stands is. subst (λ (n : ℕ). LineRuns (Standing (E.in_run e2 o) (events_in c.end_line.new.events.view)) stop n o (z ∷ zs) (E.memory e1) (E.memory e2) (held c.pairs.sink) (held c.end_line.new.sink) (D.story (E.disk e1)) (D.story (E.disk e2))) was.group
     (c.end_line.ensures.runs o z zs stands is)) r.run.newer y earlier r.run.stands r.newest)

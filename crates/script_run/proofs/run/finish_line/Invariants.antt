@@ -4,6 +4,8 @@ use Rattle.call_parts.specs.core_calls.Durables.{durables, moments}
 use Rattle.call_parts.specs.core_calls.Fronts.{Done}
 use Rattle.engine_front.specs.Turns.{behind_answer, behind_durables}
 use Rattle.script_run.specs.Inside.{AnsweredTo, IsNewest, is_pair}
+use Rattle.engine_front.specs.Fronts.{events_in}
+use Rattle.script_run.specs.Runs.{Standing}
 use Rattle.script_run.proofs.run.finish_line.Given as goal
 
 abbrev pub invariant-pairs : goal.invariant-pairs
@@ -13,7 +15,7 @@ invariant-pairs g l =
     let K = g.K.Sink in
     record {
       runs : (o : Opening) (y : Done) (earlier : List Done) → E.in_run l.fn.engine o (y ∷ earlier) (durables o (moments (y ∷ earlier))) → IsNewest l.fn.session l.fn.answer (y ∷ earlier)
-          → AnsweredTo (E.in_run l.engine o) l.fn.session l.newest (E.group l.fn.engine) o (y ∷ earlier) (E.memory l.fn.engine) (E.memory l.engine) (K.held l.fn.sink) (K.held l.sink) (D.story (E.disk l.fn.engine)) (D.story (E.disk l.engine));
+          → AnsweredTo (Standing (E.in_run l.engine o) (events_in l.events.view)) l.fn.session l.newest (E.group l.fn.engine) o (y ∷ earlier) (E.memory l.fn.engine) (E.memory l.engine) (K.held l.fn.sink) (K.held l.sink) (D.story (E.disk l.fn.engine)) (D.story (E.disk l.engine));
       works : E.works l.engine ≡ true;
       next : E.next l.engine ≡ behind_durables (behind_answer l.newest);
       sessions : E.sessions l.engine ≡ E.sessions l.fn.engine;

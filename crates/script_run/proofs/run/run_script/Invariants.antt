@@ -6,6 +6,8 @@ use Rattle.engine_front.specs.declared.calls.Next.TheVariants.{Line}
 use Rattle.lean_edge.specs.Outside.{Feed}
 use Rattle.script_lang.specs.Reading.{Reading}
 use Rattle.script_run.specs.Inside.{Stepped}
+use Rattle.engine_front.specs.Fronts.{events_in}
+use Rattle.script_run.specs.Runs.{Standing}
 use Rattle.script_run.proofs.run.run_script.Given as goal
 
 abbrev pub invariant-loop-number : goal.invariant-loop-number
@@ -14,7 +16,7 @@ invariant-loop-number g l =
     let D = g.D.Disk in
     record {
       runs : (o : Opening) (xs : List Done) (start : Feed) (seen : List ℕ) → E.in_run l.fn.engine o xs (durables o (moments xs)) → Reading start (g.S.Source.feed l.fn.source) l.fn.reader seen
-          → Stepped (E.in_run l.engine o) (l.number - 1) None (E.sessions l.fn.engine) (E.group l.fn.engine) o xs 0 start seen (E.memory l.fn.engine) (E.memory l.engine) l.reader (g.S.Source.feed l.source) (g.K.Sink.held l.fn.sink) (g.K.Sink.held l.sink) (D.story (E.disk l.fn.engine)) (D.story (E.disk l.engine));
+          → Stepped (Standing (E.in_run l.engine o) (events_in l.events.view)) (l.number - 1) None (E.sessions l.fn.engine) (E.group l.fn.engine) o xs 0 start seen (E.memory l.fn.engine) (E.memory l.engine) l.reader (g.S.Source.feed l.source) (g.K.Sink.held l.fn.sink) (g.K.Sink.held l.sink) (D.story (E.disk l.fn.engine)) (D.story (E.disk l.engine));
       works : E.works l.engine ≡ true;
       next : E.next l.engine ≡ Line;
       sessions : E.sessions l.engine ≡ E.sessions l.fn.engine;

@@ -6,6 +6,8 @@ use Rattle.script_run.specs.declared.stop.Stop.TheVariants.{DiskFault, WriteFaul
 use Rattle.script_run.proofs.FitLemmas.{behind_pair, open_behind, pair_open, scan_fits}
 use Rattle.script_run.proofs.StepLemmas.{answered_to, further_answer, further_fault, scan_asked, scan_due}
 use Rattle.script_run.proofs.StopLemmas.{engine_runs, no_cause, ok_no_err, putting_no_err, putting_runs}
+use Rattle.engine_front.specs.Fronts.{events_in}
+use Rattle.script_run.specs.Runs.{Standing}
 use Rattle.script_run.proofs.run.scan_on.Goals as goal
 
 pub returns-in-Err-clause-ends : goal.returns-in-Err-clause-ends
@@ -15,8 +17,8 @@ returns-in-Err-clause-ends g c o y earlier run session =
     let e0 = c.args.engine.now in
     let e1 = c.scan_engine.new.engine in
     let told = c.told.ensures.told o (y ∷ earlier) (durables o (moments (y ∷ earlier))) run in
-    further_fault c.laws.ensures (E.group e0) o y earlier (E.memory e0) (g.K.Sink.held c.args.sink.now) (D.story (E.disk e0)) c.told.ensures.lawful (E.in_run e1 o) (record { session = y.outcome.session; call = asked y.outcome.deed })
-    (scan_due (E.next e0) y earlier c.requires.next told.1) (D.story (E.disk e1)) c.in-Err.stop (E.memory e1) (c.in-Err.ensures).stops ((c.in-Err.ensures).fails o y earlier (durables o (moments (y ∷ earlier))) run)
+    further_fault c.laws.ensures (E.group e0) o y earlier (E.memory e0) (g.K.Sink.held c.args.sink.now) (D.story (E.disk e0)) c.told.ensures.lawful (Standing (E.in_run e1 o) (events_in c.scan_engine.new.events.view)) (record { session = y.outcome.session; call = asked y.outcome.deed })
+    (scan_due (E.next e0) y earlier c.requires.next told.1) (D.story (E.disk e1)) c.in-Err.stop (E.memory e1) (c.in-Err.ensures).stops ((c.in-Err.ensures).fails o y earlier (durables o (moments (y ∷ earlier))) run) ((c.in-Err.ensures).stood o (y ∷ earlier) (durables o (moments (y ∷ earlier))) run)
 
 pub returns-in-Err-clause-stops : goal.returns-in-Err-clause-stops
 returns-in-Err-clause-stops g c = engine_runs c.in-Err.stop (c.in-Err.ensures).stops
@@ -35,7 +37,7 @@ returns-in-Some-clause-ends g c o y earlier run session =
     let x = does.0.done in
     let fits = scan_fits c.args.session scan.0 scan.1 a x.outcome.deed (does.0.asked_is ∙ scan.2) does.0.answer_is (omega arith) (c.in-Ok.ensures).fits in
     let says = (c.in-Some.ensures).says o (y ∷ earlier) x does.1 (does.0.session ∙ session) does.0.answer_is fits in
-    further_answer c.laws.ensures (E.group e0) o y earlier (E.memory e0) (g.K.Sink.held c.args.sink.now) (D.story (E.disk e0)) c.told.ensures.lawful (E.in_run e2 o) (record { session = y.outcome.session; call = asked y.outcome.deed })
+    further_answer c.laws.ensures (E.group e0) o y earlier (E.memory e0) (g.K.Sink.held c.args.sink.now) (D.story (E.disk e0)) c.told.ensures.lawful (Standing (E.in_run e2 o) (events_in c.scan_engine.new.events.view)) (record { session = y.outcome.session; call = asked y.outcome.deed })
     (scan_due (E.next e0) y earlier c.requires.next told.1) (D.story (E.disk e1)) y.outcome.session a (E.memory e1) (E.memory e2) does.0 (g.K.Sink.held c.put_answer.new.sink) (D.story (E.disk e2)) c.put_answer.ensures.same.0
     (Some c.in-Some.stop) (c.in-Some.ensures).stops says.0 says.1
 
@@ -63,7 +65,7 @@ returns-clause-runs g c o y earlier run session =
     let x = does.0.done in
     let fits = scan_fits c.args.session scan.0 scan.1 a x.outcome.deed (does.0.asked_is ∙ scan.2) does.0.answer_is (omega arith) (c.in-Ok.ensures).fits in
     let says = (c.in_default.ensures).says o (y ∷ earlier) x does.1 (does.0.session ∙ session) does.0.answer_is fits in
-    answered_to c.laws.ensures (E.group e0) o y earlier (E.memory e0) (g.K.Sink.held c.args.sink.now) (D.story (E.disk e0)) c.told.ensures.lawful (E.in_run e2 o) (record { session = y.outcome.session; call = asked y.outcome.deed })
+    answered_to c.laws.ensures (E.group e0) o y earlier (E.memory e0) (g.K.Sink.held c.args.sink.now) (D.story (E.disk e0)) c.told.ensures.lawful (Standing (E.in_run e2 o) (events_in c.scan_engine.new.events.view)) (record { session = y.outcome.session; call = asked y.outcome.deed })
     (scan_due (E.next e0) y earlier c.requires.next told.1) (D.story (E.disk e1)) y.outcome.session a (E.memory e1) (E.memory e2) does.0 (g.K.Sink.held c.put_answer.new.sink) (D.story (E.disk e2)) c.put_answer.ensures.same.0
     says.0 says.1 c.args.session (does.0.session ∙ session)
 

@@ -1,5 +1,6 @@
-use Rattle.std.proofs.Common.{◌≡◌, ◌<◌, ◌-◌, ◌^◌, ℕ, Some, refl, subst, arith}
-use Rattle.script_run.specs.Runs.{ReadsTo}
+use Rattle.std.proofs.Common.{◌<◌, ◌-◌, ◌^◌, ℕ, Some, refl, subst, arith}
+use Rattle.engine_front.specs.Fronts.{events_in}
+use Rattle.script_run.specs.Runs.{ReadsTo, Standing}
 use Rattle.script_run.specs.declared.stop.Stop.TheVariants.{ReadFault}
 use Rattle.transcripts.specs.Told.{LineFits}
 use Rattle.script_run.proofs.StepLemmas.{no_step}
@@ -12,7 +13,7 @@ returns-in-Err-clause-runs g c o xs start seen run was =
     let D = g.D.Disk in
     let e0 = c.args.engine.now in
     let feed = g.S.Source.feed c.next_call.new.source in
-    no_step c.laws.ensures (E.sessions e0) (E.group e0) o xs (c.args.number - 1) c.args.number (omega arith) start feed seen c.next_call.new.reader (E.memory e0) (g.K.Sink.held c.args.sink.now) (D.story (E.disk e0)) c.told.ensures.lawful (E.in_run e0 o)
+    no_step c.laws.ensures (E.sessions e0) (E.group e0) o xs (c.args.number - 1) c.args.number (omega arith) start feed seen c.next_call.new.reader (E.memory e0) (g.K.Sink.held c.args.sink.now) (D.story (E.disk e0)) c.told.ensures.lawful (Standing (E.in_run e0 o) (events_in c.args.events.now.view))
     c.in-Err.stop (omega arith) (c.in-Err.ensures).stop run
     (λ newer hand. subst (λ (n : ℕ). ReadsTo (Some c.in-Err.stop) n newer hand c.args.number start feed c.next_call.new.reader seen) c.session_count.ensures.count ((c.in-Err.ensures).read start seen was newer hand))
 
