@@ -1,0 +1,6 @@
+mod TallyLemmas
+mod PlanLemmas
+mod FollowLemmas
+mod GoLemmas
+mod MadeLemmas
+mod StopLemmas
