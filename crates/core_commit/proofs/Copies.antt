@@ -10,6 +10,7 @@ use Rattle.core_commit.proofs.Invariants.{Inv, stamp_flushed}
 use Rattle.core_commit.proofs.Events.{touch_has, touched_all}
 use Rattle.std.proofs.Common.{◌≡◌, ◌<◌, ◌≤◌, ℕ, suc, Bool, true, false, cond, List, [], ◌∷◌, refl, sym, ap, ◌∙◌, subst, inl, inr, arith, true≢false}
 use Rattle.std.proofs.lemmas.Bool.{cases_eq, cases_Bool, and_parts, cond-false}
+pub use Rattle.core_commit.specs.Invariants.{Copied}
 
 -- P of an update, from P at the place and P elsewhere
 pub at_place : {A : Type 0} (P : ℕ → A → Type 0) (f : ℕ → A) (i : ℕ) (a : A) (j : ℕ) → (j ≡ i → P j a) → ((j ≡ i → ⊥) → P j (f j)) → P j (upd f i a j)
@@ -17,11 +18,6 @@ at_place P f i a j h k = elim (cases_eq j i) [
   | inl e ↦ subst (λ x. P j x) (sym (upd_same f i a j e)) (h e)
   | inr n ↦ subst (λ x. P j x) (sym (upd_other f i a j n)) (k n)
 ]
-
-pub record Copied (page saved : ℕ → Contents) (place : ℕ → Place) : Type 0 where
-  pub cold : (p : ℕ) → is_cold (place p) ≡ true → page p ≡ saved p
-  pub clean : (p : ℕ) → (page p).gsn ≤ (saved p).gsn → page p ≡ saved p
-  pub behind : (p : ℕ) → (saved p).gsn ≤ (page p).gsn
 
 pub hot_not_cold : (x : Place) → is_hot x ≡ true → is_cold x ≡ false
 hot_not_cold (Place.Hot f) h = refl

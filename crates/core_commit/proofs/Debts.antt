@@ -11,7 +11,7 @@ use Rattle.core_state.specs.Openings.{Opening}
 use Rattle.core_state.specs.Events.{Event}
 use Rattle.core_state.specs.Needs.{are_hot, pages_of, is_worker, holds_row, may_put_back, may, needs}
 use Rattle.core_state.specs.Steps.{at_pages, at_row, begun, finished, write_entry, moves, put_back, follows, happens, step, run}
-use Rattle.core_commit.specs.Debts.{Stamp, IsBy, stamps_of, touched, IsRemoteTouch, Touched, EveryNeed, Ended, Knows, EveryDebt}
+use Rattle.core_commit.specs.Debts.{Stamp, IsBy, stamps_of, touched, IsRemoteTouch, Touched, EveryNeed, Ended, Knows, Debt, EveryDebt}
 use Rattle.core_commit.proofs.KindFacts.{write_claims}
 use Rattle.core_commit.proofs.Lists.{Before, has_before, before_has, each_at}
 use Rattle.core_commit.proofs.History.{EndOf, Recorded, PagesCovered, Covered, compare, same_from, page_at, number_le_gsn}
@@ -28,7 +28,7 @@ pub record Owes (P : ℕ → Type 0) (floor debt : ℕ) : Type 0 where
   pub most : (n : ℕ) → P n → n ≤ max debt floor
   pub one : (debt ≡ 0) ⊎ P debt
 
-abbrev AllOwe : (ℕ → ℕ → Type 0) → (ℕ → Worker) → Type 0
+abbrev pub AllOwe : (ℕ → ℕ → Type 0) → (ℕ → Worker) → Type 0
 AllOwe P worker = (w : ℕ) → Owes (P w) (worker w).floor (worker w).debt
 
 owes_more : (P Q : ℕ → Type 0) (floor debt : ℕ) → ((n : ℕ) → P n → Q n) → ((n : ℕ) → Q n → P n) → Owes P floor debt → Owes Q floor debt
@@ -177,7 +177,7 @@ owe_step P g s e k = go (may g s e) refl
     go true m = owe_event P g s e m (and_parts (are_hot s (pages_of e)) (needs g s e) m).1 k
     go false m = λ w. owes_more (P w) (λ n. P w n ⊎ IsRemoteTouch g s e w n) (s.worker w).floor (s.worker w).debt (λ n p. inl p) (λ n q. elim q [ inl p ↦ p | inr z ↦ absurd (true≢false (sym z.may ∙ m)) ]) (k w)
 
-owe_run : (P : ℕ → ℕ → Type 0) (g : Opening) (es : List Event) (s : State) → AllOwe P s.worker → AllOwe (λ w n. P w n ⊎ Touched g s es w n) (run g s es).worker
+pub owe_run : (P : ℕ → ℕ → Type 0) (g : Opening) (es : List Event) (s : State) → AllOwe P s.worker → AllOwe (λ w n. P w n ⊎ Touched g s es w n) (run g s es).worker
 owe_run P g [] s k = λ w. owes_more (P w) (λ n. P w n ⊎ ⊥) (s.worker w).floor (s.worker w).debt (λ n p. inl p) (λ n q. elim q [ inl p ↦ p | inr z ↦ absurd z ]) (k w)
 owe_run P g (e ∷ es) s k = λ w. owes_more (λ n. (P w n ⊎ IsRemoteTouch g s e w n) ⊎ Touched g (step g s e) es w n) (λ n. P w n ⊎ Touched g s (e ∷ es) w n) ((run g (step g s e) es).worker w).floor ((run g (step g s e) es).worker w).debt
     (λ n q. elim q [ inl a ↦ elim a [ inl p ↦ inl p | inr t ↦ inr (inl t) ] | inr t ↦ inr (inr t) ])
@@ -222,15 +222,9 @@ every_need g es w commit f m = (least_of, greatest)
 abbrev ended_of : (s : State) (y : Entry) → EndOf s.entries y → Ended s y
 ended_of s y d = record { end = d.end; has = d.stands; is_end = d.is_end; same = same_from d.end y d.same }
 
-pub every_debt : EveryDebt
-every_debt g es w = record { pages = pages; rows = rows; floor = o.floor; debt = o.debt }
+pub debt_in : (g : Opening) (s : State) → Inv g s → (w : ℕ) → Debt g s w
+debt_in g s i w = record { pages = pages; rows = rows; floor = o.floor; debt = o.debt }
   where
-    s : State
-    s = run g (start g) es
-
-    i : Inv g s
-    i = (good_run g es (start g) (good_start g)).inv
-
     F : ℕ
     F = flushed_by_all g s
 
@@ -257,3 +251,6 @@ every_debt g es w = record { pages = pages; rows = rows; floor = o.floor; debt =
 
     rows : (j : ℕ) → holds_row (s.row j) w ≡ true → (y : Entry) → Has y s.entries → is_write y.kind ≡ true → g.row_of y.key ≡ j → (y.log ≡ w) ⊎ ((d : Ended s y) × Knows g s w d.end)
     rows j h y iy ky row = elim ((i.rows j).touched w (holds_to (s.row j) w h) y iy (write_claims y ky) row) [ inl e ↦ inl e | inr d ↦ inr (ended_of s y d.0, d.2) ]
+
+pub every_debt : EveryDebt
+every_debt g es w = debt_in g (run g (start g) es) (good_run g es (start g) (good_start g)).inv w

@@ -1,25 +1,17 @@
 -- What holds of the entries of a run, and which records a crash cannot part.
-use Rattle.page_model.specs.Pairs as pairs
-use Rattle.std.proofs.Common.{◌≡◌, ℕ, ◌≤◌, ◌<◌, max, Bool, true, false, cond, ◌&&◌, ◌||◌, if◌then◌else◌, not, ◌==◌, List, [], ◌∷◌, ◌⊎◌, refl, sym, ap, ◌∙◌, subst, inl, inr, arith}
+use Rattle.std.proofs.Common.{◌≡◌, ℕ, ◌≤◌, Bool, true, false, cond, if◌then◌else◌, ◌==◌, List, [], ◌∷◌, ◌⊎◌, refl, sym, ap, ◌∙◌, subst, inl, inr, arith}
 use Rattle.std.proofs.lemmas.Bool.{cases_Bool, cond-true, cond-false, eq-eqb, eqb-true, and_parts, and_from}
-use Rattle.core_state.specs.image_model.Entries.{is_purge, Entry, is_call, is_write, is_end, is_commit, is_record, same_txn, touches, applied_as, Contents, written}
+use Rattle.core_state.specs.image_model.Entries.{Entry, same_txn, touches, applied_as, Contents, written}
 use Rattle.map_model.specs.Lists.{Has}
 use Rattle.page_model.specs.Records.{Ref}
-use Rattle.core_state.specs.Steps.{claims}
-use Rattle.core_state.specs.Openings.{Opening, start_page, first}
+use Rattle.core_state.specs.Openings.{Opening, first}
 use Rattle.page_model.specs.Nodes.{Node}
 use Rattle.page_model.specs.Tree.{lookup, IsTree}
-use Rattle.core_commit.proofs.Lists.{Within, Each, each_map, Before, pick, any_is}
+use Rattle.core_commit.proofs.Lists.{Each, each_map, Before, pick, any_is}
 use Rattle.map_model.proofs.ListLemmas.{any_has, has_any}
 use Rattle.core_commit.proofs.Nodes.{on_key, Fits, moved_on, fits_parted, fits_on, fits_off}
 use mathlib.Core.Path.{fun_ext}
-
--- what a call answered: a write the word before it, a read the word
-abbrev pub answer : Entry → ℕ
-answer r = if is_write r.kind then r.before else r.after
-
-abbrev pub SameTxn : Entry → Entry → Type 0
-SameTxn a b = (a.log ≡ b.log) × (a.txn ≡ b.txn)
+pub use Rattle.core_commit.specs.Past.{answer, SameTxn, page_at, nodes, history_value, not_by, without, Covered, PagesCovered, EndOf, Closes, Recorded, IsRecorded, Entered, IsHistory, HasStamp}
 
 pub same_from : (a b : Entry) → SameTxn a b → same_txn a b ≡ true
 same_from a b h = and_from (a.log == b.log) (a.txn == b.txn) (eq-eqb a.log b.log h.0) (eq-eqb a.txn b.txn h.1)
@@ -27,81 +19,8 @@ same_from a b h = and_from (a.log == b.log) (a.txn == b.txn) (eq-eqb a.log b.log
 pub same_to : (a b : Entry) → same_txn a b ≡ true → SameTxn a b
 same_to a b h = let p = and_parts (a.log == b.log) (a.txn == b.txn) h in (eqb-true a.log b.log p.0, eqb-true a.txn b.txn p.1)
 
--- the page after these entries, the newest first
-abbrev pub page_at : Opening → List Entry → ℕ → Contents
-page_at g [] p = start_page g p
-page_at g (r ∷ h) p = if touches p r then written r p (page_at g h p) else page_at g h p
-
-abbrev pub nodes : (ℕ → Contents) → ℕ → Node
-nodes page p = (page p).node
-
-abbrev pub history_value : Opening → ℕ → List Entry → ℕ
-history_value g k h = lookup g.format (nodes (page_at g h)) k
-
--- the key's value but for the writes of e's transaction
-abbrev pub not_by : Entry → ℕ → Entry → List Entry → Bool
-not_by e k r b = on_key k r && not (same_txn r e)
-
-abbrev pub without : Opening → Entry → ℕ → List Entry → ℕ
-without g e k h = pick (not_by e k) (λ r b. r.after) (first g k) h
-
--- what worker w knows to outlast a crash: what stands in its own log, or has a number up to x
-abbrev pub Covered : ℕ → ℕ → Entry → Type 0
-Covered w x r = (r.log ≡ w) ⊎ (r.number ≤ x)
-
--- every record of a page before a record of it in log w
-abbrev pub PagesCovered : ℕ → ℕ → List Entry → Type 0
-PagesCovered w x h = Each (λ r b. r.log ≡ w → (p : ℕ) → touches p r ≡ true → (y : Entry) → Has y b → touches p y ≡ true → Covered w x y) h
-
--- an end of y's transaction
-pub record EndOf (h : List Entry) (y : Entry) : Type 0 where
-  pub end : Entry
-  pub stands : Has end h
-  pub is_end : is_end end.kind ≡ true
-  pub same : SameTxn end y
-
--- of the end e behind which b stands
-pub record Closes (g : Opening) (F : ℕ) (e : Entry) (b : List Entry) : Type 0 where
-  pub pages : PagesCovered e.log (max e.need F) b
-  pub rows : (r : Entry) → Has r b → SameTxn r e → is_call r.kind ≡ true → (y : Entry) → Has y b → claims y ≡ true → g.row_of y.key ≡ g.row_of r.key →
-      SameTxn y e ⊎ ((d : EndOf b y) × Covered e.log (max e.need F) d.end × (d.end.number < e.number))
-  pub order : (r : Entry) → Has r b → SameTxn r e → claims r ≡ true → (y : Entry) → Has y b → is_call y.kind ≡ true → g.row_of y.key ≡ g.row_of r.key →
-      SameTxn y e ⊎ ((d : EndOf b y) × (d.end.number < e.number))
-  pub ends : (d : Entry) → Has d b → is_end d.kind ≡ true → d.log ≡ e.log → d.need ≤ max e.need F
-  pub need : e.need < e.number
-
--- of the entry r behind which b stands, but for what pages contain
-pub record Recorded (g : Opening) (F : ℕ) (r : Entry) (b : List Entry) : Type 0 where
-  pub log : Within g.workers r.log
-  pub later : is_record r.kind ≡ true → (y : Entry) → Has y b → y.log ≡ r.log → y.number < r.number
-  pub logged : (p : ℕ) → touches p r ≡ true → is_record r.kind ≡ true
-  pub prev : (f : Ref) → Has f r.refs → f.prev ≡ (page_at g b f.page).gsn
-  pub rises : (p : ℕ) → touches p r ≡ true → (page_at g b p).gsn < r.number
-  pub still_open : (d : Entry) → Has d b → is_end d.kind ≡ true → SameTxn d r → ⊥
-  pub locked : is_write r.kind ≡ true → (y : Entry) → Has y b → is_write y.kind ≡ true → g.row_of y.key ≡ g.row_of r.key → SameTxn y r ⊎ ((d : EndOf b y) × (d.end.number < r.number))
-  pub guarded : is_call r.kind ≡ true → (y : Entry) → Has y b → is_call y.kind ≡ true → (is_write r.kind || is_write y.kind) ≡ true → g.row_of y.key ≡ g.row_of r.key → SameTxn y r ⊎ EndOf b y
-  pub closes : is_end r.kind ≡ true → Closes g F r b
-  pub purged : is_purge r.kind ≡ true → (k : ℕ) → pairs.is_in k r.record_of.keys ≡ true → (y : Entry) → Has y b → is_write y.kind ≡ true → y.key ≡ k → (d : EndOf b y) × (d.end.number ≤ F)
-
-abbrev pub IsRecorded : Opening → ℕ → List Entry → Type 0
-IsRecorded g F h = Each (Recorded g F) h
-
--- and what the start's pages contain after b
-pub record Entered (g : Opening) (F : ℕ) (r : Entry) (b : List Entry) : Type 0 where
-  pub recorded : Recorded g F r b
-  pub fits : Fits g.format (nodes (page_at g b)) r
-  pub answers : is_call r.kind ≡ true → answer r ≡ history_value g r.key b
-  pub aborts : is_end r.kind ≡ true → is_commit r.kind ≡ false → (k : ℕ) → history_value g k b ≡ without g r k b
-
-abbrev pub IsHistory : Opening → ℕ → List Entry → Type 0
-IsHistory g F h = Each (Entered g F) h
-
 pub records_of : (g : Opening) (F : ℕ) (h : List Entry) → IsHistory g F h → IsRecorded g F h
 records_of g F h hist = each_map (Entered g F) (Recorded g F) h (λ r b n. n.recorded) hist
-
--- the same number and log
-abbrev pub HasStamp : Contents → Contents → Type 0
-HasStamp v u = (v.gsn ≡ u.gsn) × (v.last ≡ u.last)
 
 -- an entry makes the same stamp of equal ones
 pub stamp_step : (r : Entry) (p : ℕ) (v u : Contents) → HasStamp v u → HasStamp (if touches p r then written r p v else v) (if touches p r then written r p u else u)

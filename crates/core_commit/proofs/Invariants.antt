@@ -1,41 +1,20 @@
 -- What every state of the core keeps, and how it lasts where a state grows.
-use Rattle.std.proofs.Common.{◌≡◌, ℕ, ◌≤◌, ◌<◌, max, Bool, true, false, cond, ◌&&◌, if◌then◌else◌, not, ltb, ◌==◌, List, [], ◌∷◌, ◌⊎◌, Some, refl, sym, ap, ◌∙◌, inl, inr, arith, true≢false}
+use Rattle.std.proofs.Common.{◌≡◌, ℕ, ◌≤◌, ◌<◌, max, Bool, true, false, cond, ◌&&◌, not, ltb, ◌==◌, List, [], ◌∷◌, ◌⊎◌, Some, refl, sym, ap, ◌∙◌, inl, inr, arith, true≢false}
 use Rattle.std.proofs.lemmas.Bool.{cases_Bool, cases_eq, cases_lt, ne_eqb, and_from, lt-ltb, and_left, cond-true, cond-false, not_from_false}
 use Rattle.map_model.specs.Lists.{upd, Has}
-use Rattle.core_state.specs.image_model.Entries.{Entry, touches, is_call, is_write, is_end, is_record, same_txn, written}
+use Rattle.core_state.specs.image_model.Entries.{Entry, touches, is_call, is_write, is_record, same_txn, written}
 use Rattle.rfa_model.specs.Stamps.{is_remote}
-use Rattle.core_state.specs.States.{Row, Worker, State, flushed_by_all, nodes_of}
+use Rattle.core_state.specs.States.{Row, Worker, State, flushed_by_all}
 use Rattle.core_state.specs.Openings.{Opening}
-use Rattle.core_state.specs.Steps.{claims, touch, end_entry}
-use Rattle.core_state.specs.image_model.Entries.Kind.{Commit}
+use Rattle.core_state.specs.Steps.{claims, touch}
 use Rattle.core_commit.proofs.KindFacts.{claims_call}
-use Rattle.core_commit.proofs.Lists.{Within, le_least, each_map}
+use Rattle.core_commit.proofs.Lists.{le_least, each_map}
 use Rattle.map_model.proofs.ListLemmas.{upd_same, upd_other, at_upd}
-use Rattle.core_commit.proofs.History.{Covered, PagesCovered, EndOf, Recorded, IsRecorded, Entered, IsHistory, HasStamp, page_at, page_hit, page_miss, number_le_gsn, nodes, history_value, history_on, history_off, not_by, without}
+use Rattle.core_commit.proofs.History.{Covered, PagesCovered, EndOf, Recorded, IsRecorded, Entered, IsHistory, page_at, page_hit, page_miss, number_le_gsn, nodes, history_on, history_off, not_by, without}
 use Rattle.core_commit.proofs.Nodes.{key_parts, on_key, Fits}
-use Rattle.page_model.specs.Tree.{IsTree}
+pub use Rattle.core_commit.specs.Invariants.{Holds, top_of, RowOk, marker, undone, values_of, WorkerOk, Undoes, bound, tops, CutsOk, IsTold, Inv}
 
 -- ## Rows
-
-abbrev pub Holds : Row → ℕ → Type 0
-Holds o w = (o.holder ≡ Some w) ⊎ Has w o.readers
-
--- the greatest number of an end that the worker knows of
-abbrev pub top_of : Worker → ℕ
-top_of a = if a.is_open then a.clock else a.end
-
--- Row i, where worker w has the bound X w on what is covered, and knows of ends up to T w.
-pub record RowOk (g : Opening) (X T : ℕ → ℕ) (h : List Entry) (i : ℕ) (o : Row) : Type 0 where
-  -- each write is the holder's, or is ended, and the stamp tells of it
-  pub writes : (y : Entry) → Has y h → claims y ≡ true → g.row_of y.key ≡ i → (o.holder ≡ Some y.log) ⊎ ((d : EndOf h y) × (d.end.number ≤ o.number) × Covered o.log (X o.log) d.end)
-  pub reads : (y : Entry) → Has y h → is_call y.kind ≡ true → g.row_of y.key ≡ i → Holds o y.log ⊎ ((d : EndOf h y) × (d.end.number ≤ max o.number o.read_end))
-  pub alone : (w v : ℕ) → o.holder ≡ Some w → Has v o.readers → v ≡ w
-  -- who holds the row has each write of others covered
-  pub touched : (w : ℕ) → Holds o w → (y : Entry) → Has y h → claims y ≡ true → g.row_of y.key ≡ i → (y.log ≡ w) ⊎ ((d : EndOf h y) × (d.end.number ≤ T w) × Covered w (X w) d.end)
-  pub sole : (w : ℕ) → o.holder ≡ Some w → (y : Entry) → Has y h → is_call y.kind ≡ true → g.row_of y.key ≡ i → (y.log ≡ w) ⊎ ((d : EndOf h y) × (d.end.number ≤ T w))
-  -- who holds it is a worker, and where nobody held it alone the stamp is none
-  pub known : (w : ℕ) → Holds o w → 0 < w
-  pub fresh : o.log ≡ 0 → o.number ≡ 0
 
 abbrev pub end_more : (h : List Entry) (y x : Entry) → EndOf h y → EndOf (x ∷ h) y
 end_more h y x d = record { end = d.end; stands = inr d.stands; is_end = d.is_end; same = d.same }
@@ -97,40 +76,6 @@ row_more g X T h i o x m r = record { writes = writes; reads = reads; alone = r.
     sole w hw y (inr s) k q = elim (r.sole w hw y s k q) [ inl e ↦ inl e | inr e ↦ inr (end_more h y x e.0, e.1) ]
 
 -- ## Workers
-
--- an end of the worker's transaction
-abbrev pub marker : ℕ → Worker → Entry
-marker w a = end_entry Commit w a 0
-
--- the values after the changes are put back, the newest first
-abbrev pub undone : List Entry → (ℕ → ℕ) → ℕ → ℕ
-undone [] m = m
-undone (c ∷ cs) m = undone cs (upd m c.key c.before)
-
-abbrev pub values_of : Opening → List Entry → ℕ → ℕ
-values_of g h k = history_value g k h
-
-pub record WorkerOk (g : Opening) (F base fl : ℕ) (h : List Entry) (row : ℕ → Row) (w : ℕ) (a : Worker) : Type 0 where
-  pub floor : a.floor ≤ F
-  pub debt : a.debt ≤ a.clock
-  pub end : a.end ≤ a.clock
-  pub flushed : fl ≤ a.clock
-  pub based : Within g.workers w → base ≤ fl
-  pub in_log : (fl ≤ base) ⊎ ((r : Entry) × Has r h × (is_record r.kind ≡ true) × (r.log ≡ w) × (r.number ≡ fl))
-  pub numbers : (r : Entry) → Has r h → r.log ≡ w → (r.number ≤ a.clock) × (r.txn ≤ a.txn)
-  pub ends : (e : Entry) → Has e h → is_end e.kind ≡ true → e.log ≡ w → (e.number ≤ a.end) × (e.need ≤ max a.debt F)
-  pub past : (r : Entry) → Has r h → r.log ≡ w → ((a.is_open ≡ true) × (r.txn ≡ a.txn)) ⊎ EndOf h r
-  pub unended : a.is_open ≡ true → (e : Entry) → Has e h → is_end e.kind ≡ true → e.log ≡ w → e.txn ≡ a.txn → ⊥
-  pub pages : PagesCovered w (max a.debt F) h
-  pub is_log : a.is_open ≡ true → Within g.workers w
-  pub used : a.is_open ≡ true → (r : Entry) → Has r h → is_call r.kind ≡ true → r.log ≡ w → r.txn ≡ a.txn → Holds (row (g.row_of r.key)) w × (claims r ≡ true → (row (g.row_of r.key)).holder ≡ Some w)
-  pub changes : a.is_open ≡ true → (c : Entry) → Has c a.changes → (row (g.row_of c.key)).holder ≡ Some w
-  -- what a listed change is put back to is a word that a leaf can have
-  pub words : a.is_open ≡ true → (c : Entry) → Has c a.changes → c.before ≤ g.format.dead
-
--- the open transaction's changes, put back, leave what the others wrote
-abbrev pub Undoes : Opening → List Entry → ℕ → Worker → Type 0
-Undoes g h w a = a.is_open ≡ true → (k : ℕ) → undone a.changes (values_of g h) k ≡ without g (marker w a) k h
 
 pub pages_more : (w x y : ℕ) (h : List Entry) → x ≤ y → PagesCovered w x h → PagesCovered w y h
 pages_more w x y h l p = each_map _ _ h (λ r b c lg q t z i u. covered_more w x y z l (c lg q t z i u)) p
@@ -212,41 +157,12 @@ undo_more g F h row w a x hist fit ne hx held undo op k = go (cases_Bool (on_key
 
 -- ## States
 
-abbrev pub bound : Opening → State → ℕ → ℕ
-bound g s w = max (s.worker w).debt (flushed_by_all g s)
-
-abbrev pub tops : State → ℕ → ℕ
-tops s w = top_of (s.worker w)
-
--- what is cut is of transactions that are ended in every crash
-pub record CutsOk (g : Opening) (F floor cut : ℕ) (head flushed : ℕ → ℕ) (h : List Entry) : Type 0 where
-  pub base : g.base ≤ floor
-  pub low : cut ≤ floor
-  pub heads : (w : ℕ) → head w ≤ cut
-  pub ripe : (r : Entry) → Has r h → is_record r.kind ≡ true → r.number ≤ cut → (e : EndOf h r) × (e.end.number ≤ flushed e.end.log) × (e.end.need ≤ F)
-
 pub cuts_more : (g : Opening) (F floor cut : ℕ) (head flushed : ℕ → ℕ) (h : List Entry) (x : Entry) → (is_record x.kind ≡ true → cut < x.number) → CutsOk g F floor cut head flushed h → CutsOk g F floor cut head flushed (x ∷ h)
 cuts_more g F floor cut head flushed h x n o = record { base = o.base; low = o.low; heads = o.heads; ripe = ripe }
   where
     ripe : (r : Entry) → Has r (x ∷ h) → is_record r.kind ≡ true → r.number ≤ cut → (e : EndOf (x ∷ h) r) × (e.end.number ≤ flushed e.end.log) × (e.end.need ≤ F)
     ripe r (inl e) k l = let lt = n (ap (λ (z : Entry). is_record z.kind) (sym e) ∙ k) in let q = ap (λ (z : Entry). z.number) e in absurd (omega arith)
     ripe r (inr i) k l = let q = o.ripe r i k l in (end_more h r x q.0, q.1, q.2)
-
--- what pages contain is what the entries make of the start's pages
-pub record IsTold (g : Opening) (s : State) : Type 0 where
-  pub history : IsHistory g (flushed_by_all g s) s.entries
-  pub pages : (p : ℕ) → s.page p ≡ page_at g s.entries p
-  pub undo : (w : ℕ) → Undoes g s.entries w (s.worker w)
-
--- all but `told` lasts whatever pages contain; what is told is so where the opening is faithful
-pub record Inv (g : Opening) (s : State) : Type 0 where
-  pub cuts : CutsOk g (flushed_by_all g s) s.floor s.cut s.head s.flushed s.entries
-  pub records : IsRecorded g (flushed_by_all g s) s.entries
-  pub stamps : (p : ℕ) → HasStamp (s.page p) (page_at g s.entries p)
-  pub tree : IsTree g.format (nodes_of s)
-  pub rows : (i : ℕ) → RowOk g (bound g s) (tops s) s.entries i (s.row i)
-  pub workers : (w : ℕ) → WorkerOk g (flushed_by_all g s) s.floor (s.flushed w) s.entries s.row w (s.worker w)
-  pub told : g.faithful ≡ true → IsTold g s
 
 -- one worker's part changes
 pub undo_at : (g : Opening) (h : List Entry) (worker : ℕ → Worker) (w : ℕ) (a : Worker) → ((j : ℕ) → Undoes g h j (worker j)) → Undoes g h w a → (j : ℕ) → Undoes g h j (upd worker w a j)

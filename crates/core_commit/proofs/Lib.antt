@@ -14,6 +14,8 @@ pub mod Says
 pub mod RiseLemmas
 pub mod FloorLemmas
 pub mod HolderLemmas
+pub mod KindLemmas
+pub mod KnownLemmas
 -- Passed on to the crates above.
 pub use Rattle.core_state.proofs as core_state
 pub use Rattle.core_state.proofs.image_model as image_model

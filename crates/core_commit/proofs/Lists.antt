@@ -1,16 +1,12 @@
 -- Facts on the lists of the definitions.
-use Rattle.std.proofs.Common.{◌≡◌, ℕ, zero, suc, ◌≤◌, ◌<◌, Bool, true, false, cond, ◌||◌, List, [], ◌∷◌, ◌⊎◌, refl, sym, ap, ◌∙◌, subst, inl, inr, arith, true≢false}
+use Rattle.std.proofs.Common.{◌≡◌, ℕ, zero, suc, ◌≤◌, ◌<◌, Bool, true, false, ◌||◌, List, [], ◌∷◌, ◌⊎◌, refl, sym, ap, ◌∙◌, subst, inl, inr, arith, true≢false}
 use Rattle.std.proofs.lemmas.Bool.{cases_Bool, cases_eq}
 use Rattle.page_model.specs.Records.{any as page_any}
 use Rattle.map_model.specs.Lists.{upd, any, Has}
 use Rattle.rfa_model.specs.Reaches.{least}
 use Rattle.map_model.proofs.ListLemmas.{upd_same, upd_other}
 use mathlib.Core.Path.{fun_ext}
-
--- each element, with those behind it, has P
-abbrev pub Each : {A : Type 0} → (A → List A → Type 0) → List A → Type 0
-Each P [] = Unit {0}
-Each P (x ∷ xs) = P x xs × Each P xs
+pub use Rattle.core_commit.specs.Past.{Each, Within, pick}
 
 pub each_map : {A : Type 0} (P Q : A → List A → Type 0) (xs : List A) → ((x : A) (ys : List A) → P x ys → Q x ys) → Each P xs → Each Q xs
 each_map P Q [] f h = tt
@@ -55,10 +51,6 @@ upd_comm f i k a b ne = fun_ext (λ j. elim (cases_eq j i) [
   ]
 ])
 
--- 1 to n
-abbrev pub Within : ℕ → ℕ → Type 0
-Within n i = (0 < i) × (i ≤ n)
-
 pub least_le : (f : ℕ → ℕ) (n i : ℕ) → Within n i → least f n ≤ f i
 least_le f zero i h = let a = h.0 in let b = h.1 in absurd (omega arith)
 least_le f (suc n) i h =
@@ -77,10 +69,6 @@ each_map_has P Q [] f h = tt
 each_map_has P Q (x ∷ xs) f h = (f x xs (inl refl) h.0, each_map_has P Q xs (λ y ys i p. f y ys (inr i) p) h.1)
 
 -- ## The newest element with a test, which may look at what stands behind it
-
-abbrev pub pick : {A B : Type 0} → (A → List A → Bool) → (A → List A → B) → B → List A → B
-pick q f d [] = d
-pick q f d (z ∷ zs) = cond (q z zs) (f z zs) (pick q f d zs)
 
 abbrev pub Newest : {A : Type 0} → (A → List A → Bool) → A → List A → List A → Type 0
 Newest q r b [] = ⊥

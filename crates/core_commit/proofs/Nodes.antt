@@ -1,6 +1,5 @@
 -- What each record makes of the pages' words.
 use Rattle.page_model.specs.Records as page_records
-use Rattle.page_model.specs.Fits.{FitsAs}
 use Rattle.page_model.specs.Tree as page_tree
 use Rattle.page_model.specs.Pairs as pairs
 use Rattle.page_model.specs.Laws as laws
@@ -16,10 +15,7 @@ use Rattle.core_state.specs.image_model.Entries.Kind.{Change, Put_back, Split, L
 use Rattle.page_model.proofs.Entries.{entry_at, holds_to}
 use Rattle.page_model.proofs.Pairs.{some_none}
 use mathlib.Core.Path.{fun_ext}
-
--- a write of this key
-abbrev pub on_key : ℕ → Entry → Bool
-on_key k r = is_write r.kind && (r.key == k)
+pub use Rattle.core_commit.specs.Past.{on_key, FitsPage, Fits}
 
 pub key_parts : (k : ℕ) (r : Entry) → on_key k r ≡ true → (is_write r.kind ≡ true) × (r.key ≡ k)
 key_parts k r h = let q = and_parts (is_write r.kind) (r.key == k) h in (q.0, eqb-true r.key k q.1)
@@ -32,17 +28,6 @@ is_move Join = true
 is_move Drop = true
 is_move Purge = true
 is_move _ = false
-
--- ## What a record asks of its pages
-
-pub record FitsPage (f : Format) (node : ℕ → Node) (r : Entry) : Type 0 where
-  pub refs : r.refs ≡ page_records.refs_as (page_kind r.kind) r.record_of
-  pub key : is_write r.kind ≡ true → (r.key ≡ r.record_of.key) × (r.before ≡ r.record_of.before) × (r.after ≡ r.record_of.after)
-  pub fits : FitsAs f (page_kind r.kind) node r.record_of
-
-pub record Fits (f : Format) (node : ℕ → Node) (r : Entry) : Type 0 where
-  pub page : is_page r.kind ≡ true → FitsPage f node r
-  pub none : is_page r.kind ≡ false → (p : ℕ) → touches p r ≡ false
 
 -- the pages after the record
 abbrev pub moved_on : (ℕ → Node) → Entry → ℕ → Node

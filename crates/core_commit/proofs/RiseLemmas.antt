@@ -145,7 +145,7 @@ rises_more g s t u a b = record {
   epoch = let x = a.epoch in let y = b.epoch in omega arith;
 }
 
-rises_run : (g : Opening) (es : List Event) (s : State) → Good g s → Rises g s (run g s es)
+pub rises_run : (g : Opening) (es : List Event) (s : State) → Good g s → Rises g s (run g s es)
 rises_run g [] s i = same g s s refl refl refl refl refl refl (omega arith)
 rises_run g (e ∷ es) s i = rises_more g s (step g s e) (run g (step g s e) es)
     (step_keeps (Rises g s) g s e (same g s s refl refl refl refl refl refl (omega arith)) (λ m. rises_event g s i.inv e (and_parts (are_hot s (pages_of e)) (needs g s e) m).1))

@@ -22,6 +22,7 @@ use Rattle.core_commit.proofs.Fetched.{fetch_is, fetch_same, fetch_gsn, fetch_tr
 use Rattle.std.proofs.Common.{◌≡◌, ◌<◌, ◌≤◌, ℕ, suc, Bool, true, false, cond, ◌&&◌, not, leb, ltb, ◌==◌, List, [], ◌∷◌, Option, Some, None, length, refl, sym, ap, ◌∙◌, subst, arith, true≢false}
 use Rattle.std.proofs.lemmas.Bool.{and_parts, and_from, ltb-true, ltb-false, not-true}
 use mathlib.Core.Path.{fun_ext}
+pub use Rattle.core_commit.specs.Invariants.{Good}
 
 -- ## The pair that follows
 
@@ -98,10 +99,6 @@ evict_clean g s p m =
     ltb-false (s.saved p).gsn (s.page p).gsn (not-true (is_dirty s p) b.0)
 
 -- ## Every event
-
-pub record Good (g : Opening) (s : State) : Type 0 where
-  pub inv : Inv g s
-  pub copied : Copied s.page s.saved s.place
 
 inv_event : (g : Opening) (s : State) → Good g s → (e : Event) → needs g s e ≡ true → Inv g (happens g s e)
 inv_event g s i (Event.Enter w e) m = inv_moved g s i.inv s.saved s.place s.queue s.posted (upd s.inside w (Some e)) s.epoch

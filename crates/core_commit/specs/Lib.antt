@@ -1,4 +1,9 @@
+-- Read Debts and Known; then Past and Invariants, of which Kinds says that each kind of event keeps them; then the others.
 pub mod Debts
+pub mod Known
+pub mod Past
+pub mod Invariants
+pub mod Kinds
 pub mod Rises
 pub mod Floors
 pub mod Holders

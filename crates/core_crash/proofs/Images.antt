@@ -126,7 +126,7 @@ falls_same (x ∷ a) (y ∷ b) fa fb s = go (λ e. falls_same a b fa.1 fb.1 (sub
 
 -- ## Recovery sees no more than which records are there
 
-greatest_upper : (w n : ℕ) (z : List Entry) → ((r : Entry) → Has r z → r.log ≡ w → r.number ≤ n) → greatest w z ≤ n
+pub greatest_upper : (w n : ℕ) (z : List Entry) → ((r : Entry) → Has r z → r.log ≡ w → r.number ≤ n) → greatest w z ≤ n
 greatest_upper w n [] h = omega arith
 greatest_upper w n (r ∷ z) h = go (greatest_upper w n z (λ y i. h y (inr i))) (r.log == w) refl
   where
@@ -191,7 +191,7 @@ gathered_has f (suc n) r i = elim (has_cases r (f (suc n)) (gathered f n) i) [
   | inr j ↦ let q = gathered_has f n r j in (q.0, (q.1.0, (let l = q.1.1 in omega arith)), q.2)
 ]
 
-has_gathered : (f : ℕ → List Entry) (n w : ℕ) (r : Entry) → Within n w → Has r (f w) → Has r (gathered f n)
+pub has_gathered : (f : ℕ → List Entry) (n w : ℕ) (r : Entry) → Within n w → Has r (f w) → Has r (gathered f n)
 has_gathered f zero w r l i = let a = l.0 in let b = l.1 in absurd (omega arith)
 has_gathered f (suc n) w r l i = elim (cases_eq w (suc n)) [
   | inl e ↦ has_left r (f (suc n)) (gathered f n) (subst (λ (k : ℕ). Has r (f k)) e i)
@@ -231,7 +231,7 @@ pub numbers_behind : (a b : List Entry) → Numbers (a ++ b) → Numbers b
 numbers_behind [] b n = n
 numbers_behind (x ∷ a) b n = numbers_behind a b n.1
 
-numbers_across : (a b : List Entry) → Numbers (a ++ b) → (x y : Entry) → Has x a → Has y b → y.number < x.number
+pub numbers_across : (a b : List Entry) → Numbers (a ++ b) → (x y : Entry) → Has x a → Has y b → y.number < x.number
 numbers_across [] b n x y i j = absurd i
 numbers_across (z ∷ a) b n x y (inl e) j = let q = n.0 y (has_right y a b j) in let w = ap (λ (v : Entry). v.number) e in omega arith
 numbers_across (z ∷ a) b n x y (inr i) j = numbers_across a b n.1 x y i j

@@ -10,6 +10,8 @@ pub mod Main
 pub mod Serial
 pub mod Images
 pub mod Transactions
+pub mod Reaches
+pub mod RipeLemmas
 pub mod Recovery
 pub mod ByHand
 pub mod Reopening

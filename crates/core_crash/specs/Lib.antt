@@ -1,4 +1,6 @@
 pub mod Crashes
+pub mod Reaches
+pub mod Ripe
 pub mod Example
 -- Passed on to the crates above.
 pub use Rattle.core_paging.specs as core_paging

@@ -4,6 +4,8 @@
 #![tactic(auto)]
 
 ghost use Rattle.core_crash.specs.Crashes.{EveryCrash, EveryStored, EveryReopening, EverySerial};
+ghost use Rattle.core_crash.specs.Reaches.{EveryFound};
+ghost use Rattle.core_crash.specs.Ripe.{EveryRipe};
 ghost use Rattle.core_crash.specs.Example.{WorkedExample};
 
 // Passed on to the crates above.
@@ -15,6 +17,16 @@ pub use core_paging::{
 /// set of committed transactions that holds each ripe one.
 pub fn every_crash()
     ensures { EveryCrash }
+{}
+
+/// Wherever a crash falls, every record up to the reach is found, but those before their log's head.
+pub fn every_found()
+    ensures { EveryFound }
+{}
+
+/// A commit that needs no other log is ripe once its own is flushed up to it; and what is ripe once stays so.
+pub fn every_ripe()
+    ensures { EveryRipe }
 {}
 
 /// The same of recovery from the logs and the saved pages.

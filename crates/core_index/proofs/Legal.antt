@@ -24,6 +24,7 @@ use Rattle.core_commit.proofs.Events.{same_nodes}
 use Rattle.core_commit.proofs.Nexts.{following_is, following_at, follows_in, no_answer}
 use Rattle.core_commit.proofs.Says.{said_word, write_here, write_else}
 use Rattle.core_commit.proofs.Runs.{Good, good_event, good_run, good_start}
+use Rattle.core_index.specs.Calls.{EveryCall}
 use Rattle.core_index.specs.Answers.{write_told, put_back_told, told, history, map_in, EveryLegal, EveryMap, EveryTree}
 use mathlib.Core.Path.{fun_ext}
 use Rattle.std.proofs.Common.{◌≡◌, ◌≤◌, ◌<◌, ℕ, suc, Bool, true, false, cond, ◌&&◌, ◌||◌, leb, ltb, ◌==◌, List, [], ◌∷◌, Option, Some, None, length, refl, sym, ap, ◌∙◌, subst, inl, inr, arith, true≢false}
@@ -190,115 +191,121 @@ lawful_next g s i w p k a m = go a refl
 -- ## Histories
 
 -- the history is legal, and the pages hold the map after it
-pub record Tells (g : Opening) (s : State) (h : List Step) : Type 0 where
-  pub legal : IsLegal (map_in g (start g)) h
-  pub map : (k : ℕ) → map_in g s k ≡ over (map_in g (start g)) (last_write h) k
+pub record Tells (start_map : Map) (g : Opening) (s : State) (h : List Step) : Type 0 where
+  pub legal : IsLegal (start_map) h
+  pub map : (k : ℕ) → map_in g s k ≡ over (start_map) (last_write h) k
 
-now : (g : Opening) (s : State) (h : List Step) → Tells g s h → map_in g s ≡ over (map_in g (start g)) (last_write h)
-now g s h t = fun_ext t.map
+now : (start_map : Map) (g : Opening) (s : State) (h : List Step) → Tells start_map g s h → map_in g s ≡ over (start_map) (last_write h)
+now start_map g s h t = fun_ext t.map
 
-tells_same : (g : Opening) (s t : State) (h : List Step) → IsTold g s → IsTold g t → t.entries ≡ s.entries → Tells g s h → Tells g t h
-tells_same g s t h i j e k = record { legal = k.legal; map = λ n. value_same g s t i j e n ∙ k.map n }
+tells_same : (start_map : Map) (g : Opening) (s t : State) (h : List Step) → IsTold g s → IsTold g t → t.entries ≡ s.entries → Tells start_map g s h → Tells start_map g t h
+tells_same start_map g s t h i j e k = record { legal = k.legal; map = λ n. value_same g s t i j e n ∙ k.map n }
 
 -- an entry came that writes nothing
-tells_entry : (g : Opening) (s t : State) (h : List Step) (x : Entry) → IsTold g s → IsTold g t → t.entries ≡ x ∷ s.entries → is_write x.kind ≡ false → Tells g s h → Tells g t h
-tells_entry g s t h x i j e w k = record { legal = k.legal; map = λ n. value_off g s t x i j e n (and_left (is_write x.kind) (x.key == n) w) ∙ k.map n }
+tells_entry : (start_map : Map) (g : Opening) (s t : State) (h : List Step) (x : Entry) → IsTold g s → IsTold g t → t.entries ≡ x ∷ s.entries → is_write x.kind ≡ false → Tells start_map g s h → Tells start_map g t h
+tells_entry start_map g s t h x i j e w k = record { legal = k.legal; map = λ n. value_off g s t x i j e n (and_left (is_write x.kind) (x.key == n) w) ∙ k.map n }
 
 -- a call that writes nothing
-tells_call : (g : Opening) (s t : State) (h : List Step) (x : Step) → ((k : ℕ) → first_of (Rattle.map_model.specs.Maps.write_of x.call k) (last_write h k) ≡ last_write h k) → IsLawful (map_in g s) x.call x.answer → Tells g s h → Tells g t h → Tells g t (x ∷ h)
-tells_call g s t h x n l a b = record {
-  legal = (a.legal, subst (λ (m : Map). IsLawful m x.call x.answer) (now g s h a) l);
-  map = λ k. b.map k ∙ sym (ap (λ (w : Option (Option ℕ)). write_or w (map_in g (start g) k)) (n k));
+tells_call : (start_map : Map) (g : Opening) (s t : State) (h : List Step) (x : Step) → ((k : ℕ) → first_of (Rattle.map_model.specs.Maps.write_of x.call k) (last_write h k) ≡ last_write h k) → IsLawful (map_in g s) x.call x.answer → Tells start_map g s h → Tells start_map g t h → Tells start_map g t (x ∷ h)
+tells_call start_map g s t h x n l a b = record {
+  legal = (a.legal, subst (λ (m : Map). IsLawful m x.call x.answer) (now start_map g s h a) l);
+  map = λ k. b.map k ∙ sym (ap (λ (w : Option (Option ℕ)). write_or w (start_map k)) (n k));
 }
 
 -- a write
-tells_write : (g : Opening) (s t : State) (h : List Step) (K : Kind) (w p k v : ℕ) → Inv g s → IsTold g s → IsTold g t → is_write K ≡ true → t.entries ≡ write_entry g K s w (at_pages s w (s.worker w) (p ∷ [])) p k v ∷ s.entries → is_leaf_of g (s.page p).node p k ≡ true → Tells g s h → Tells g t (write_told g s w p k v ∷ h)
-tells_write g s t h K w p k v inv i j kw e leaf a = record {
-  legal = (a.legal, subst (λ (m : Map). IsLawful m (write_told g s w p k v).call (write_told g s w p k v).answer) (now g s h a) (lawful_write g s inv w p k v leaf));
+tells_write : (start_map : Map) (g : Opening) (s t : State) (h : List Step) (K : Kind) (w p k v : ℕ) → Inv g s → IsTold g s → IsTold g t → is_write K ≡ true → t.entries ≡ write_entry g K s w (at_pages s w (s.worker w) (p ∷ [])) p k v ∷ s.entries → is_leaf_of g (s.page p).node p k ≡ true → Tells start_map g s h → Tells start_map g t (write_told g s w p k v ∷ h)
+tells_write start_map g s t h K w p k v inv i j kw e leaf a = record {
+  legal = (a.legal, subst (λ (m : Map). IsLawful m (write_told g s w p k v).call (write_told g s w p k v).answer) (now start_map g s h a) (lawful_write g s inv w p k v leaf));
   map = λ n. elim (cases_eq n k) [
-    | inl q ↦ value_on g t x s.entries j e n (Rattle.std.proofs.lemmas.Bool.and_from (is_write K) (k == n) kw (eq-eqb k n (sym q))) ∙ sym (ap (λ (o : Option (Option ℕ)). write_or (first_of o (last_write h n)) (map_in g (start g) n)) (write_here g.format k v n q))
-    | inr q ↦ value_off g s t x i j e n (Rattle.std.proofs.lemmas.Bool.and_right (is_write K) (k == n) (ne_eqb k n (λ z. q (sym z)))) ∙ (a.map n ∙ sym (ap (λ (o : Option (Option ℕ)). write_or (first_of o (last_write h n)) (map_in g (start g) n)) (write_else g.format k v n q)))
+    | inl q ↦ value_on g t x s.entries j e n (Rattle.std.proofs.lemmas.Bool.and_from (is_write K) (k == n) kw (eq-eqb k n (sym q))) ∙ sym (ap (λ (o : Option (Option ℕ)). write_or (first_of o (last_write h n)) (start_map n)) (write_here g.format k v n q))
+    | inr q ↦ value_off g s t x i j e n (Rattle.std.proofs.lemmas.Bool.and_right (is_write K) (k == n) (ne_eqb k n (λ z. q (sym z)))) ∙ (a.map n ∙ sym (ap (λ (o : Option (Option ℕ)). write_or (first_of o (last_write h n)) (start_map n)) (write_else g.format k v n q)))
   ];
 }
   where
     x : Entry
     x = write_entry g K s w (at_pages s w (s.worker w) (p ∷ [])) p k v
 
-tells_moves : (g : Opening) (s : State) (h : List Step) (K : Kind) (w : ℕ) (ps : List ℕ) (y : Record) → IsTold g s → IsTold g (moves s K w ps y) → is_write K ≡ false → Tells g s h → Tells g (moves s K w ps y) h
-tells_moves g s h K w ps y i j kw a = tells_entry g s (moves s K w ps y) h (page_entry K s w (at_pages s w (s.worker w) ps) ps y) i j refl kw a
+tells_moves : (start_map : Map) (g : Opening) (s : State) (h : List Step) (K : Kind) (w : ℕ) (ps : List ℕ) (y : Record) → IsTold g s → IsTold g (moves s K w ps y) → is_write K ≡ false → Tells start_map g s h → Tells start_map g (moves s K w ps y) h
+tells_moves start_map g s h K w ps y i j kw a = tells_entry start_map g s (moves s K w ps y) h (page_entry K s w (at_pages s w (s.worker w) ps) ps y) i j refl kw a
 
-tells_event : (g : Opening) (s : State) (h : List Step) (e : Event) → Inv g s → IsTold g s → IsTold g (happens g s e) → needs g s e ≡ true → Tells g s h → Tells g (happens g s e) (told g s e h)
-tells_event g s h (Event.Read w p k a) inv i j m t =
+tells_event : (start_map : Map) (g : Opening) (s : State) (h : List Step) (e : Event) → Inv g s → IsTold g s → IsTold g (happens g s e) → needs g s e ≡ true → Tells start_map g s h → Tells start_map g (happens g s e) (told g s e h)
+tells_event start_map g s h (Event.Read w p k a) inv i j m t =
     let q = and_parts (may_read g s w p k) (is_value a (value_in g.format (s.page p).node k)) m in
     let r = and_parts (s.worker w).is_open (holds_row (s.row (g.row_of k)) w && is_leaf_of g (s.page p).node p k) q.0 in
     let l = and_parts (holds_row (s.row (g.row_of k)) w) (is_leaf_of g (s.page p).node p k) r.1 in
-    tells_call g s (happens g s (Event.Read w p k a)) h (record { session = w; call = MapCall.Get k; answer = MapAnswer.Value a }) (λ n. refl) (lawful_get g s inv p k a l.1 q.1) t
-    (tells_entry g s (happens g s (Event.Read w p k a)) h (read_entry w (at_pages s w (s.worker w) (p ∷ [])) k (Rattle.core_commit.specs.image_model.Entries.word_in g.format (s.page p).node k) (is_held_by (s.row (g.row_of k)).holder w)) i j refl refl t)
-tells_event g s h (Event.Peek w p k a) inv i j m t =
+    tells_call start_map g s (happens g s (Event.Read w p k a)) h (record { session = w; call = MapCall.Get k; answer = MapAnswer.Value a }) (λ n. refl) (lawful_get g s inv p k a l.1 q.1) t
+    (tells_entry start_map g s (happens g s (Event.Read w p k a)) h (read_entry w (at_pages s w (s.worker w) (p ∷ [])) k (Rattle.core_commit.specs.image_model.Entries.word_in g.format (s.page p).node k) (is_held_by (s.row (g.row_of k)).holder w)) i j refl refl t)
+tells_event start_map g s h (Event.Peek w p k a) inv i j m t =
     let q = and_parts (is_leaf_of g (s.page p).node p k) (is_value a (value_in g.format (s.page p).node k)) m in
-    tells_call g s s h (record { session = w; call = MapCall.Get k; answer = MapAnswer.Value a }) (λ n. refl) (lawful_get g s inv p k a q.0 q.1) t t
-tells_event g s h (Event.Next w p k a) inv i j m t = tells_call g s (happens g s (Event.Next w p k a)) h (record { session = w; call = MapCall.Next k; answer = a }) (λ n. refl) (lawful_next g s inv w p k a m) t (go a j)
+    tells_call start_map g s s h (record { session = w; call = MapCall.Get k; answer = MapAnswer.Value a }) (λ n. refl) (lawful_get g s inv p k a q.0 q.1) t t
+tells_event start_map g s h (Event.Next w p k a) inv i j m t = tells_call start_map g s (happens g s (Event.Next w p k a)) h (record { session = w; call = MapCall.Next k; answer = a }) (λ n. refl) (lawful_next g s inv w p k a m) t (go a j)
   where
-    go : (a : MapAnswer) → IsTold g (follows g s w p a) → Tells g (follows g s w p a) h
-    go (MapAnswer.Pair at word) j = tells_entry g s (follows g s w p (MapAnswer.Pair at word)) h (read_entry w (at_pages s w (s.worker w) (p ∷ [])) at (Rattle.core_commit.specs.image_model.Entries.word_in g.format (s.page p).node at) (is_held_by (s.row (g.row_of at)).holder w)) i j refl refl t
-    go (MapAnswer.Gap b) j = tells_same g s (follows g s w p (MapAnswer.Gap b)) h i j refl t
+    go : (a : MapAnswer) → IsTold g (follows g s w p a) → Tells start_map g (follows g s w p a) h
+    go (MapAnswer.Pair at word) j = tells_entry start_map g s (follows g s w p (MapAnswer.Pair at word)) h (read_entry w (at_pages s w (s.worker w) (p ∷ [])) at (Rattle.core_commit.specs.image_model.Entries.word_in g.format (s.page p).node at) (is_held_by (s.row (g.row_of at)).holder w)) i j refl refl t
+    go (MapAnswer.Gap b) j = tells_same start_map g s (follows g s w p (MapAnswer.Gap b)) h i j refl t
     go (MapAnswer.Value b) j = t
     go (MapAnswer.Was b) j = t
-tells_event g s h (Event.Change w p k v) inv i j m t =
+tells_event start_map g s h (Event.Change w p k v) inv i j m t =
     let q = and_parts (ltb (length (s.worker w).changes) g.changes) ((s.worker w).is_open && (is_held_by (s.row (g.row_of k)).holder w && may_put g (s.page p).node p k v)) m in
     let r = and_parts (s.worker w).is_open (is_held_by (s.row (g.row_of k)).holder w && may_put g (s.page p).node p k v) q.1 in
     let u = and_parts (is_held_by (s.row (g.row_of k)).holder w) (may_put g (s.page p).node p k v) r.1 in
     let x = and_parts (ltb p g.format.pages) (holds (s.page p).node k && (leb v g.format.dead && (has_key k (s.page p).node || ltb (length (s.page p).node.pairs) g.format.room))) u.1 in
     let y = and_parts (holds (s.page p).node k) (leb v g.format.dead && (has_key k (s.page p).node || ltb (length (s.page p).node.pairs) g.format.room)) x.1 in
-    tells_write g s (happens g s (Event.Change w p k v)) h Kind.Change w p k v inv i j refl refl (Rattle.std.proofs.lemmas.Bool.and_from (ltb p g.format.pages) (holds (s.page p).node k) x.0 y.0) t
-tells_event g s h (Event.Put_back w p) inv i j m t = go (s.worker w).changes (and_parts (s.worker w).is_open (may_put_back g (s.page p).node p (s.worker w).changes) m).1 j
+    tells_write start_map g s (happens g s (Event.Change w p k v)) h Kind.Change w p k v inv i j refl refl (Rattle.std.proofs.lemmas.Bool.and_from (ltb p g.format.pages) (holds (s.page p).node k) x.0 y.0) t
+tells_event start_map g s h (Event.Put_back w p) inv i j m t = go (s.worker w).changes (and_parts (s.worker w).is_open (may_put_back g (s.page p).node p (s.worker w).changes) m).1 j
   where
-    go : (cs : List Entry) → may_put_back g (s.page p).node p cs ≡ true → IsTold g (put_back g s w p cs) → Tells g (put_back g s w p cs) (put_back_told g s w p cs h)
+    go : (cs : List Entry) → may_put_back g (s.page p).node p cs ≡ true → IsTold g (put_back g s w p cs) → Tells start_map g (put_back g s w p cs) (put_back_told g s w p cs h)
     go [] z j = t
     go (c ∷ cs) z j =
         let x = and_parts (ltb p g.format.pages) (holds (s.page p).node c.key && has_key c.key (s.page p).node) z in
         let y = and_parts (holds (s.page p).node c.key) (has_key c.key (s.page p).node) x.1 in
-        tells_write g s (put_back g s w p (c ∷ cs)) h Kind.Put_back w p c.key c.before inv i j refl refl (Rattle.std.proofs.lemmas.Bool.and_from (ltb p g.format.pages) (holds (s.page p).node c.key) x.0 y.0) t
-tells_event g s h (Event.Split w l r q n) inv i j m t = tells_moves g s h Kind.Split w (l ∷ r ∷ q ∷ []) (record_needs.split_record (nodes_of s) (gsns_of s) l r q n) i j refl t
-tells_event g s h (Event.Lift w c) inv i j m t = tells_moves g s h Kind.Lift w (0 ∷ c ∷ []) (record_needs.lift_record (nodes_of s) (gsns_of s) c) i j refl t
-tells_event g s h (Event.Join w l r q) inv i j m t = tells_moves g s h Kind.Join w (l ∷ r ∷ q ∷ []) (record_needs.join_record (nodes_of s) (gsns_of s) l r q) i j refl t
-tells_event g s h (Event.Drop w c) inv i j m t = tells_moves g s h Kind.Drop w (0 ∷ c ∷ []) (record_needs.drop_record (nodes_of s) (gsns_of s) c) i j refl t
-tells_event g s h (Event.Purge w p keys) inv i j m t = tells_moves g s h Kind.Purge w (p ∷ []) (record_needs.purge_record (gsns_of s) p keys) i j refl t
-tells_event g s h (Event.End w commit f) inv i j m t = go commit j
+        tells_write start_map g s (put_back g s w p (c ∷ cs)) h Kind.Put_back w p c.key c.before inv i j refl refl (Rattle.std.proofs.lemmas.Bool.and_from (ltb p g.format.pages) (holds (s.page p).node c.key) x.0 y.0) t
+tells_event start_map g s h (Event.Split w l r q n) inv i j m t = tells_moves start_map g s h Kind.Split w (l ∷ r ∷ q ∷ []) (record_needs.split_record (nodes_of s) (gsns_of s) l r q n) i j refl t
+tells_event start_map g s h (Event.Lift w c) inv i j m t = tells_moves start_map g s h Kind.Lift w (0 ∷ c ∷ []) (record_needs.lift_record (nodes_of s) (gsns_of s) c) i j refl t
+tells_event start_map g s h (Event.Join w l r q) inv i j m t = tells_moves start_map g s h Kind.Join w (l ∷ r ∷ q ∷ []) (record_needs.join_record (nodes_of s) (gsns_of s) l r q) i j refl t
+tells_event start_map g s h (Event.Drop w c) inv i j m t = tells_moves start_map g s h Kind.Drop w (0 ∷ c ∷ []) (record_needs.drop_record (nodes_of s) (gsns_of s) c) i j refl t
+tells_event start_map g s h (Event.Purge w p keys) inv i j m t = tells_moves start_map g s h Kind.Purge w (p ∷ []) (record_needs.purge_record (gsns_of s) p keys) i j refl t
+tells_event start_map g s h (Event.End w commit f) inv i j m t = go commit j
   where
-    go : (b : Bool) → IsTold g (happens g s (Event.End w b f)) → Tells g (happens g s (Event.End w b f)) h
-    go true j = tells_entry g s (happens g s (Event.End w true f)) h (Rattle.core_commit.specs.core_state.Steps.end_entry Kind.Commit w (s.worker w) f) i j refl refl t
-    go false j = tells_entry g s (happens g s (Event.End w false f)) h (Rattle.core_commit.specs.core_state.Steps.end_entry Kind.Abort w (s.worker w) f) i j refl refl t
-tells_event g s h (Event.Enter w e) inv i j m t = tells_same g s (happens g s (Event.Enter w e)) h i j refl t
-tells_event g s h (Event.Leave w) inv i j m t = tells_same g s (happens g s (Event.Leave w)) h i j refl t
-tells_event g s h (Event.Begin w f) inv i j m t = tells_same g s (happens g s (Event.Begin w f)) h i j refl t
-tells_event g s h (Event.Lock w o mode) inv i j m t = tells_same g s (happens g s (Event.Lock w o mode)) h i j refl t
-tells_event g s h (Event.Unlock w o) inv i j m t = tells_same g s (happens g s (Event.Unlock w o)) h i j refl t
-tells_event g s h (Event.Flush w n) inv i j m t = tells_same g s (happens g s (Event.Flush w n)) h i j refl t
-tells_event g s h (Event.Sync n) inv i j m t = tells_same g s (happens g s (Event.Sync n)) h i j refl t
-tells_event g s h (Event.Post w n) inv i j m t = tells_same g s (happens g s (Event.Post w n)) h i j refl t
-tells_event g s h (Event.Fetch p pairs) inv i j m t = tells_same g s (happens g s (Event.Fetch p pairs)) h i j refl t
-tells_event g s h (Event.Load p f) inv i j m t = tells_same g s (happens g s (Event.Load p f)) h i j refl t
-tells_event g s h (Event.Cool p) inv i j m t = tells_same g s (happens g s (Event.Cool p)) h i j refl t
-tells_event g s h (Event.Rescue p) inv i j m t = tells_same g s (happens g s (Event.Rescue p)) h i j refl t
-tells_event g s h (Event.Save p) inv i j m t = tells_same g s (happens g s (Event.Save p)) h i j refl t
-tells_event g s h (Event.Evict p) inv i j m t = tells_same g s (happens g s (Event.Evict p)) h i j refl t
-tells_event g s h Event.Tick inv i j m t = tells_same g s (happens g s Event.Tick) h i j refl t
-tells_event g s h (Event.Cut x heads) inv i j m t = tells_same g s (happens g s (Event.Cut x heads)) h i j refl t
-tells_event g s h (Event.Ask w) inv i j m t = t
-tells_event g s h (Event.Refused w n k) inv i j m t = t
-tells_event g s h (Event.Miss w) inv i j m t = t
+    go : (b : Bool) → IsTold g (happens g s (Event.End w b f)) → Tells start_map g (happens g s (Event.End w b f)) h
+    go true j = tells_entry start_map g s (happens g s (Event.End w true f)) h (Rattle.core_commit.specs.core_state.Steps.end_entry Kind.Commit w (s.worker w) f) i j refl refl t
+    go false j = tells_entry start_map g s (happens g s (Event.End w false f)) h (Rattle.core_commit.specs.core_state.Steps.end_entry Kind.Abort w (s.worker w) f) i j refl refl t
+tells_event start_map g s h (Event.Enter w e) inv i j m t = tells_same start_map g s (happens g s (Event.Enter w e)) h i j refl t
+tells_event start_map g s h (Event.Leave w) inv i j m t = tells_same start_map g s (happens g s (Event.Leave w)) h i j refl t
+tells_event start_map g s h (Event.Begin w f) inv i j m t = tells_same start_map g s (happens g s (Event.Begin w f)) h i j refl t
+tells_event start_map g s h (Event.Lock w o mode) inv i j m t = tells_same start_map g s (happens g s (Event.Lock w o mode)) h i j refl t
+tells_event start_map g s h (Event.Unlock w o) inv i j m t = tells_same start_map g s (happens g s (Event.Unlock w o)) h i j refl t
+tells_event start_map g s h (Event.Flush w n) inv i j m t = tells_same start_map g s (happens g s (Event.Flush w n)) h i j refl t
+tells_event start_map g s h (Event.Sync n) inv i j m t = tells_same start_map g s (happens g s (Event.Sync n)) h i j refl t
+tells_event start_map g s h (Event.Post w n) inv i j m t = tells_same start_map g s (happens g s (Event.Post w n)) h i j refl t
+tells_event start_map g s h (Event.Fetch p pairs) inv i j m t = tells_same start_map g s (happens g s (Event.Fetch p pairs)) h i j refl t
+tells_event start_map g s h (Event.Load p f) inv i j m t = tells_same start_map g s (happens g s (Event.Load p f)) h i j refl t
+tells_event start_map g s h (Event.Cool p) inv i j m t = tells_same start_map g s (happens g s (Event.Cool p)) h i j refl t
+tells_event start_map g s h (Event.Rescue p) inv i j m t = tells_same start_map g s (happens g s (Event.Rescue p)) h i j refl t
+tells_event start_map g s h (Event.Save p) inv i j m t = tells_same start_map g s (happens g s (Event.Save p)) h i j refl t
+tells_event start_map g s h (Event.Evict p) inv i j m t = tells_same start_map g s (happens g s (Event.Evict p)) h i j refl t
+tells_event start_map g s h Event.Tick inv i j m t = tells_same start_map g s (happens g s Event.Tick) h i j refl t
+tells_event start_map g s h (Event.Cut x heads) inv i j m t = tells_same start_map g s (happens g s (Event.Cut x heads)) h i j refl t
+tells_event start_map g s h (Event.Ask w) inv i j m t = t
+tells_event start_map g s h (Event.Refused w n k) inv i j m t = t
+tells_event start_map g s h (Event.Miss w) inv i j m t = t
 
-tells_run : (g : Opening) → g.faithful ≡ true → (es : List Event) (s : State) (h : List Step) → Good g s → Tells g s h → Tells g (run g s es) (history g s es h)
-tells_run g f [] s h i t = t
-tells_run g f (e ∷ es) s h i t = go (may g s e) refl (λ u k j x. tells_run g f es u k j x)
+tells_run : (start_map : Map) (g : Opening) → g.faithful ≡ true → (es : List Event) (s : State) (h : List Step) → Good g s → Tells start_map g s h → Tells start_map g (run g s es) (history g s es h)
+tells_run start_map g f [] s h i t = t
+tells_run start_map g f (e ∷ es) s h i t = go (may g s e) refl (λ u k j x. tells_run start_map g f es u k j x)
   where
-    go : (b : Bool) → may g s e ≡ b → ((u : State) (k : List Step) → Good g u → Tells g u k → Tells g (run g u es) (history g u es k)) → Tells g (run g (cond b (happens g s e) s) es) (history g (cond b (happens g s e) s) es (cond b (told g s e h) h))
-    go true m ih = let j = good_event g s i e m in ih (happens g s e) (told g s e h) j (tells_event g s h e i.inv (i.inv.told f) (j.inv.told f) (and_parts (are_hot s (pages_of e)) (needs g s e) m).1 t)
+    go : (b : Bool) → may g s e ≡ b → ((u : State) (k : List Step) → Good g u → Tells start_map g u k → Tells start_map g (run g u es) (history g u es k)) → Tells start_map g (run g (cond b (happens g s e) s) es) (history g (cond b (happens g s e) s) es (cond b (told g s e h) h))
+    go true m ih = let j = good_event g s i e m in ih (happens g s e) (told g s e h) j (tells_event start_map g s h e i.inv (i.inv.told f) (j.inv.told f) (and_parts (are_hot s (pages_of e)) (needs g s e) m).1 t)
     go false m ih = ih s h i t
 
-every_tells : (g : Opening) → g.faithful ≡ true → (es : List Event) → Tells g (run g (start g) es) (history g (start g) es [])
-every_tells g f es = tells_run g f es (start g) [] (good_start g) (record { legal = tt; map = λ k. refl })
+every_tells : (g : Opening) → g.faithful ≡ true → (es : List Event) → Tells (map_in g (start g)) g (run g (start g) es) (history g (start g) es [])
+every_tells g f es = tells_run (map_in g (start g)) g f es (start g) [] (good_start g) (record { legal = tt; map = λ k. refl })
+
+-- from any state that has the invariants
+pub every_call : EveryCall
+every_call g f s i e m =
+    let t = tells_event (map_in g s) g s [] e i.inv (i.inv.told f) ((good_event g s i e m).inv.told f) (and_parts (are_hot s (pages_of e)) (needs g s e) m).1 (record { legal = tt; map = λ k. refl }) in
+    record { legal = t.legal; map = t.map }
 
 pub every_legal : EveryLegal
 every_legal g f es = (every_tells g f es).legal

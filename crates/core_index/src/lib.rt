@@ -1,10 +1,11 @@
 //! The calls of all sessions are a legal history of one map, which the pages hold.
 //!
-//! Read specs/Answers: the history of a list of events, and the map of a state; specs/Undo: what is still to put back; specs/Walks:
-//! which entries a walk meets.
+//! Read specs/Answers: the history of a list of events, and the map of a state; specs/Calls: one event's call; specs/Undo: what
+//! is still to put back; specs/Walks: which entries a walk meets.
 #![tactic(auto)]
 
 ghost use Rattle.core_index.specs.Answers.{EveryLegal, EveryMap, EveryTree};
+ghost use Rattle.core_index.specs.Calls.{EveryCall};
 ghost use Rattle.core_index.specs.Undo.{EveryUndo};
 ghost use Rattle.core_index.specs.Walks.{EveryWalk};
 
@@ -12,6 +13,12 @@ ghost use Rattle.core_index.specs.Walks.{EveryWalk};
 /// one map does.
 pub fn every_legal()
     ensures { EveryLegal }
+{}
+
+/// Where the opening is faithful, each event's call, from any state that has the invariants, is answered by the map that the pages
+/// hold then, and leaves that map with what it writes; every other event leaves it.
+pub fn every_call()
+    ensures { EveryCall }
 {}
 
 /// The pages hold a map, the union of all leaf pairs without tombstones; where the opening is faithful, the one after the calls.

@@ -11,6 +11,8 @@ use Rattle.map_model.proofs.ListLemmas.{upd_same}
 use Rattle.core_commit.proofs.Controls.{worker_to}
 use Rattle.core_commit.proofs.Copies.{at_place}
 use Rattle.core_commit.proofs.Runs.{Good, step_keeps, good_event, good_start}
+use Rattle.core_paging.specs.Kept.{Paged, EveryKind}
+use Rattle.core_commit.proofs.KindLemmas.{each_kind}
 use Rattle.core_paging.specs.Paging.{EveryResidence, EverySaved, Linked, EpochRule, EveryWaiting, EveryRipe, EveryHot}
 use Rattle.core_paging.proofs.Epochs.{Inside, inside_run, Kept, kept_run, Waits, waits_event}
 use Rattle.core_paging.proofs.ResidenceKept.{PlacedIn, placed_event, placed_start}
@@ -51,15 +53,41 @@ whole_start g = record {
 pub every_whole : (g : Opening) (es : List Event) → Whole g (run g (start g) es)
 every_whole g es = whole_run g (start g) (whole_start g) es
 
-pub every_residence : EveryResidence
-every_residence g es = let i = every_whole g es in record {
-  one = i.placed.one;
-  within = i.placed.within;
-  root = i.placed.root;
-  parent = i.placed.parent;
-  queue = i.placed.queue;
-  cold = i.good.copied.cold;
+-- the same in the words of the contract
+paged : (g : Opening) (s : State) → Whole g s → Paged g s
+paged g s i = record {
+  good = i.good;
+  residence = record {
+    one = i.placed.one;
+    within = i.placed.within;
+    root = i.placed.root;
+    parent = i.placed.parent;
+    queue = i.placed.queue;
+    cold = i.good.copied.cold;
+  };
+  saves = i.saves;
+  waiting = record { local = i.waits.local; some = i.waits.some; waits = i.waits.waits };
 }
+
+whole : (g : Opening) (s : State) → Paged g s → Whole g s
+whole g s i = record {
+  good = i.good;
+  placed = record {
+    one = i.residence.one;
+    within = i.residence.within;
+    root = i.residence.root;
+    parent = i.residence.parent;
+    queue = i.residence.queue;
+  };
+  saves = i.saves;
+  waits = record { local = i.waiting.local; some = i.waiting.some; waits = i.waiting.waits };
+}
+
+pub every_kind : EveryKind
+every_kind g = each_kind g (Paged g) (paged g (start g) (whole_start g)) (λ e s i m. paged g (happens g s e) (whole_event g s (whole g s i) e m))
+
+pub every_residence : EveryResidence
+every_residence g es = (paged g (run g (start g) es) (every_whole g es)).residence
 
 pub every_saved : EverySaved
 every_saved g es = let i = every_whole g es in record {

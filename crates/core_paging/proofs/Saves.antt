@@ -22,10 +22,7 @@ use Rattle.core_commit.proofs.Runs.{Good, step_keeps}
 use Rattle.core_paging.proofs.Places.{all_has}
 use Rattle.std.proofs.Common.{◌≡◌, ◌≤◌, ◌<◌, ℕ, suc, max, true, false, ◌&&◌, ◌||◌, not, leb, ltb, ◌==◌, List, [], ◌∷◌, ◌⊎◌, length, refl, sym, ap, ◌∙◌, subst, inl, inr, arith, true≢false}
 use Rattle.std.proofs.lemmas.Bool.{cases_eq, cases_lt, eqb-true, and_parts, or_cases, leb-true, le-leb, not-true}
-
-pub record Saves (g : Opening) (s : State) : Type 0 where
-  pub numbers : (p : ℕ) → (s.saved p).gsn ≤ flushed_by_all g s
-  pub held : (p : ℕ) (r : Entry) → Has r s.entries → touches p r ≡ true → r.number ≤ s.cut → r.number ≤ (s.saved p).gsn
+pub use Rattle.core_paging.specs.Kept.{Saves}
 
 -- a change of the page has a number up to the page's
 had : (g : Opening) (s : State) → Inv g s → (p : ℕ) (r : Entry) → Has r s.entries → touches p r ≡ true → r.number ≤ (s.page p).gsn

@@ -1,4 +1,5 @@
 pub mod Paging
+pub mod Kept
 pub mod Logs
 pub mod Example
 -- Passed on to the crates above.

@@ -2,6 +2,7 @@
 #![tactic(auto)]
 
 ghost use Rattle.core_paging.specs.Paging.{EveryResidence, EverySaved, EpochRule, EveryWaiting, EveryRipe, EveryHot};
+ghost use Rattle.core_paging.specs.Kept.{EveryKind};
 ghost use Rattle.core_paging.specs.Logs.{EveryLastLog};
 ghost use Rattle.core_paging.specs.Example.{WorkedExample};
 
@@ -12,6 +13,12 @@ pub use core_commit::{every_floor, every_holder, every_need, every_rise, every_u
 /// page once; a cold page is as it was saved.
 pub fn every_residence()
     ensures { EveryResidence }
+{}
+
+/// The start has what is said of places, saved contents and waits, and each kind of event keeps it, from any state that has it: a
+/// field for each kind.
+pub fn every_kind()
+    ensures { EveryKind }
 {}
 
 /// What is saved of a page the page has been, with a number that is flushed everywhere; it holds the page's changes up to
