@@ -6,3 +6,5 @@ pub mod Logs
 pub mod Areas
 pub mod Calls
 pub mod Serving
+-- Passed on to the crates above.
+pub use Rattle.tidy_rules.specs as tidy_rules

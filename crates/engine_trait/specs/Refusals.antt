@@ -4,21 +4,15 @@ use Rattle.map_model.specs.declared.call.Call.{Call}
 use Rattle.map_model.specs.declared.call.Call.TheVariants as call
 use Rattle.map_model.specs.declared.call.Refusal.{Refusal}
 use Rattle.map_model.specs.declared.call.Refusal.TheVariants.{ClockSpent, Conflict, InTransaction, LogFull, NoPages, NoTransaction, RowSpent, TooLong, TooTall}
-use Rattle.page_model.specs.Check.{some_below}
 use Rattle.page_model.specs.Limits.{transaction_changes}
-use Rattle.page_model.specs.Nodes.{holds}
-use Rattle.page_model.specs.Redo.{has_key}
 use Rattle.disk_runs.specs.core_state.Openings.{Opening}
 use Rattle.disk_runs.specs.core_state.States.{State, nodes_of}
 use Rattle.disk_runs.specs.core_state.Events.{Mode}
 use Rattle.disk_runs.specs.core_state.Needs.{may_hold}
 use Rattle.disk_runs.specs.core_state.Steps.{at_row}
 use Rattle.core_calls.specs.Room.{free_list, is_all_full, room_takes}
+pub use Rattle.tidy_rules.specs.Growth.{is_full_for}
 use Rattle.disk_runs.specs.worker_log.Logs.{Log, limit, used}
-
--- the leaf with the key in its fences has no room, and has not the key
-abbrev pub is_full_for : Opening → State → ℕ → Bool
-is_full_for g s k = some_below g.format.pages (λ p. holds (s.page p).node k && ((length (s.page p).node.pairs == g.format.room) && not (has_key k (s.page p).node)))
 
 -- room for the key would take one level more than there can be, or more pages than are free
 abbrev pub room_refusal : Opening → State → ℕ → Option Refusal

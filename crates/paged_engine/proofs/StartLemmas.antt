@@ -163,6 +163,7 @@ module _ (laws : Laws) (b : Begun) where
     high = high;
     most = b.few_workers;
     few = let l = b.few_locks in omega arith;
+    few_pages = let e = long in let l = b.few_pages in omega arith;
   }
 
   -- ## The run

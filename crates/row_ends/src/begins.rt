@@ -23,8 +23,8 @@ impl Names for Beginning {
     ghost names = { λ s n. Begin s.own (min s.least n) ∷ [] };
 }
 
-// The least number up to which the first logs, so many, are flushed; the greatest number there is, where they are none.
-pub(crate) fn least_flushed<R: Rows>(rows: &mut R, seat: &mut R::Seat, count: u32) -> u64
+/// The least number up to which the first logs, so many, are flushed; the greatest number there is, where they are none.
+pub fn least_flushed<R: Rows>(rows: &mut R, seat: &mut R::Seat, count: u32) -> u64
     requires fits { R.fits rows.old seat.old }
     requires count { count ≤ (R.shape rows.old).sizes.workers }
     requires few { count ≤ most_sessions }

@@ -12,7 +12,7 @@ mod latching;
 mod tests;
 
 pub use aborts::end_abort;
-pub use begins::begin_tested;
+pub use begins::{begin_tested, least_flushed};
 pub use commits::commit_tested;
 pub use ending::Ended;
 pub use tests::{abort_refusal, begin_refusal, call_refusal, log_refusal};

@@ -34,9 +34,9 @@ use Rattle.btree_smo.specs.Outcomes.{Caused, Drew, IsHotIn, IsUndisturbed, Misse
 use Rattle.btree_smo.specs.declared.outcome.Outcome.{Outcome}
 use Rattle.btree_smo.specs.declared.outcome.Outcome.TheVariants as outcome
 use Rattle.tidy_rules.specs.Laws.{EveryFreed, put_in}
-use Rattle.row_tidying.specs.Changes.{CanDrop, MayTidy}
-use Rattle.row_tidying.specs.Ends.{IsExpected, answer_of, session_after}
-use Rattle.row_tidying.specs.Outcomes.{Drops, IsDropped, Leaves}
+use Rattle.row_tidying.specs.Changes.{IsMade, CanDrop, MayTidy}
+use Rattle.row_tidying.specs.Ends.{HasRoomFor, IsExpected, answer_of, session_after}
+use Rattle.row_tidying.specs.Outcomes.{Drops, IsDropped}
 use Rattle.row_tidying.proofs.MadeLemmas.{Told, holds_made, holds_same, hot_in, is_made, met, missed_core, now_is, one_in, sound, spent_within, told_changed, was_then}
 use Rattle.row_tidying.proofs.EndLemmas.{not_full, not_spent}
 
@@ -47,7 +47,7 @@ single_named v (x ∷ []) c live inner q e =
     (record { child = x.word; low = x.key; high = v.high }, record { live = live; inner = inner; has = subst (λ (ys : List Pair). Has (record { child = x.word; low = x.key; high = v.high }) (spans ys v.high)) (sym q) (inl refl) }, eqb-true x.word c (and_parts (x.word == c) true e).0)
 single_named v (x ∷ y ∷ ys) c live inner q e = absurd (true≢false (sym (and_parts (x.word == c) false e).1))
 
-module _ (free : EveryFreed) (z : Shape) (v w : View) (x y : Session) (log log_now : Log) (h : Holds z v x log) (f : MayTidy v x log) (fits : HaveRoom v) (frame page : ℕ) (can : CanDrop v frame page)
+module _ (free : EveryFreed) (z : Shape) (v w : View) (x y : Session) (log log_now : Log) (h : Holds z v x log) (f : MayTidy x log) (fits : HaveRoom v) (frame page : ℕ) (can : CanDrop v frame page)
     (rs now : List Record) (old new : Story) (S same : Type 0) (f0 f1 : ℕ) where
   abbrev g : Opening
   g = opening v.given
@@ -127,40 +127,57 @@ module _ (free : EveryFreed) (z : Shape) (v w : View) (x y : Session) (log log_n
           (holds_made z v w x log h f Kind.Drop refl (Drop x.own l.page) [] (0 ∷ l.page ∷ []) (drop_record (nodes_of s) (gsns_of s) l.page) (drop_entry x.own l.page) rs now y log_now told refl refl refl
           old new S f0 f1 held st last (put_in page x.free) freed_is)
 
-      pub is_dropped : IsDropped frame page v w x y log log_now old new
-      is_dropped = subst (λ k. IsDropped frame k v w x y log log_now old new) here (record {
+      pub is_dropped : IsDropped frame page v w x (record y { free = put_in page y.free }) log log_now old new
+      is_dropped = subst (λ k. IsDropped frame k v w x (record y { free = put_in k y.free }) log log_now old new) here (record {
         stands = ap s.place here ∙ can.stands;
-        made = is_made z v w x log h f Kind.Drop refl (Drop x.own l.page) [] (0 ∷ l.page ∷ []) (drop_record (nodes_of s) (gsns_of s) l.page) (drop_entry x.own l.page) rs now y log_now told refl refl refl
-            old new S f0 f1 held st last;
+        made = freed_as (is_made z v w x log h f Kind.Drop refl (Drop x.own l.page) [] (0 ∷ l.page ∷ []) (drop_record (nodes_of s) (gsns_of s) l.page) (drop_entry x.own l.page) rs now y log_now told refl refl refl
+            old new S f0 f1 held st last (put_in l.page x.free));
       })
+        where
+          freed_as : IsMade (Drop x.own l.page) [] (put_in l.page x.free) v w x (record y { free = put_in l.page x.free }) log log_now old new → IsMade (Drop x.own l.page) [] (put_in l.page x.free) v w x (record y { free = put_in l.page y.free }) log log_now old new
+          freed_as = subst (λ (f : List ℕ). IsMade (Drop x.own l.page) [] (put_in l.page x.free) v w x (record y { free = put_in l.page f }) log log_now old new) (sym (ap (λ (k : Session). k.free) st.session))
 
   module _ (low : EveryLow) (are : AreLow (length w.seen) w.steps) (held : w.held ≡ []) where
     drop_made : (same_now broken : Type 0) (o : Outcome) → IsExpected o → Drops_as o → Draws o → Caused v o w → log_now.last ≡ last_after o log.last y.clock.clock
         → ((row : ℕ) → o ≡ outcome.RowSpent row → same → same_now) → ((why : Unstaged) → o ≡ outcome.Unstaged why → broken)
-        → Drops (answer_of o page) frame page v w x (session_after o y) log log_now old new same_now broken
+        → Drops (answer_of o page) frame page v w x (session_after o page y) log log_now old new same_now broken
     drop_made same_now broken outcome.Done t r k c last to off = (refl, is_dropped r held k last)
     drop_made same_now broken (outcome.RowSpent row) t r k c last to off = (spent_within low 8 z.alone v w row h.alone are r c, to row refl k)
     drop_made same_now broken (outcome.Unstaged DiskFault) t r k c last to off = (k.came, off DiskFault refl)
     drop_made same_now broken _ t r k c last to off = absurd t
 
-    drop_left : (same → y ≡ x) → (same → log_now ≡ log) → (o : Outcome) → IsExpected o → Drops_as o → Draws o → log_now.last ≡ last_after o log.last y.clock.clock → Leaves (answer_of o page) z w (session_after o y) log_now
-    drop_left sx sl outcome.Done t r k last = drop_leaves_on r held k last
-    drop_left sx sl (outcome.RowSpent row) t r k last = λ works.
+    drop_left : (same → y ≡ x) → (same → log_now ≡ log) → (o : Outcome) → IsExpected o → Drops_as o → Draws o → log_now.last ≡ last_after o log.last y.clock.clock → (session_after o page y).works ≡ true → Holds z w (session_after o page y) log_now
+    drop_left sx sl outcome.Done t r k last works = drop_leaves_on r held k last
+    drop_left sx sl (outcome.RowSpent row) t r k last works =
         subst (λ i. Holds z w i log_now) (sym (sx k)) (subst (λ i. Holds z w x i) (sym (sl k)) (holds_same z v w x log r.ran.given (missed_core 8 z.alone v w h.alone r) held h))
-    drop_left sx sl (outcome.Unstaged DiskFault) t r k last = λ works. absurd (true≢false (sym works))
-    drop_left sx sl _ t r k last = absurd t
+    drop_left sx sl (outcome.Unstaged DiskFault) t r k last works = absurd (true≢false (sym works))
+    drop_left sx sl _ t r k last works = absurd t
 
     -- as its caller sees it
     pub drop_answered : (same_now broken : Type 0) (o : Outcome) → IsExpected o → Drops_as o → Draws o → Caused v o w → log_now.last ≡ last_after o log.last y.clock.clock
         → ((row : ℕ) → o ≡ outcome.RowSpent row → same → same_now) → ((why : Unstaged) → o ≡ outcome.Unstaged why → broken)
-        → (r : Result ℕ Unserved) (k : Session) → r ≡ answer_of o page → k ≡ session_after o y → Drops r frame page v w x k log log_now old new same_now broken
+        → (r : Result ℕ Unserved) (k : Session) → r ≡ answer_of o page → k ≡ session_after o page y → Drops r frame page v w x k log log_now old new same_now broken
     drop_answered same_now broken o t j k c last to off r n answer after =
         subst (λ (i : Result ℕ Unserved). Drops i frame page v w x n log log_now old new same_now broken) (sym answer)
         (subst (λ (i : Session). Drops (answer_of o page) frame page v w x i log log_now old new same_now broken) (sym after) (drop_made same_now broken o t j k c last to off))
 
-    pub drop_leaves : (same → y ≡ x) → (same → log_now ≡ log) → (o : Outcome) → IsExpected o → Drops_as o → Draws o → log_now.last ≡ last_after o log.last y.clock.clock
-        → (r : Result ℕ Unserved) (k : Session) (n : Shape) → n ≡ z → r ≡ answer_of o page → k ≡ session_after o y → Leaves r n w k log_now
-    drop_leaves sx sl o t j k last r m n shape answer after =
-        subst (λ (i : Shape). Leaves r i w m log_now) (sym shape)
-        (subst (λ (i : Result ℕ Unserved). Leaves i z w m log_now) (sym answer)
-        (subst (λ (i : Session). Leaves (answer_of o page) z w i log_now) (sym after) (drop_left sx sl o t j k last)))
+    pub drop_holds : (same → y ≡ x) → (same → log_now ≡ log) → (o : Outcome) → IsExpected o → Drops_as o → Draws o → log_now.last ≡ last_after o log.last y.clock.clock
+        → (k : Session) (n : Shape) → n ≡ z → k ≡ session_after o page y → k.works ≡ true → Holds n w k log_now
+    drop_holds sx sl o t j k last m n shape after works =
+        subst (λ (i : Shape). Holds i w m log_now) (sym shape)
+        (subst (λ (i : Session). Holds z w i log_now) (sym after) (drop_left sx sl o t j k last (ap (λ (i : Session). i.works) (sym after) ∙ works)))
+
+    -- so there is room for the page
+    pub drop_room : (o : Outcome) → Drops_as o → Draws o → log_now.last ≡ last_after o log.last y.clock.clock → HasRoomFor o y.free
+    drop_room outcome.Done j k last =
+        let few = (drop_leaves_on j held k last).spare in
+        let more = (free g s).one_more page y.free in
+        omega arith
+    drop_room (outcome.Unstaged why) j k last = tt
+    drop_room (outcome.Full row) j k last = tt
+    drop_room outcome.TooTall j k last = tt
+    drop_room (outcome.Stale row) j k last = tt
+    drop_room (outcome.Moved m) j k last = tt
+    drop_room (outcome.Latched l) j k last = tt
+    drop_room (outcome.RowSpent row) j k last = tt
+    drop_room outcome.ClockSpent j k last = tt

@@ -32,11 +32,11 @@ use Rattle.row_tidying.specs.declared.purges.Cleared.{Cleared}
 use Rattle.row_tidying.specs.declared.purges.Cleared.TheVariants as cleared
 
 -- the number of no page is the last one
-pub not_spent : (z : Shape) (v w : View) (x : Session) (log : Log) → Holds z v x log → HaveRoom v → MayTidy v x log → (row : ℕ) → IsSpentIn w.given (state v) row → ⊥
+pub not_spent : (z : Shape) (v w : View) (x : Session) (log : Log) → Holds z v x log → HaveRoom v → MayTidy x log → (row : ℕ) → IsSpentIn w.given (state v) row → ⊥
 not_spent z v w x log h fits f row t = let a = t.spent in let b = low_page z v x log h fits f.is_open t.page in omega arith
 
 -- the log had a block, and be it one that is kept back
-pub not_full : (v : View) (x y : Session) (log log_now : Log) (rs now : List Record) (old new : Story) (S : Type 0) (f0 f1 used limit : ℕ) → MayTidy v x log → Staging (Err (LogFull used limit)) x y rs now log log_now old new S f0 f1 → ⊥
+pub not_full : (v : View) (x y : Session) (log log_now : Log) (rs now : List Record) (old new : Story) (S : Type 0) (f0 f1 used limit : ℕ) → MayTidy x log → Staging (Err (LogFull used limit)) x y rs now log log_now old new S f0 f1 → ⊥
 not_full v x y log log_now rs now old new S f0 f1 used limit f st = let a = st.came.full in let b = room_to_end log 1 f.room in omega arith
 
 -- ## Faults
@@ -81,10 +81,10 @@ module _ (x y : Session) (rs now : List Record) (log log_now : Log) (old new : S
   -- ## The session
 
   -- it is the same session, whatever came of it
-  pub session_kept : (same → y ≡ x) → (o : Outcome) → Drew o (λ r. Staging r x y rs now log log_now old new S f0 f1) same → (k : Session) → k ≡ session_after o y → IsSameSession x k
-  session_kept sx outcome.Done d k e = same_then x y k (same_by_clock x y d.session) (ap (λ (s : Session). s.own) e, ap (λ (s : Session). s.workers) e, ap (λ (s : Session). s.group) e)
-  session_kept sx (outcome.Unstaged why) d k e = same_then x y k (same_by_clock x y d.session) (ap (λ (s : Session). s.own) e, ap (λ (s : Session). s.workers) e, ap (λ (s : Session). s.group) e)
-  session_kept sx _ d k e = let q = e ∙ sx d in (ap (λ (s : Session). s.own) q, ap (λ (s : Session). s.workers) q, ap (λ (s : Session). s.group) q)
+  pub session_kept : (same → y ≡ x) → (page : ℕ) (o : Outcome) → Drew o (λ r. Staging r x y rs now log log_now old new S f0 f1) same → (k : Session) → k ≡ session_after o page y → IsSameSession x k
+  session_kept sx page outcome.Done d k e = same_then x y k (same_by_clock x y d.session) (ap (λ (s : Session). s.own) e, ap (λ (s : Session). s.workers) e, ap (λ (s : Session). s.group) e)
+  session_kept sx page (outcome.Unstaged why) d k e = same_then x y k (same_by_clock x y d.session) (ap (λ (s : Session). s.own) e, ap (λ (s : Session). s.workers) e, ap (λ (s : Session). s.group) e)
+  session_kept sx page _ d k e = let q = e ∙ sx d in (ap (λ (s : Session). s.own) q, ap (λ (s : Session). s.workers) q, ap (λ (s : Session). s.group) q)
 
   pub session_spared : (same → y ≡ x) → (o : Purged) → DrewOf o (λ r. Staging r x y rs now log log_now old new S f0 f1) same → (k : Session) → k ≡ session_behind o y → IsSameSession x k
   session_spared sx purged.Done d k e = same_then x y k (same_by_clock x y d.session) (ap (λ (s : Session). s.own) e, ap (λ (s : Session). s.workers) e, ap (λ (s : Session). s.group) e)
@@ -92,7 +92,7 @@ module _ (x y : Session) (rs now : List Record) (log log_now : Log) (old new : S
   session_spared sx _ d k e = let q = e ∙ sx d in (ap (λ (s : Session). s.own) q, ap (λ (s : Session). s.workers) q, ap (λ (s : Session). s.group) q)
 
   -- and whether it works is told
-  pub works_told : (same → y ≡ x) → x.works ≡ true → (page : ℕ) (o : Outcome) → IsExpected o → Drew o (λ r. Staging r x y rs now log log_now old new S f0 f1) same → (session_after o y).works ≡ works_after (answer_of o page)
+  pub works_told : (same → y ≡ x) → x.works ≡ true → (page : ℕ) (o : Outcome) → IsExpected o → Drew o (λ r. Staging r x y rs now log log_now old new S f0 f1) same → (session_after o page y).works ≡ works_after (answer_of o page)
   works_told sx on page outcome.Done t d = ap (λ (s : Session). s.works) d.session ∙ on
   works_told sx on page (outcome.RowSpent row) t d = ap (λ (s : Session). s.works) (sx d) ∙ on
   works_told sx on page (outcome.Unstaged DiskFault) t d = refl

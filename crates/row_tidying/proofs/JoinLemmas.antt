@@ -38,9 +38,9 @@ use Rattle.btree_smo.specs.Outcomes.{Caused, Drew, IsHotIn, IsUndisturbed, Misse
 use Rattle.btree_smo.specs.declared.outcome.Outcome.{Outcome}
 use Rattle.btree_smo.specs.declared.outcome.Outcome.TheVariants as outcome
 use Rattle.tidy_rules.specs.Laws.{EveryFreed, put_in}
-use Rattle.row_tidying.specs.Changes.{CanJoin, MayTidy}
-use Rattle.row_tidying.specs.Ends.{IsExpected, answer_of, session_after}
-use Rattle.row_tidying.specs.Outcomes.{IsJoined, Joins, Leaves}
+use Rattle.row_tidying.specs.Changes.{IsMade, CanJoin, MayTidy}
+use Rattle.row_tidying.specs.Ends.{HasRoomFor, IsExpected, answer_of, session_after}
+use Rattle.row_tidying.specs.Outcomes.{IsJoined, Joins}
 use Rattle.row_tidying.proofs.MadeLemmas.{Told, holds_made, holds_same, hot_in, is_made, met, missed_core, now_is, one_in, sound, spent_within, told_changed, was_then}
 use Rattle.row_tidying.proofs.EndLemmas.{not_full, not_spent}
 
@@ -60,7 +60,7 @@ beside g n l r q m =
     let p4 = and_parts ((n l).high == (n r).low) (leb (length (n l).pairs + length (n r).pairs) g.joined) p3.1 in
     record { below = ltb-true q g.format.pages p1.0; names_left = p2.0; names_right = p3.0; meet = eqb-true (n l).high (n r).low p4.0; room = leb-true (length (n l).pairs + length (n r).pairs) g.joined p4.1 }
 
-module _ (free : EveryFreed) (z : Shape) (v w : View) (x y : Session) (log log_now : Log) (h : Holds z v x log) (f : MayTidy v x log) (fits : HaveRoom v) (a b d page : ℕ) (can : CanJoin v a b d page)
+module _ (free : EveryFreed) (z : Shape) (v w : View) (x y : Session) (log log_now : Log) (h : Holds z v x log) (f : MayTidy x log) (fits : HaveRoom v) (a b d page : ℕ) (can : CanJoin v a b d page)
     (rs now : List Record) (old new : Story) (S same : Type 0) (f0 f1 : ℕ) where
   abbrev g : Opening
   g = opening v.given
@@ -193,44 +193,61 @@ module _ (free : EveryFreed) (z : Shape) (v w : View) (x y : Session) (log log_n
           (holds_made z v w x log h f Kind.Join refl (Join x.own l.left l.right l.parent) [] (l.left ∷ l.right ∷ l.parent ∷ []) (join_record (nodes_of s) (gsns_of s) l.left l.right l.parent) (join_entry x.own l.left l.right l.parent) rs now y log_now told refl refl refl
           old new S f0 f1 held st last (put_in page x.free) freed_is)
 
-      pub is_joined : IsJoined a b d page v w x y log log_now old new
-      is_joined = subst (λ k. IsJoined a b d k v w x y log log_now old new) right_is (record {
+      pub is_joined : IsJoined a b d page v w x (record y { free = put_in page y.free }) log log_now old new
+      is_joined = subst (λ k. IsJoined a b d k v w x (record y { free = put_in k y.free }) log log_now old new) right_is (record {
         left = l.left;
         parent = l.parent;
         left_stands = ap s.place left_here ∙ can.left_stands;
         right_stands = ap s.place right_is ∙ can.right_stands;
         parent_stands = ap s.place parent_here ∙ can.parent_stands;
-        made = is_made z v w x log h f Kind.Join refl (Join x.own l.left l.right l.parent) [] (l.left ∷ l.right ∷ l.parent ∷ []) (join_record (nodes_of s) (gsns_of s) l.left l.right l.parent) (join_entry x.own l.left l.right l.parent) rs now y log_now told refl refl refl
-            old new S f0 f1 held st last;
+        made = freed_as (is_made z v w x log h f Kind.Join refl (Join x.own l.left l.right l.parent) [] (l.left ∷ l.right ∷ l.parent ∷ []) (join_record (nodes_of s) (gsns_of s) l.left l.right l.parent) (join_entry x.own l.left l.right l.parent) rs now y log_now told refl refl refl
+            old new S f0 f1 held st last (put_in l.right x.free));
       })
+        where
+          freed_as : IsMade (Join x.own l.left l.right l.parent) [] (put_in l.right x.free) v w x (record y { free = put_in l.right x.free }) log log_now old new → IsMade (Join x.own l.left l.right l.parent) [] (put_in l.right x.free) v w x (record y { free = put_in l.right y.free }) log log_now old new
+          freed_as = subst (λ (f : List ℕ). IsMade (Join x.own l.left l.right l.parent) [] (put_in l.right x.free) v w x (record y { free = put_in l.right f }) log log_now old new) (sym (ap (λ (k : Session). k.free) st.session))
 
   module _ (low : EveryLow) (are : AreLow (length w.seen) w.steps) (held : w.held ≡ []) where
     join_made : (same_now broken : Type 0) (o : Outcome) → IsExpected o → Joins_as o → Draws o → Caused v o w → log_now.last ≡ last_after o log.last y.clock.clock
         → ((row : ℕ) → o ≡ outcome.RowSpent row → same → same_now) → ((why : Unstaged) → o ≡ outcome.Unstaged why → broken)
-        → Joins (answer_of o page) a b d page v w x (session_after o y) log log_now old new same_now broken
+        → Joins (answer_of o page) a b d page v w x (session_after o page y) log log_now old new same_now broken
     join_made same_now broken outcome.Done t r k c last to off = (refl, is_joined r held k last)
     join_made same_now broken (outcome.RowSpent row) t r k c last to off = (spent_within low 8 z.alone v w row h.alone are r c, to row refl k)
     join_made same_now broken (outcome.Unstaged DiskFault) t r k c last to off = (k.came, off DiskFault refl)
     join_made same_now broken _ t r k c last to off = absurd t
 
-    join_left : (same → y ≡ x) → (same → log_now ≡ log) → (o : Outcome) → IsExpected o → Joins_as o → Draws o → log_now.last ≡ last_after o log.last y.clock.clock → Leaves (answer_of o page) z w (session_after o y) log_now
-    join_left sx sl outcome.Done t r k last = join_leaves_on r held k last
-    join_left sx sl (outcome.RowSpent row) t r k last = λ works.
+    join_left : (same → y ≡ x) → (same → log_now ≡ log) → (o : Outcome) → IsExpected o → Joins_as o → Draws o → log_now.last ≡ last_after o log.last y.clock.clock → (session_after o page y).works ≡ true → Holds z w (session_after o page y) log_now
+    join_left sx sl outcome.Done t r k last works = join_leaves_on r held k last
+    join_left sx sl (outcome.RowSpent row) t r k last works =
         subst (λ i. Holds z w i log_now) (sym (sx k)) (subst (λ i. Holds z w x i) (sym (sl k)) (holds_same z v w x log r.ran.given (missed_core 8 z.alone v w h.alone r) held h))
-    join_left sx sl (outcome.Unstaged DiskFault) t r k last = λ works. absurd (true≢false (sym works))
-    join_left sx sl _ t r k last = absurd t
+    join_left sx sl (outcome.Unstaged DiskFault) t r k last works = absurd (true≢false (sym works))
+    join_left sx sl _ t r k last works = absurd t
 
     -- as its caller sees it
     pub join_answered : (same_now broken : Type 0) (o : Outcome) → IsExpected o → Joins_as o → Draws o → Caused v o w → log_now.last ≡ last_after o log.last y.clock.clock
         → ((row : ℕ) → o ≡ outcome.RowSpent row → same → same_now) → ((why : Unstaged) → o ≡ outcome.Unstaged why → broken)
-        → (r : Result ℕ Unserved) (k : Session) → r ≡ answer_of o page → k ≡ session_after o y → Joins r a b d page v w x k log log_now old new same_now broken
+        → (r : Result ℕ Unserved) (k : Session) → r ≡ answer_of o page → k ≡ session_after o page y → Joins r a b d page v w x k log log_now old new same_now broken
     join_answered same_now broken o t j k c last to off r n answer after =
         subst (λ (i : Result ℕ Unserved). Joins i a b d page v w x n log log_now old new same_now broken) (sym answer)
         (subst (λ (i : Session). Joins (answer_of o page) a b d page v w x i log log_now old new same_now broken) (sym after) (join_made same_now broken o t j k c last to off))
 
-    pub join_leaves : (same → y ≡ x) → (same → log_now ≡ log) → (o : Outcome) → IsExpected o → Joins_as o → Draws o → log_now.last ≡ last_after o log.last y.clock.clock
-        → (r : Result ℕ Unserved) (k : Session) (n : Shape) → n ≡ z → r ≡ answer_of o page → k ≡ session_after o y → Leaves r n w k log_now
-    join_leaves sx sl o t j k last r m n shape answer after =
-        subst (λ (i : Shape). Leaves r i w m log_now) (sym shape)
-        (subst (λ (i : Result ℕ Unserved). Leaves i z w m log_now) (sym answer)
-        (subst (λ (i : Session). Leaves (answer_of o page) z w i log_now) (sym after) (join_left sx sl o t j k last)))
+    pub join_holds : (same → y ≡ x) → (same → log_now ≡ log) → (o : Outcome) → IsExpected o → Joins_as o → Draws o → log_now.last ≡ last_after o log.last y.clock.clock
+        → (k : Session) (n : Shape) → n ≡ z → k ≡ session_after o page y → k.works ≡ true → Holds n w k log_now
+    join_holds sx sl o t j k last m n shape after works =
+        subst (λ (i : Shape). Holds i w m log_now) (sym shape)
+        (subst (λ (i : Session). Holds z w i log_now) (sym after) (join_left sx sl o t j k last (ap (λ (i : Session). i.works) (sym after) ∙ works)))
+
+    -- so there is room for the page
+    pub join_room : (o : Outcome) → Joins_as o → Draws o → log_now.last ≡ last_after o log.last y.clock.clock → HasRoomFor o y.free
+    join_room outcome.Done j k last =
+        let few = (join_leaves_on j held k last).spare in
+        let more = (free g s).one_more page y.free in
+        omega arith
+    join_room (outcome.Unstaged why) j k last = tt
+    join_room (outcome.Full row) j k last = tt
+    join_room outcome.TooTall j k last = tt
+    join_room (outcome.Stale row) j k last = tt
+    join_room (outcome.Moved m) j k last = tt
+    join_room (outcome.Latched l) j k last = tt
+    join_room (outcome.RowSpent row) j k last = tt
+    join_room outcome.ClockSpent j k last = tt

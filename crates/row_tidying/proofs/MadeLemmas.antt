@@ -178,7 +178,7 @@ module _ (g : Opening) (s : State) (own : ℕ) (kind : Kind) (ps : List ℕ) (ma
 
 -- ## Behind a change
 
-module _ (z : Shape) (v w : View) (x : Session) (log : Log) (h : Holds z v x log) (f : MayTidy v x log) (kind : Kind) (no_commit : is_commit kind ≡ false) (e : Event) (misses : List Event) (ps : List ℕ) (made : records.Record) (entry_in : State → Entry)
+module _ (z : Shape) (v w : View) (x : Session) (log : Log) (h : Holds z v x log) (f : MayTidy x log) (kind : Kind) (no_commit : is_commit kind ≡ false) (e : Event) (misses : List Event) (ps : List ℕ) (made : records.Record) (entry_in : State → Entry)
     (rs now : List Record) (y : Session) (log_now : Log) (d : Told z.alone x.own e misses entry_in v rs w y.clock now)
     (does : happens (opening v.given) (state v).core (event_of e) ≡ moves (state v).core kind x.own ps made)
     (enters : entry_in (state v).core ≡ page_entry kind (state v).core x.own (at_pages (state v).core x.own ((state v).core.worker x.own) ps) ps made)
@@ -291,7 +291,7 @@ module _ (z : Shape) (v w : View) (x : Session) (log : Log) (h : Holds z v x log
       few_left =
           let n = frees_few (λ p. ((happens (opening v.given) s (event_of e)).page p).node) (opening v.given).format.pages 0 in
           let q = ap (λ (l : List ℕ). length l) left in
-          let k = f.pages in
+          let k = h.rows.few_pages in
           omega arith
 
       after_change : Holds z w u log_now
@@ -322,8 +322,8 @@ module _ (z : Shape) (v w : View) (x : Session) (log : Log) (h : Holds z v x log
         same : st.came.entry ≡ d.staged.0
         same = let told = st.came.told in let staged = d.staged.1 in cc
 
-    pub is_made : IsMade e misses v w x y log log_now old new
-    is_made = record {
+    pub is_made : (free : List ℕ) → IsMade e misses free v w x (record y { free = free }) log log_now old new
+    is_made free = record {
       given = d.ran.given;
       seen = seen_is;
       are_misses = d.are_misses;
@@ -335,7 +335,7 @@ module _ (z : Shape) (v w : View) (x : Session) (log : Log) (h : Holds z v x log
       stands = st.came.stands;
       keeps = st.came.keeps;
       short = st.came.short;
-      session = st.session;
+      session = ap (λ (k : Session). record k { free = free }) st.session;
       stays = ap (λ k. k.place) core_is;
       warm = λ key hot. subst (λ (k : Given). IsWarmFrom (opening k) (state w).core key 0) (sym d.ran.given) (subst (λ k. IsWarmFrom (opening v.given) k key 0) (sym core_is) (warm_moved (opening v.given) s x.own kind ps made hot_pages key hot));
     }

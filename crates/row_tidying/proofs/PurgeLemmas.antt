@@ -46,7 +46,7 @@ keys_same : (g : Opening) (s : State) (xs : List Pair) → purgeable_keys g s xs
 keys_same g s [] = refl
 keys_same g s (x ∷ xs) = λ i. cond ((x.word == g.format.dead) && is_settled g s x.key) (x.key ∷ keys_same g s xs i) (keys_same g s xs i)
 
-module _ (free : EveryFreed) (z : Shape) (v w : View) (x y : Session) (log log_now : Log) (h : Holds z v x log) (f : MayTidy v x log) (fits : HaveRoom v) (frame most : ℕ) (can : CanPurge v frame)
+module _ (free : EveryFreed) (z : Shape) (v w : View) (x y : Session) (log log_now : Log) (h : Holds z v x log) (f : MayTidy x log) (fits : HaveRoom v) (frame most : ℕ) (can : CanPurge v frame)
     (rs now : List Record) (old new : Story) (S same : Type 0) (f0 f1 : ℕ) where
   abbrev g : Opening
   g = opening v.given
@@ -111,9 +111,9 @@ module _ (free : EveryFreed) (z : Shape) (v w : View) (x y : Session) (log log_n
         misses = l.misses;
         few = l.only.1;
         stands = stands_there;
-        made = subst (λ ks. IsMade (Purge x.own l.page ks) l.misses v w x y log log_now old new) keys_are
+        made = subst (λ ks. IsMade (Purge x.own l.page ks) l.misses x.free v w x y log log_now old new) keys_are (subst (λ (f : List ℕ). IsMade (Purge x.own l.page l.keys) l.misses x.free v w x (record y { free = f }) log log_now old new) (sym (ap (λ (k : Session). k.free) st.session))
             (is_made z v w x log h f Kind.Purge refl (Purge x.own l.page l.keys) l.misses (l.page ∷ []) (purge_record (gsns_of s) l.page l.keys) (purge_entry x.own l.page l.keys) rs now y log_now told_is refl refl refl
-            old new S f0 f1 held st last);
+            old new S f0 f1 held st last x.free));
         some = let e = ap (λ (ks : List ℕ). length ks) keys_are in let k = l.some in omega arith;
         left = let e = ap (λ (ks : List ℕ). length ks) keys_are in let k = l.left in let q = ap (λ m. length (m.core.page l.page).node.pairs) then_is in omega arith;
       }

@@ -26,14 +26,13 @@ use Rattle.btree_smo.specs.Outcomes.{AreMisses}
 
 -- ## What is asked
 
--- No test refuses it, the log has room for its record and for what its session puts back, and there are no more pages than a session may have free.
-pub record MayTidy (v : View) (x : Session) (log : Log) : Type 0 where
+-- no test refuses it, and the log has room for its record and for what its session puts back
+pub record MayTidy (x : Session) (log : Log) : Type 0 where
   pub works : x.works ≡ true
   pub is_open : x.is_open ≡ true
   pub whole : x.is_half_aborted ≡ false
   pub small : x.clock.clock < 2 ^ 62
   pub room : HasRoomToStage log 1
-  pub pages : (opening v.given).format.pages ≤ 2 ^ 16
 
 -- a leaf stands hot in the frame
 pub record CanPurge (v : View) (frame : ℕ) : Type 0 where
@@ -57,9 +56,9 @@ pub record CanDrop (v : View) (frame page : ℕ) : Type 0 where
 
 -- ## What was done
 
--- The event was seen next, and misses behind it, and the core is as it makes it. Its record was staged, and of the session its clock and its debt have
--- risen. No page is moved, and each way that was hot is so still.
-pub record IsMade (e : Event) (misses : List Event) (v w : View) (x y : Session) (was is : Log) (old new : Story) : Type 0 where
+-- The event was seen next, and misses behind it, and the core is as it makes it. Its record was staged; of the session its clock and its debt have
+-- risen, and these pages are free. No page is moved, and each way that was hot is so still.
+pub record IsMade (e : Event) (misses : List Event) (free : List ℕ) (v w : View) (x y : Session) (was is : Log) (old new : Story) : Type 0 where
   pub given : w.given ≡ v.given
   pub seen : w.seen ≡ v.seen ++ e ∷ misses
   pub are_misses : AreMisses misses
@@ -71,6 +70,6 @@ pub record IsMade (e : Event) (misses : List Event) (v w : View) (x y : Session)
   pub stands : StagesOn x.own entry was is old new
   pub keeps : KeepsLog x.own was old new
   pub short : length (records_text (entry ∷ [])) ≤ 1031
-  pub session : y ≡ record x { clock = risen x.clock y.clock }
+  pub session : y ≡ record x { clock = risen x.clock y.clock; free = free }
   pub stays : (state w).core.place ≡ (state v).core.place
   pub warm : (key : ℕ) → IsWarm v key → IsWarm w key

@@ -1,11 +1,12 @@
 -- How a change of the tree ends where it can be made, nobody else steps and the log has a block, and what is answered then.
-use Rattle.std.specs.Prelude.{ℕ, false, Result, Ok, Err}
+use Rattle.std.specs.Prelude.{◌<◌, ◌^◌, ℕ, false, List, length, Result, Ok, Err}
 use Rattle.map_model.specs.declared.call.Refusal.TheVariants as refusal
 use Rattle.session_state.specs.engine_trait.declared.unserved.Unanswered.TheVariants as unanswered
 use Rattle.session_state.specs.engine_trait.declared.unserved.Unserved.{Unserved}
 use Rattle.session_state.specs.engine_trait.declared.unserved.Unserved.TheVariants as unserved
 use Rattle.session_state.specs.draw_trait.declared.draw.Unstaged.TheVariants.{DiskFault}
 use Rattle.session_state.specs.declared.session.Session.{Session}
+use Rattle.tidy_rules.specs.Laws.{put_in}
 use Rattle.btree_smo.specs.declared.outcome.Outcome.{Outcome}
 use Rattle.btree_smo.specs.declared.outcome.Outcome.TheVariants as outcome
 use Rattle.btree_smo.specs.declared.purge.Purged.{Purged}
@@ -27,10 +28,16 @@ answer_of (outcome.RowSpent row) page = Err (unserved.Refused refusal.RowSpent)
 answer_of (outcome.Unstaged why) page = Err (unserved.Unanswered unanswered.DiskFault)
 answer_of _ page = Ok page
 
+-- where it was made, there is room for one free page more
+abbrev pub HasRoomFor : Outcome → (free : List ℕ) → Type 0
+HasRoomFor outcome.Done free = length free < 2 ^ 16
+HasRoomFor _ free = Unit {0}
+
 -- the session behind it
-abbrev pub session_after : Outcome → Session → Session
-session_after (outcome.Unstaged why) x = record x { works = false }
-session_after _ x = x
+abbrev pub session_after : Outcome → (page : ℕ) → Session → Session
+session_after outcome.Done page x = record x { free = put_in page x.free }
+session_after (outcome.Unstaged why) page x = record x { works = false }
+session_after _ page x = x
 
 -- ## A purge
 

@@ -13,7 +13,6 @@ use Rattle.session_state.specs.row_words.Openings.{opening}
 use Rattle.session_state.specs.rows_trait.declared.view.View.{View}
 use Rattle.session_state.specs.rows_trait.Views.{Shape, state}
 use Rattle.session_state.specs.worker_log.Logs.{Log}
-use Rattle.session_state.specs.Holds.{Holds}
 use Rattle.session_state.specs.Staging.{KeepsLog}
 use Rattle.session_state.specs.declared.session.Session.{Session}
 use Rattle.tidy_rules.specs.Laws.{gone, put_in}
@@ -42,7 +41,7 @@ pub record IsPurged (frame most : ℕ) (v w : View) (x y : Session) (was is : Lo
   pub misses : List Event
   pub few : length misses ≤ 60
   pub stands : (state v).core.place page ≡ Place.Hot frame
-  pub made : IsMade (Purge x.own page (gone (opening v.given) (state v).core page)) misses v w x y was is old new
+  pub made : IsMade (Purge x.own page (gone (opening v.given) (state v).core page)) misses x.free v w x y was is old new
   pub some : 0 < length (gone (opening v.given) (state v).core page)
   pub left : length (nodes_of (state v).core page).pairs ≤ most + length (gone (opening v.given) (state v).core page)
 
@@ -69,14 +68,14 @@ Clears (Err why) frame most v w x y was is old new same broken = ⊥
 
 -- ## A join
 
--- the pages in the frames a and b were joined under the one in the frame d, and the right one, this page, is free
+-- the pages in the frames a and b were joined under the one in the frame d, and the right one, this page, is free then
 pub record IsJoined (a b d page : ℕ) (v w : View) (x y : Session) (was is : Log) (old new : Story) : Type 0 where
   pub left : ℕ
   pub parent : ℕ
   pub left_stands : (state v).core.place left ≡ Place.Hot a
   pub right_stands : (state v).core.place page ≡ Place.Hot b
   pub parent_stands : (state v).core.place parent ≡ Place.Hot d
-  pub made : IsMade (Join x.own left page parent) [] v w x y was is old new
+  pub made : IsMade (Join x.own left page parent) [] (put_in page x.free) v w x y was is old new
 
 abbrev pub Joins : Result ℕ Unserved → (a b d page : ℕ) → (v w : View) → (x y : Session) → (was is : Log) → (old new : Story) → (same broken : Type 0) → Type 0
 Joins (Ok freed) a b d page v w x y was is old new same broken = (freed ≡ page) × IsJoined a b d page v w x y was is old new
@@ -86,20 +85,13 @@ Joins (Err why) a b d page v w x y was is old new same broken = ⊥
 
 -- ## A drop
 
--- the root has what the page in the frame had, and this page is free
+-- the root has what the page in the frame had, and this page is free then
 pub record IsDropped (frame page : ℕ) (v w : View) (x y : Session) (was is : Log) (old new : Story) : Type 0 where
   pub stands : (state v).core.place page ≡ Place.Hot frame
-  pub made : IsMade (Drop x.own page) [] v w x y was is old new
+  pub made : IsMade (Drop x.own page) [] (put_in page x.free) v w x y was is old new
 
 abbrev pub Drops : Result ℕ Unserved → (frame page : ℕ) → (v w : View) → (x y : Session) → (was is : Log) → (old new : Story) → (same broken : Type 0) → Type 0
 Drops (Ok freed) frame page v w x y was is old new same broken = (freed ≡ page) × IsDropped frame page v w x y was is old new
 Drops (Err (unserved.Refused refusal.RowSpent)) frame page v w x y was is old new same broken = IsSpentWithin 8 v w × same
 Drops (Err (unserved.Unanswered unanswered.DiskFault)) frame page v w x y was is old new same broken = KeepsLog x.own was old new × broken
 Drops (Err why) frame page v w x y was is old new same broken = ⊥
-
--- ## What holds behind it
-
--- Where a page was freed, the session has all that an engine has between two calls, but for this page, which it has to put among its free pages.
-abbrev pub Leaves : Result ℕ Unserved → Shape → View → Session → Log → Type 0
-Leaves (Ok page) z w y log = Holds z w (record y { free = put_in page y.free }) log
-Leaves (Err why) z w y log = y.works ≡ true → Holds z w y log

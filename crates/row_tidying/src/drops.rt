@@ -5,15 +5,14 @@ ghost use Rattle.lean_disk.specs.Faults.{HasCause};
 ghost use Rattle.session_state.specs.Holds.{Holds, IsSameSession};
 ghost use Rattle.row_changes.specs.Puts.{works_after};
 ghost use Rattle.row_tidying.specs.Changes.{CanDrop, MayTidy};
-ghost use Rattle.row_tidying.specs.Outcomes.{Drops, Leaves};
+ghost use Rattle.row_tidying.specs.Outcomes.{Drops};
 
 use crate::ends::finish;
 use btree_smo::drop_root::drop_root;
 use session_state::{Rows, Stages, Unserved, Work, next_fits};
 use tidy_rules::every_freed;
 
-/// Puts the contents of the root's one child, `page`, which stands in the frame, into the root. It is answered as the page that is free then, and that
-/// the session has to put among its free pages.
+/// Puts the contents of the root's one child, `page`, which stands in the frame, into the root. It is answered as the page that is free then.
 pub fn drop_child<R: Rows, D: Stages>(
     rows: &mut R,
     seat: &mut R::Seat,
@@ -23,10 +22,10 @@ pub fn drop_child<R: Rows, D: Stages>(
 ) -> Result<u32, Unserved>
     requires fits { R.fits rows.old seat.old }
     requires holds { Holds (R.shape rows.old) (R.view seat.old) work.old.session work.old.log }
-    requires may { MayTidy (R.view seat.old) work.old.session work.old.log }
+    requires may { MayTidy work.old.session work.old.log }
     requires can { CanDrop (R.view seat.old) frame page }
     ensures fits { R.fits rows.new seat.new × (R.shape rows.new ≡ R.shape rows.old) }
-    ensures leaves { Leaves result (R.shape rows.new) (R.view seat.new) work.new.session work.new.log }
+    ensures holds { work.new.session.works ≡ true → Holds (R.shape rows.new) (R.view seat.new) work.new.session work.new.log }
     ensures session { IsSameSession work.old.session work.new.session }
     ensures drops { Drops result frame page (R.view seat.old) (R.view seat.new) work.old.session work.new.session work.old.log work.new.log (D.story work.old.disk) (D.story work.new.disk) (work.new ≡ work.old) (work.new.session.works ≡ false) }
     ensures works { work.new.session.works ≡ works_after result }

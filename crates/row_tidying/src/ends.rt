@@ -1,6 +1,6 @@
 // How a change ends that can be made where nobody else steps.
 ghost use Rattle.std.specs.Prelude.{◌≡◌};
-ghost use Rattle.row_tidying.specs.Ends.{IsExpected, IsExpectedOf, answer_of, cleared_of, session_after, session_behind};
+ghost use Rattle.row_tidying.specs.Ends.{HasRoomFor, IsExpected, IsExpectedOf, answer_of, cleared_of, session_after, session_behind};
 
 use crate::purges::Cleared;
 use btree_smo::outcome::Outcome;
@@ -10,12 +10,16 @@ use session_state::{Session, Unanswered, Unserved, Unstaged};
 
 // Answers what came of a join or a drop that frees this page.
 pub(crate) fn finish(session: &mut Session, outcome: Outcome, page: u32) -> Result<u32, Unserved>
-    requires { IsExpected outcome }
+    requires expected { IsExpected outcome }
+    requires room { HasRoomFor outcome session.old.free }
     ensures answer { result ≡ answer_of outcome page }
-    ensures after { session.new ≡ session_after outcome session.old }
+    ensures after { session.new ≡ session_after outcome page session.old }
 {
     match outcome {
-        Outcome::Done => Ok(page),
+        Outcome::Done => {
+            session.free.put(page);
+            Ok(page)
+        }
         Outcome::RowSpent { row: _ } => Err(Unserved::Refused(Refusal::RowSpent)),
         Outcome::Unstaged(Unstaged::DiskFault) => {
             session.works = false;

@@ -5,7 +5,7 @@ ghost use Rattle.lean_disk.specs.Faults.{HasCause};
 ghost use Rattle.session_state.specs.Holds.{Holds, IsSameSession};
 ghost use Rattle.row_changes.specs.Puts.{works_after};
 ghost use Rattle.row_tidying.specs.Changes.{CanJoin, MayTidy};
-ghost use Rattle.row_tidying.specs.Outcomes.{Joins, Leaves};
+ghost use Rattle.row_tidying.specs.Outcomes.{Joins};
 
 use crate::ends::finish;
 use btree_smo::join::join;
@@ -13,7 +13,7 @@ use session_state::{Rows, Stages, Unserved, Work, next_fits};
 use tidy_rules::every_freed;
 
 /// Joins the page in the frame `right`, which is `page`, to its left neighbour, under the one in the frame `parent`. It is answered as the page that
-/// is free then, and that the session has to put among its free pages.
+/// is free then.
 pub fn join_pages<R: Rows, D: Stages>(
     rows: &mut R,
     seat: &mut R::Seat,
@@ -25,10 +25,10 @@ pub fn join_pages<R: Rows, D: Stages>(
 ) -> Result<u32, Unserved>
     requires fits { R.fits rows.old seat.old }
     requires holds { Holds (R.shape rows.old) (R.view seat.old) work.old.session work.old.log }
-    requires may { MayTidy (R.view seat.old) work.old.session work.old.log }
+    requires may { MayTidy work.old.session work.old.log }
     requires can { CanJoin (R.view seat.old) left right parent page }
     ensures fits { R.fits rows.new seat.new × (R.shape rows.new ≡ R.shape rows.old) }
-    ensures leaves { Leaves result (R.shape rows.new) (R.view seat.new) work.new.session work.new.log }
+    ensures holds { work.new.session.works ≡ true → Holds (R.shape rows.new) (R.view seat.new) work.new.session work.new.log }
     ensures session { IsSameSession work.old.session work.new.session }
     ensures joins { Joins result left right parent page (R.view seat.old) (R.view seat.new) work.old.session work.new.session work.old.log work.new.log (D.story work.old.disk) (D.story work.new.disk) (work.new ≡ work.old) (work.new.session.works ≡ false) }
     ensures works { work.new.session.works ≡ works_after result }

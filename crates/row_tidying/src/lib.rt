@@ -6,6 +6,7 @@
 
 mod drops;
 mod ends;
+mod floors;
 mod joins;
 mod purges;
 

@@ -9,6 +9,7 @@ ghost use Rattle.row_tidying.specs.Changes.{CanPurge, MayTidy};
 ghost use Rattle.row_tidying.specs.Outcomes.{Clears};
 
 use crate::ends::finish_purge;
+use crate::floors::floor_of;
 use btree_smo::purge::purge;
 use session_state::{Rows, Stages, Unserved, Work, next_fits};
 use tidy_rules::every_freed;
@@ -22,9 +23,8 @@ pub enum Cleared {
     Spared { left: usize },
 }
 
-/// Purges the tombstones that nobody can need of the leaf in the frame, with one record, where at most so many entries are left then. `floor` is
-/// the least flushed number.
-pub fn purge_leaf<R: Rows, D: Stages>(
+// Purges the tombstones that nobody can need of the leaf in the frame, where `floor` is the least flushed number.
+fn purge_up_to<R: Rows, D: Stages>(
     rows: &mut R,
     seat: &mut R::Seat,
     work: &mut Work<D>,
@@ -34,7 +34,7 @@ pub fn purge_leaf<R: Rows, D: Stages>(
 ) -> Result<Cleared, Unserved>
     requires fits { R.fits rows.old seat.old }
     requires holds { Holds (R.shape rows.old) (R.view seat.old) work.old.session work.old.log }
-    requires may { MayTidy (R.view seat.old) work.old.session work.old.log }
+    requires may { MayTidy work.old.session work.old.log }
     requires floor { IsFloor (R.shape rows.old) (R.view seat.old) floor }
     requires can { CanPurge (R.view seat.old) frame }
     ensures fits { R.fits rows.new seat.new × (R.shape rows.new ≡ R.shape rows.old) }
@@ -62,4 +62,27 @@ pub fn purge_leaf<R: Rows, D: Stages>(
     );
     rows.versions(seat);
     finish_purge(&mut work.session, purged)
+}
+
+/// Purges the tombstones that nobody can need of the leaf in the frame, with one record, where at most so many entries are left then.
+pub fn purge_leaf<R: Rows, D: Stages>(
+    rows: &mut R,
+    seat: &mut R::Seat,
+    work: &mut Work<D>,
+    frame: u32,
+    most: usize,
+) -> Result<Cleared, Unserved>
+    requires fits { R.fits rows.old seat.old }
+    requires holds { Holds (R.shape rows.old) (R.view seat.old) work.old.session work.old.log }
+    requires may { MayTidy work.old.session work.old.log }
+    requires can { CanPurge (R.view seat.old) frame }
+    ensures fits { R.fits rows.new seat.new × (R.shape rows.new ≡ R.shape rows.old) }
+    ensures holds { work.new.session.works ≡ true → Holds (R.shape rows.new) (R.view seat.new) work.new.session work.new.log }
+    ensures session { IsSameSession work.old.session work.new.session }
+    ensures clears { Clears result frame most (R.view seat.old) (R.view seat.new) work.old.session work.new.session work.old.log work.new.log (D.story work.old.disk) (D.story work.new.disk) (work.new ≡ work.old) (work.new.session.works ≡ false) }
+    ensures works { work.new.session.works ≡ works_after result }
+    ensures cause_disk_fault { HasCause (D.faults work.old.disk) (D.faults work.new.disk) (result ≡ Err disk_fault) }
+{
+    let floor = floor_of(rows, seat, &work.session, &work.log);
+    purge_up_to(rows, seat, work, frame, floor, most)
 }

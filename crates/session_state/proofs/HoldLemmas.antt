@@ -1,5 +1,5 @@
 -- What is so between two calls, where rows, views and sessions are the same.
-use Rattle.std.proofs.Common.{◌≡◌, ◌≤◌, ℕ, sym, ap, ◌∙◌, subst}
+use Rattle.std.proofs.Common.{◌≡◌, ◌≤◌, ◌^◌, ℕ, sym, ap, ◌∙◌, subst}
 use Rattle.btree_descent.specs.row_words.Openings.{opening}
 use Rattle.btree_descent.specs.rows_trait.declared.view.View.{View}
 use Rattle.btree_descent.specs.rows_trait.Views.{Shape}
@@ -25,6 +25,7 @@ rows_on z v w own workers frames count e r = record {
   high = r.high;
   most = r.most;
   few = r.few;
+  few_pages = subst (λ k. (opening k).format.pages ≤ 2 ^ 16) (sym e) r.few_pages;
 }
 
 -- as another shape and session, which are the same

@@ -174,6 +174,15 @@ module _ (g : Opening) (s : State) (own u : ℕ) (other : u ≡ own → ⊥) whe
   stays_event (told.Lift w c) is need =
       let e = happening.Event.Lift w c in
       enters (happens g s e) (kept e (not_of w is) refl) refl refl (core.page_entry Kind.Lift s w (core.at_pages s w (s.worker w) (0 ∷ c ∷ [])) (0 ∷ c ∷ []) (page_needs.lift_record (nodes_of s) (gsns_of s) c)) refl refl
+  stays_event (told.Join w l r q) is need =
+      let e = happening.Event.Join w l r q in
+      enters (happens g s e) (kept e (not_of w is) refl) refl refl (core.page_entry Kind.Join s w (core.at_pages s w (s.worker w) (l ∷ r ∷ q ∷ [])) (l ∷ r ∷ q ∷ []) (page_needs.join_record (nodes_of s) (gsns_of s) l r q)) refl refl
+  stays_event (told.Drop w c) is need =
+      let e = happening.Event.Drop w c in
+      enters (happens g s e) (kept e (not_of w is) refl) refl refl (core.page_entry Kind.Drop s w (core.at_pages s w (s.worker w) (0 ∷ c ∷ [])) (0 ∷ c ∷ []) (page_needs.drop_record (nodes_of s) (gsns_of s) c)) refl refl
+  stays_event (told.Purge w p keys) is need =
+      let e = happening.Event.Purge w p keys in
+      enters (happens g s e) (kept e (not_of w is) refl) refl refl (core.page_entry Kind.Purge s w (core.at_pages s w (s.worker w) (p ∷ [])) (p ∷ []) (page_needs.purge_record (gsns_of s) p keys)) refl refl
   stays_event (told.End w commit f) is need =
       let e = happening.Event.End w commit f in
       enters (happens g s e) (kept e (not_of w is) refl) refl refl (end_entry (cond commit Kind.Commit Kind.Abort) w (s.worker w) f) refl (no_commit commit w is)

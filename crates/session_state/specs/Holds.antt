@@ -51,7 +51,7 @@ pub record AreNumbers (x : Session) (log : Log) : Type 0 where
   -- so few of its commits wait for a flush
   pub behind : x.unflushed < x.group
 
--- the rows are those of the opening, with so many workers; the tree, the locks and the entries' numbers are sound at each moment that can come, and numbers
+-- the rows are those of the opening, with so many workers, and of no more pages than a session may have free; the tree, the locks and the entries' numbers are sound at each moment that can come, and numbers
 -- where the rows began
 pub record AreRows (z : Shape) (v : View) (own many frames count : ℕ) : Type 0 where
   pub tree : descents.Sized z v frames
@@ -66,6 +66,7 @@ pub record AreRows (z : Shape) (v : View) (own many frames count : ℕ) : Type 0
   pub high : own ≤ many
   pub most : many ≤ most_sessions
   pub few : count ≤ 2 ^ 16
+  pub few_pages : (opening v.given).format.pages ≤ 2 ^ 16
 
 -- Nobody else steps, and no row is latched. The session is the worker's at the moment that the seat has seen, where its log is flushed as it says, the
 -- lock rows that the worker holds are those that the session has, and so are the free pages. It says nothing of where pages stand,

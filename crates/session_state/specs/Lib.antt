@@ -38,6 +38,7 @@ pub use Rattle.engine_calls.specs.page_store as page_store
 pub use Rattle.engine_calls.specs.run_crashes as run_crashes
 pub use Rattle.engine_calls.specs.worker_log as worker_log
 pub use Rattle.engine_trait.specs as engine_trait
+pub use Rattle.engine_trait.specs.tidy_rules as tidy_rules
 pub use Rattle.flush_avoidance.specs as flush_avoidance
 pub use Rattle.key_locks.specs as key_locks
 pub use Rattle.row_numbers.specs as row_numbers

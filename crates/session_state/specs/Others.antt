@@ -22,6 +22,9 @@ is_of own (told.Change w p k v) = w == own
 is_of own (told.PutBack w p) = w == own
 is_of own (told.Split w l r q i) = w == own
 is_of own (told.Lift w c) = w == own
+is_of own (told.Join w l r q) = w == own
+is_of own (told.Drop w c) = w == own
+is_of own (told.Purge w p keys) = w == own
 is_of own (told.End w commit f) = w == own
 is_of own (told.Unlock w i) = w == own
 is_of own (told.Flush w n) = w == own

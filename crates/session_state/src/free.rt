@@ -1,26 +1,45 @@
 // The pages that are free.
-ghost use Rattle.std.specs.Prelude.{◌≡◌, ◌<◌, ◌^◌, length, IfOk};
+ghost use Rattle.std.specs.Prelude.{◌≡◌, ◌≤◌, ◌<◌, ◌^◌, length, reverse, IfOk};
+ghost use Rattle.std.specs.List.{insert};
 ghost use Rattle.engine_calls.specs.core_calls.Room.{frees_from};
+ghost use Rattle.engine_trait.specs.tidy_rules.Laws.{put_in};
 ghost use Rattle.session_state.specs.Free.{first_of, nodes_in, without_first};
 
 use btree_descent::BtreeNodeNode as Node;
 use std::alloc::{AllocError, Global};
 use std::marker::Model;
 
-/// Free pages in rising order. They are kept the greatest first, so that the least one is taken from the end.
+// For how many free pages there is room, at least: more pages no disk has.
+const ROOM: usize = 1 << 16;
+
+// At which place the page comes among these, the greatest first.
+fn place_of(falling: &[u32], page: u32) -> usize
+    ensures within { result ≤ length falling.now }
+    ensures place { reverse (insert falling.now result page) ≡ put_in page (reverse falling.now) }
+{
+    for n in 0..falling.len() {
+        let place = falling.len() - n;
+        if page < falling[place - 1] {
+            return place;
+        }
+    }
+    0
+}
+
+/// Free pages in rising order. They are kept the greatest first, so that the least one is taken from the end. Room for all is reserved.
 #[derive(Drop)]
 pub struct FreePages {
     falling: Vec<u32>,
 }
 
 impl Model for FreePages {
-    ghost use Rattle.std.specs.Prelude.{reverse, List, ℕ};
+    ghost use Rattle.std.specs.Prelude.{reverse, vec_capacity, List, ℕ, ◌≤◌, ◌^◌};
 
     ghost Value = { List ℕ };
 
     ghost view = { λ f. reverse f.falling.items };
 
-    ghost invariant = { λ f. Unit {0} };
+    ghost invariant = { λ f. 2 ^ 16 ≤ vec_capacity f.falling };
 }
 
 impl FreePages {
@@ -29,7 +48,7 @@ impl FreePages {
         requires few { length pages.now < 2 ^ 32 }
         ensures { IfOk result (λ f. f ≡ frees_from (nodes_in pages.now) (length pages.now) 0) }
     {
-        let mut falling = Vec::with_capacity(alloc, pages.len())?;
+        let mut falling = Vec::with_capacity(alloc, pages.len().max(ROOM))?;
         for n in 0..pages.len() {
             let page = pages.len() - (n + 1);
             if !pages[page].is_live() {
@@ -58,5 +77,18 @@ impl FreePages {
         ensures { self.new ≡ without_first self.old }
     {
         self.falling.pop();
+    }
+
+    /// A page is free again. It takes no memory.
+    pub fn put(&mut self, page: u32)
+        requires room { length self.old < 2 ^ 16 }
+        ensures { self.new ≡ put_in page self.old }
+    {
+        let place = place_of(&self.falling, page);
+        match self.falling.insert(place, page) {
+            Ok(()) => {}
+            // Room is reserved.
+            Err(_) => unreachable!(),
+        }
     }
 }

@@ -15,7 +15,7 @@ use Rattle.core_commit.specs.core_state.Openings.{Opening}
 use Rattle.core_commit.specs.core_state.States.{State, Worker, gsns_of, nodes_of}
 use Rattle.core_commit.specs.core_state.Steps.{at_pages, happens, page_entry}
 use Rattle.core_calls.specs.Room.{full_from, full_run, is_all_full, is_full_at}
-use Rattle.engine_trait.specs.Refusals.{is_full_for}
+use Rattle.tidy_rules.specs.Growth.{is_full_for}
 use Rattle.tidy_rules.specs.Laws.{EveryPurged, IsRoomMade, gone, purged}
 use Rattle.tidy_rules.specs.Purges.{purgeable}
 use Rattle.tidy_rules.specs.Rooms.{IsNextRoom}

@@ -7,7 +7,7 @@ use Rattle.core_commit.specs.core_state.Openings.{Opening}
 use Rattle.core_commit.specs.core_state.States.{State, nodes_of}
 use Rattle.core_commit.specs.core_state.Steps.{happens, step}
 use Rattle.core_calls.specs.Room.{free_list, full_run, room_takes}
-use Rattle.engine_trait.specs.Refusals.{is_full_for}
+use Rattle.tidy_rules.specs.Growth.{is_full_for}
 use Rattle.tidy_rules.specs.Purges.{purgeable}
 use Rattle.tidy_rules.specs.Rooms.{IsNextRoom}
 use Rattle.tidy_rules.specs.Tidying.{Stage, Tidies, behind, next_tidy}

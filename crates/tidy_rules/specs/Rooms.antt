@@ -5,8 +5,8 @@ use Rattle.core_commit.specs.core_state.Events.{Event}
 use Rattle.core_commit.specs.core_state.Openings.{Opening}
 use Rattle.core_commit.specs.core_state.States.{State, nodes_of}
 use Rattle.core_commit.specs.core_state.Steps.{step}
-use Rattle.engine_trait.specs.Refusals.{is_full_for}
-use Rattle.engine_trait.specs.Rooms as growth
+use Rattle.tidy_rules.specs.Growth.{is_full_for}
+use Rattle.tidy_rules.specs.Growth as growth
 use Rattle.tidy_rules.specs.Purges.{purgeable}
 
 -- no tombstone of the key's leaf can go

@@ -8,7 +8,7 @@ use Rattle.row_changes.specs.Puts.{works_after}
 use Rattle.row_tidying.specs.Ends.{session_after}
 use Rattle.row_tidying.proofs.EndLemmas.{faults_told, session_kept, works_told}
 use Rattle.row_tidying.proofs.MadeLemmas.{framed}
-use Rattle.row_tidying.proofs.JoinLemmas.{join_answered, join_expected, join_leaves, left_page, left_parent, page_parent}
+use Rattle.row_tidying.proofs.JoinLemmas.{join_answered, join_expected, join_holds, join_room, left_page, left_parent, page_parent}
 use Rattle.row_tidying.proofs.joins.join_pages.Goals as goal
 
 pub join-outcome-requires-clause-left : goal.join-outcome-requires-clause-left
@@ -20,8 +20,8 @@ join-outcome-requires-clause-right g c = framed (g.R.Rows.shape c.args.rows.now)
 pub join-outcome-requires-clause-parent : goal.join-outcome-requires-clause-parent
 join-outcome-requires-clause-parent g c = framed (g.R.Rows.shape c.args.rows.now) (g.R.Rows.view c.args.seat.now) c.args.work.now.session c.args.work.now.log c.requires.holds c.requires.can.parent c.args.parent c.requires.can.parent_stands
 
-pub finish-requires : goal.finish-requires
-finish-requires g c =
+pub finish-requires-clause-expected : goal.finish-requires-clause-expected
+finish-requires-clause-expected g c =
     let z = g.R.Rows.shape c.args.rows.now in
     let v = g.R.Rows.view c.args.seat.now in
     let w = g.R.Rows.view c.join-outcome.new.seat in
@@ -34,14 +34,26 @@ finish-requires g c =
     c.args.work.now.staged.list c.join-outcome.new.draw.staged.list (g.D.Disk.story c.args.work.now.disk) (g.D.Disk.story c.join-outcome.new.draw.disk) (c.join-outcome.new.draw.disk ≡ c.args.work.now.disk) (c.join-outcome.new.draw ≡ c.args.work.now) (g.D.Disk.faults c.args.work.now.disk) (g.D.Disk.faults c.join-outcome.new.draw.disk)) (page_parent c.every_freed.ensures z v w x y c.args.work.now.log c.join-outcome.new.draw.log c.requires.holds c.requires.may c.next_fits.ensures c.args.left c.args.right c.args.parent c.args.page c.requires.can
     c.args.work.now.staged.list c.join-outcome.new.draw.staged.list (g.D.Disk.story c.args.work.now.disk) (g.D.Disk.story c.join-outcome.new.draw.disk) (c.join-outcome.new.draw.disk ≡ c.args.work.now.disk) (c.join-outcome.new.draw ≡ c.args.work.now) (g.D.Disk.faults c.args.work.now.disk) (g.D.Disk.faults c.join-outcome.new.draw.disk)))
 
-pub returns-clause-leaves : goal.returns-clause-leaves
-returns-clause-leaves g c =
+pub finish-requires-clause-room : goal.finish-requires-clause-room
+finish-requires-clause-room g c =
     let z = g.R.Rows.shape c.args.rows.now in
     let v = g.R.Rows.view c.args.seat.now in
     let w = g.R.Rows.view c.join-outcome.new.seat in
     let x = c.args.work.now.session in
     let y = c.join-outcome.new.draw.session in
-    join_leaves c.every_freed.ensures z v w x y c.args.work.now.log c.join-outcome.new.draw.log c.requires.holds c.requires.may c.next_fits.ensures c.args.left c.args.right c.args.parent c.args.page c.requires.can
+    join_room c.every_freed.ensures z v w x y c.args.work.now.log c.join-outcome.new.draw.log c.requires.holds c.requires.may c.next_fits.ensures c.args.left c.args.right c.args.parent c.args.page c.requires.can
+    c.args.work.now.staged.list c.join-outcome.new.draw.staged.list (g.D.Disk.story c.args.work.now.disk) (g.D.Disk.story c.join-outcome.new.draw.disk) (c.join-outcome.new.draw.disk ≡ c.args.work.now.disk) (c.join-outcome.new.draw ≡ c.args.work.now) (g.D.Disk.faults c.args.work.now.disk) (g.D.Disk.faults c.join-outcome.new.draw.disk)
+    c.every_low.ensures c.versions.ensures.low c.join-outcome.ensures.fits.2
+    c.join-outcome.result c.join-outcome.ensures.merged c.join-outcome.ensures.drew c.join-outcome.ensures.last
+
+pub returns-clause-holds : goal.returns-clause-holds
+returns-clause-holds g c works =
+    let z = g.R.Rows.shape c.args.rows.now in
+    let v = g.R.Rows.view c.args.seat.now in
+    let w = g.R.Rows.view c.join-outcome.new.seat in
+    let x = c.args.work.now.session in
+    let y = c.join-outcome.new.draw.session in
+    join_holds c.every_freed.ensures z v w x y c.args.work.now.log c.join-outcome.new.draw.log c.requires.holds c.requires.may c.next_fits.ensures c.args.left c.args.right c.args.parent c.args.page c.requires.can
     c.args.work.now.staged.list c.join-outcome.new.draw.staged.list (g.D.Disk.story c.args.work.now.disk) (g.D.Disk.story c.join-outcome.new.draw.disk) (c.join-outcome.new.draw.disk ≡ c.args.work.now.disk) (c.join-outcome.new.draw ≡ c.args.work.now) (g.D.Disk.faults c.args.work.now.disk) (g.D.Disk.faults c.join-outcome.new.draw.disk)
     c.every_low.ensures c.versions.ensures.low c.join-outcome.ensures.fits.2
     (λ e. ap (λ k. k.session) e) (λ e. ap (λ k. k.log) e) c.join-outcome.result (join_expected c.every_freed.ensures z v w x y c.args.work.now.log c.join-outcome.new.draw.log c.requires.holds c.requires.may c.next_fits.ensures c.args.left c.args.right c.args.parent c.args.page c.requires.can
@@ -50,7 +62,7 @@ returns-clause-leaves g c =
     c.args.work.now.staged.list c.join-outcome.new.draw.staged.list (g.D.Disk.story c.args.work.now.disk) (g.D.Disk.story c.join-outcome.new.draw.disk) (c.join-outcome.new.draw.disk ≡ c.args.work.now.disk) (c.join-outcome.new.draw ≡ c.args.work.now) (g.D.Disk.faults c.args.work.now.disk) (g.D.Disk.faults c.join-outcome.new.draw.disk)) (left_parent c.every_freed.ensures z v w x y c.args.work.now.log c.join-outcome.new.draw.log c.requires.holds c.requires.may c.next_fits.ensures c.args.left c.args.right c.args.parent c.args.page c.requires.can
     c.args.work.now.staged.list c.join-outcome.new.draw.staged.list (g.D.Disk.story c.args.work.now.disk) (g.D.Disk.story c.join-outcome.new.draw.disk) (c.join-outcome.new.draw.disk ≡ c.args.work.now.disk) (c.join-outcome.new.draw ≡ c.args.work.now) (g.D.Disk.faults c.args.work.now.disk) (g.D.Disk.faults c.join-outcome.new.draw.disk)) (page_parent c.every_freed.ensures z v w x y c.args.work.now.log c.join-outcome.new.draw.log c.requires.holds c.requires.may c.next_fits.ensures c.args.left c.args.right c.args.parent c.args.page c.requires.can
     c.args.work.now.staged.list c.join-outcome.new.draw.staged.list (g.D.Disk.story c.args.work.now.disk) (g.D.Disk.story c.join-outcome.new.draw.disk) (c.join-outcome.new.draw.disk ≡ c.args.work.now.disk) (c.join-outcome.new.draw ≡ c.args.work.now) (g.D.Disk.faults c.args.work.now.disk) (g.D.Disk.faults c.join-outcome.new.draw.disk)))) c.join-outcome.ensures.merged c.join-outcome.ensures.drew c.join-outcome.ensures.last
-    c.finish.result c.finish.new.session (g.R.Rows.shape c.join-outcome.new.rows) c.join-outcome.ensures.fits.1 c.finish.ensures.answer c.finish.ensures.after
+    c.finish.new.session (g.R.Rows.shape c.join-outcome.new.rows) c.join-outcome.ensures.fits.1 c.finish.ensures.after works
 
 pub returns-clause-joins : goal.returns-clause-joins
 returns-clause-joins g c =
@@ -69,8 +81,8 @@ returns-clause-joins g c =
     c.args.work.now.staged.list c.join-outcome.new.draw.staged.list (g.D.Disk.story c.args.work.now.disk) (g.D.Disk.story c.join-outcome.new.draw.disk) (c.join-outcome.new.draw.disk ≡ c.args.work.now.disk) (c.join-outcome.new.draw ≡ c.args.work.now) (g.D.Disk.faults c.args.work.now.disk) (g.D.Disk.faults c.join-outcome.new.draw.disk)) (left_parent c.every_freed.ensures z v w x y c.args.work.now.log c.join-outcome.new.draw.log c.requires.holds c.requires.may c.next_fits.ensures c.args.left c.args.right c.args.parent c.args.page c.requires.can
     c.args.work.now.staged.list c.join-outcome.new.draw.staged.list (g.D.Disk.story c.args.work.now.disk) (g.D.Disk.story c.join-outcome.new.draw.disk) (c.join-outcome.new.draw.disk ≡ c.args.work.now.disk) (c.join-outcome.new.draw ≡ c.args.work.now) (g.D.Disk.faults c.args.work.now.disk) (g.D.Disk.faults c.join-outcome.new.draw.disk)) (page_parent c.every_freed.ensures z v w x y c.args.work.now.log c.join-outcome.new.draw.log c.requires.holds c.requires.may c.next_fits.ensures c.args.left c.args.right c.args.parent c.args.page c.requires.can
     c.args.work.now.staged.list c.join-outcome.new.draw.staged.list (g.D.Disk.story c.args.work.now.disk) (g.D.Disk.story c.join-outcome.new.draw.disk) (c.join-outcome.new.draw.disk ≡ c.args.work.now.disk) (c.join-outcome.new.draw ≡ c.args.work.now) (g.D.Disk.faults c.args.work.now.disk) (g.D.Disk.faults c.join-outcome.new.draw.disk)))) c.join-outcome.ensures.merged c.join-outcome.ensures.drew c.join-outcome.ensures.cause c.join-outcome.ensures.last
-    (λ row e s. (λ i. record c.join-outcome.new.draw { session = (after ∙ ap (λ k. session_after k y) e) i }) ∙ s)
-    (λ why e. ap (λ k. k.works) after ∙ ap (λ k. (session_after k y).works) e)
+    (λ row e s. (λ i. record c.join-outcome.new.draw { session = (after ∙ ap (λ k. session_after k c.args.page y) e) i }) ∙ s)
+    (λ why e. ap (λ k. k.works) after ∙ ap (λ k. (session_after k c.args.page y).works) e)
     c.finish.result c.finish.new.session c.finish.ensures.answer after
 
 pub returns-clause-cause_disk_fault : goal.returns-clause-cause_disk_fault
@@ -94,7 +106,7 @@ returns-clause-session g c =
     let x = c.args.work.now.session in
     let y = c.join-outcome.new.draw.session in
     session_kept x y c.args.work.now.staged.list c.join-outcome.new.draw.staged.list c.args.work.now.log c.join-outcome.new.draw.log (g.D.Disk.story c.args.work.now.disk) (g.D.Disk.story c.join-outcome.new.draw.disk) (c.join-outcome.new.draw.disk ≡ c.args.work.now.disk) (c.join-outcome.new.draw ≡ c.args.work.now)
-    (g.D.Disk.faults c.args.work.now.disk) (g.D.Disk.faults c.join-outcome.new.draw.disk) (λ e. ap (λ k. k.session) e) c.join-outcome.result c.join-outcome.ensures.drew c.finish.new.session c.finish.ensures.after
+    (g.D.Disk.faults c.args.work.now.disk) (g.D.Disk.faults c.join-outcome.new.draw.disk) (λ e. ap (λ k. k.session) e) c.args.page c.join-outcome.result c.join-outcome.ensures.drew c.finish.new.session c.finish.ensures.after
 
 pub returns-clause-works : goal.returns-clause-works
 returns-clause-works g c =

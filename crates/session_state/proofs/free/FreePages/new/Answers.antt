@@ -16,12 +16,14 @@ loop-n-preserved c =
       | then-not-is_live w ↦ (record {
         few = let is = ap vec_len w.falling-is in let len = w.push_reserved.ensures.len in let few = c.loop-n.invariant.few in omega arith;
         room = let is = ap vec_capacity w.falling-is in let same = w.push_reserved.ensures.capacity in let room = c.loop-n.invariant.room in omega arith;
+        all = let is = ap vec_capacity w.falling-is in let same = w.push_reserved.ensures.capacity in let all = c.loop-n.invariant.all in omega arith;
         free = ap (λ v. reverse v.items) w.falling-is ∙ (ap reverse w.push_reserved.ensures.items ∙ (reverse_last c.loop-n.falling.items page
             ∙ (ap (λ ps. page ∷ ps) c.loop-n.invariant.free ∙ sym (free_next (nodes_in pages) (length pages) n more (ap (λ q. q.node.live) at ∙ (sym c.is_live.ensures ∙ w.if-not-is_live.true))))));
       })
       | else-not-is_live w ↦ (record {
         few = let is = ap vec_len w.falling-is in let few = c.loop-n.invariant.few in omega arith;
         room = let is = ap vec_capacity w.falling-is in let room = c.loop-n.invariant.room in omega arith;
+        all = let is = ap vec_capacity w.falling-is in let all = c.loop-n.invariant.all in omega arith;
         free = ap (λ v. reverse v.items) w.falling-is ∙ (c.loop-n.invariant.free ∙ sym (live_next (nodes_in pages) (length pages) n more (ap (λ q. q.node.live) at ∙ (sym c.is_live.ensures ∙ w.if-not-is_live.false))));
       })
     ]

@@ -1,0 +1,3 @@
+pub mod FullLemmas
+pub mod SpaceLemmas
+pub mod StepLemmas
