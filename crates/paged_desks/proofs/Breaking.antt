@@ -12,6 +12,8 @@ use Rattle.desk_parts.specs.call_parts.Rooms.{makes_sync}
 use Rattle.desk_parts.specs.call_parts.Steps.{moves_page}
 use Rattle.desk_parts.specs.core_calls.LogEvents.{AreFlushes, IsSync}
 use Rattle.desk_parts.specs.core_state.Events as happening
+use Rattle.desk_parts.specs.core_state.Openings.{Opening}
+use Rattle.desk_parts.specs.core_state.States.{State}
 use Rattle.desk_parts.specs.core_state.Local.{is_sync}
 use Rattle.desk_parts.specs.core_disk.Versions.{EveryVersion}
 use Rattle.desk_parts.specs.Laws.{EveryPagePart, EverySyncPart}
@@ -142,8 +144,8 @@ broken_sync {story = story} m n s =
     }
 
 -- behind what was done
-module _ {D : Type 0} (story : D → Story) (key : ℕ) (keeps : EveryKept) (prefixes : EveryPrefix) (seals : EverySealed) (versions : EveryVersion) (lawful : (d : D) → IsLawful (story d)) where
-  pub broken_then : {p q r : PagedMachine D} {i j most : ℕ} → i + j ≤ most → HasDone story key i p q → HasBroken story j q r → HasBroken story most p r
+module _ {D : Type 0} (story : D → Story) (P : Opening → State → Type 0) (keeps : EveryKept) (prefixes : EveryPrefix) (seals : EverySealed) (versions : EveryVersion) (lawful : (d : D) → IsLawful (story d)) where
+  pub broken_then : {p q r : PagedMachine D} {i j most : ℕ} → i + j ≤ most → HasDone story P i p q → HasBroken story j q r → HasBroken story most p r
   broken_then {p = p} {q = q} {r = r} few a b =
       let x = story p.machine.work.disk in
       let y = story q.machine.work.disk in

@@ -1,22 +1,22 @@
 -- Where no frame can be given: nothing but a sync helps; and behind one it is not so.
 use Rattle.std.proofs.Common.{◌≡◌, ◌∙◌, ◌≤◌, ◌<◌, ◌+◌, ◌++◌, ◌||◌, ◌⊎◌, inl, inr, ℕ, zero, suc, Bool, true, false, List, [], ◌∷◌, Some, None, ap, refl, sym, subst, arith, true≢false}
 use Rattle.desk_parts.specs.core_calls.Fronts.{Done}
-use Rattle.desk_parts.specs.core_calls.LogEvents.{EveryWhere, IsTaken, IsTight}
+use Rattle.desk_parts.proofs.core_calls.WhereLemmas.{syncs_due}
+use Rattle.desk_parts.specs.core_calls.LogEvents.{IsTaken, IsTight}
 use Rattle.core_covers.specs.Lows.{EveryLow, IsAllFlushed}
 use Rattle.desk_parts.specs.core_state.Events as happening
 use Rattle.rfa_model.specs.Reaches.{least}
 use Rattle.desk_parts.specs.core_state.Local.{is_sync}
 use Rattle.desk_parts.specs.core_state.Openings.{Opening}
-use Rattle.desk_parts.specs.core_state.States.{State, flushed_by_all}
+use Rattle.desk_parts.specs.core_state.States.{State, flushed_by_all, is_cold}
 use Rattle.desk_parts.specs.core_state.Steps.{state_after}
 use Rattle.desk_parts.specs.engine_calls.Parts.{behind_first}
 use Rattle.lean_disk.specs.Story.{Story}
 use Rattle.map_model.specs.Lists.{any}
-use Rattle.map_model.specs.declared.call.Call.TheVariants as call
 use Rattle.page_model.specs.Nodes.{Format, covers}
 use Rattle.page_pool.specs.Full.{IsHeldBack}
 use Rattle.page_pool.specs.Counts.{hot_pages}
-use Rattle.paged_rows.specs.Paged.{Paged}
+use Rattle.paged_rows.specs.Paged.{IsNamedIn, Paged}
 use Rattle.paged_rows.specs.Warms.{IsCrowded, IsKept, IsNeeded}
 use Rattle.paged_rows.specs.declared.wanted.Wanted.{Wanted}
 use Rattle.paged_rows.specs.declared.wanted.Wanted.TheVariants as want
@@ -29,7 +29,7 @@ use Rattle.desk_parts.specs.session_desks.Syncs.{HasOpening}
 use Rattle.desk_parts.proofs.session_desks.SyncViews.{core_is}
 use Rattle.desk_parts.specs.session_state.Ties.{Behind}
 use Rattle.paged_desks.specs.Machines.{IsNobodyInside, view_of}
-use Rattle.paged_desks.specs.Pages.{HasPaged, hot_in}
+use Rattle.paged_desks.specs.Pages.{HasPagedWhere, IsTightBeside, IsTightFor, hot_in}
 use Rattle.paged_desks.specs.Syncs.{IsSynced}
 use Rattle.paged_desks.specs.declared.machine.PagedMachine.{PagedMachine}
 use Rattle.paged_desks.proofs.Going.{any_join}
@@ -52,12 +52,13 @@ module _ (key : ℕ) (wanted : Wanted) (on above held : ℕ) (q : Paged) (outsid
       go (inr (inl b)) = inr b
       go (inr (inr h)) = absurd (free_of (state q.view).core k.page outside h)
 
-  needed : (w : Wanted) (page : ℕ) → IsNeeded key w page q → (covers ((state q.view).core.page page).node key ≡ true) ⊎ (((state q.view).core.page page).node.live ≡ false)
-  needed want.Way page n = inl n
-  needed (want.Free free) page n = inr n.1
+  tight_for : (w : Wanted) → IsNeeded key w c.page q → IsTightFor w key (opening q.view.given) (state q.view).core
+  tight_for want.Way n = record { page = c.page; below = c.below; needed = inl n; cold = c.cold; taken = λ f lt. taken f (c.kept f lt) }
+  tight_for (want.Free page) n = record { page = c.page; below = c.below; needed = inr n.1; cold = c.cold; taken = λ f lt. taken f (c.kept f lt) }
+  tight_for (want.Beside page) n = record { named = subst (IsNamedIn (opening q.view.given) (state q.view).core key) n.0 n.1; cold = subst (λ p. is_cold ((state q.view).core.place p) ≡ true) n.0 c.cold; taken = λ f lt. taken f (c.kept f lt) }
 
-  pub tight_is : IsTight (opening q.view.given) (state q.view).core key
-  tight_is = record { page = c.page; below = c.below; needed = needed wanted c.page c.needed; cold = c.cold; taken = λ f lt. taken f (c.kept f lt) }
+  pub tight_is : IsTightFor wanted key (opening q.view.given) (state q.view).core
+  tight_is = tight_for wanted c.needed
 
 -- an opening of the same sizes says the same
 taken_in : (g h : Opening) (s : State) (key f : ℕ) → h.workers ≡ g.workers → IsTaken g s key f → IsTaken h s key f
@@ -72,14 +73,30 @@ tight_in g h s key workers frames format t = record {
   taken = λ f lt. taken_in g h s key f workers (t.taken f (subst (λ k. f < k) frames lt));
 }
 
+beside_in : (g h : Opening) (s : State) (key page : ℕ) → h.workers ≡ g.workers → h.frames ≡ g.frames → h.format ≡ g.format → IsTightBeside key page g s → IsTightBeside key page h s
+beside_in g h s key page workers frames format t = record {
+  named = record { parent = t.named.parent; below = subst (λ (f : Format). t.named.parent < f.pages) (sym format) t.named.below; on = t.named.on; names = t.named.names };
+  cold = t.cold;
+  taken = λ f lt. taken_in g h s key f workers (t.taken f (subst (λ k. f < k) frames lt));
+}
+
+for_in : (wanted : Wanted) (key : ℕ) (g h : Opening) (s : State) → h.workers ≡ g.workers → h.frames ≡ g.frames → h.format ≡ g.format → IsTightFor wanted key g s → IsTightFor wanted key h s
+for_in want.Way key g h s workers frames format t = tight_in g h s key workers frames format t
+for_in (want.Free page) key g h s workers frames format t = tight_in g h s key workers frames format t
+for_in (want.Beside page) key g h s workers frames format t = beside_in g h s key page workers frames format t
+
 -- in a run
+pub for_behind : EveryReached → EveryNeed → (wanted : Wanted) (key : ℕ) (g : Opening) (xs : List Done) (first : List happening.Event) (v : View) → Behind g xs first v → IsTightFor wanted key (opening v.given) (state v).core → IsTightFor wanted key g (behind_first g xs first)
+for_behind reached needs wanted key g xs first v b t =
+    let o = b.opens in subst (λ s. IsTightFor wanted key g s) (core_is reached needs g xs first v b) (for_in wanted key (opening v.given) g (state v).core o.workers o.frames o.format t)
+
 pub tight_behind : EveryReached → EveryNeed → (g : Opening) (xs : List Done) (first : List happening.Event) (v : View) (key : ℕ) → Behind g xs first v → IsTight (opening v.given) (state v).core key → IsTight g (behind_first g xs first) key
 tight_behind reached needs g xs first v key b t =
     let o = b.opens in subst (λ s. IsTight g s key) (core_is reached needs g xs first v b) (tight_in (opening v.given) g (state v).core key o.workers o.frames o.format t)
 
 -- ## A sync, where it is due
 
-module _ {D : Type 0} (story : D → Story) (key : ℕ) (m n : PagedMachine D) (reached : EveryReached) (needs : EveryNeed) (where_ : EveryWhere) {number : ℕ} (s : IsSynced story m n number) (t : IsTight (opening (view_of m).given) (state (view_of m)).core key) where
+module _ {D : Type 0} (story : D → Story) (wanted : Wanted) (key : ℕ) (m n : PagedMachine D) (reached : EveryReached) (needs : EveryNeed) {number : ℕ} (s : IsSynced story m n number) (t : IsTightFor wanted key (opening (view_of m).given) (state (view_of m)).core) where
   or_true : (b : Bool) → (b || true) ≡ true
   or_true true = refl
   or_true false = refl
@@ -90,7 +107,7 @@ module _ {D : Type 0} (story : D → Story) (key : ℕ) (m n : PagedMachine D) (
   hot : hot_in n ≡ hot_in m
   hot = (λ i. hot_pages (opening (s.given i)) (state (view_of n)).core) ∙ ap (hot_pages (opening (view_of m).given)) s.rest
 
-  pub paged_sync : HasPaged key (suc m.machine.work.session.workers) m n
+  pub paged_sync : HasPagedWhere (IsTightFor wanted key) (suc m.machine.work.session.workers) m n
   paged_sync = record {
     events = s.events;
     given = s.given;
@@ -103,7 +120,7 @@ module _ {D : Type 0} (story : D → Story) (key : ℕ) (m n : PagedMachine D) (
     logged = s.logged;
     master = λ none. absurd (true≢false (sym synced ∙ none));
     behind = s.behind;
-    tight = λ g xs first f. (where_ (call.Get key) (call.Get key) g (behind_first g xs first) (events_of s.events)).due number s.sync (tight_behind reached needs g xs first (view_of m) key f t);
+    tight = λ g xs first f. syncs_due (IsTightFor wanted key g) g number (events_of s.events) (behind_first g xs first) s.sync (for_behind reached needs wanted key g xs first (view_of m) f t);
   }
 
   pub sync_events : paged_sync.events ≡ s.events

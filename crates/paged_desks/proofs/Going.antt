@@ -3,7 +3,8 @@ use Rattle.std.proofs.Common.{◌≡◌, ◌∙◌, ◌≤◌, ◌<◌, ◌+◌,
 use Rattle.std.proofs.lemmas.Bool.{or_parts}
 use Rattle.std.proofs.lemmas.List.{append-nil, length-append}
 use Rattle.desk_parts.specs.core_calls.Fronts.{Done}
-use Rattle.desk_parts.specs.core_calls.LogEvents.{EveryWhere, IsTight, SyncsWhere, is_log}
+use Rattle.desk_parts.proofs.core_calls.WhereLemmas.{syncs_more, syncs_none}
+use Rattle.desk_parts.specs.core_calls.LogEvents.{SyncsWhere, is_log}
 use Rattle.desk_parts.specs.core_state.Events as happening
 use Rattle.desk_parts.specs.core_state.Local.{is_sync}
 use Rattle.desk_parts.specs.core_state.Needs.{may}
@@ -16,7 +17,6 @@ use Rattle.desk_parts.specs.engine_calls.Parts.{behind_first}
 use Rattle.desk_parts.specs.engine_trait.Logs.{Logs, LogsOne}
 use Rattle.lean_disk.specs.Story.{Story}
 use Rattle.map_model.specs.Lists.{any}
-use Rattle.map_model.specs.declared.call.Call.TheVariants as call
 use Rattle.desk_parts.specs.page_provider.Amounts.{EveryFew}
 use Rattle.desk_parts.specs.page_provider.Moves.{AreMet, ArePagers, Moved, is_pagers}
 use Rattle.desk_parts.specs.page_provider.Sequels.{EverySequel}
@@ -36,7 +36,7 @@ use Rattle.desk_parts.specs.session_state.Ties.{Behind}
 use Rattle.desk_parts.specs.session_state.declared.session.Session.{Session}
 use Rattle.desk_parts.specs.worker_log.Logs.{Log}
 use Rattle.paged_desks.specs.Machines.{IsReady, view_of}
-use Rattle.paged_desks.specs.Pages.{ArePaging, HasPaged, IsKept, is_paging}
+use Rattle.paged_desks.specs.Pages.{ArePaging, HasPagedWhere, IsKept, is_paging}
 use Rattle.paged_desks.specs.Inside.{IsBeside}
 use Rattle.paged_desks.specs.declared.machine.PagedMachine.{PagedMachine}
 use Rattle.paged_desks.proofs.Moments.{seen_is, step_core}
@@ -124,7 +124,7 @@ module _ (needs : EveryNeed) (g : Opening) (v : Given) (o : Opens g v) where
 
 -- ## One call of the pager
 
-module _ {D : Type 0} (story : D → Story) (key : ℕ) (m n : PagedMachine D) (reached : EveryReached) (needs : EveryNeed) (where_ : EveryWhere) (amounts : EveryFew) (seq : EverySequel) (ready : IsReady story m) (b : IsBeside m n) {most : ℕ}
+module _ {D : Type 0} (story : D → Story) (P : Opening → State → Type 0) (m n : PagedMachine D) (reached : EveryReached) (needs : EveryNeed) (amounts : EveryFew) (seq : EverySequel) (ready : IsReady story m) (b : IsBeside m n) {most : ℕ}
     (moved : Moved most (shape m.machine) (view_of m) m.pager (view_of n) n.pager) where
   given : (view_of n).given ≡ (view_of m).given
   given = moved.goes.ran.given
@@ -135,7 +135,7 @@ module _ {D : Type 0} (story : D → Story) (key : ℕ) (m n : PagedMachine D) (
   met : AreMet (view_of m).given (state (view_of m)) moved.events
   met = subst (AreMet (view_of m).given (state (view_of m))) (moved.goes.ran.all refl) moved.met
 
-  pub paged_by : HasPaged key (3 * most) m n
+  pub paged_by : HasPagedWhere P (3 * most) m n
   paged_by = record {
     events = moved.events;
     given = given;
@@ -150,7 +150,7 @@ module _ {D : Type 0} (story : D → Story) (key : ℕ) (m n : PagedMachine D) (
     behind = λ g xs first f.
         more reached needs g xs first (view_of m) f moved.events (view_of n) given seen
         (subst (λ s. AllMet g s (events_of moved.events)) (core_is reached needs g xs first (view_of m) f) (met_too needs g (view_of m).given f.opens (state (view_of m)).core moved.events moved.pagers (met_own (view_of m).given (state (view_of m)) moved.events moved.pagers met)));
-    tight = λ g xs first f. (where_ (call.Get key) (call.Get key) g (behind_first g xs first) (events_of moved.events)).none (no_log moved.events moved.pagers);
+    tight = λ g xs first f. syncs_none (P g) g (events_of moved.events) (behind_first g xs first) (no_log moved.events moved.pagers);
   }
 
   pub by_events : paged_by.events ≡ moved.events
@@ -173,24 +173,24 @@ kept_then {x = x} {y = y} {z = z} a b = record {
   session = b.session ∙ ap (λ (s : Session). record s { clock = record s.clock { clock = z.clock.clock }; free = z.free; unflushed = z.unflushed }) a.session;
 }
 
-module _ {D : Type 0} (key : ℕ) (where_ : EveryWhere) {p q r : PagedMachine D} {i j most : ℕ} (few : i + j ≤ most) (a : HasPaged key i p q) (b : HasPaged key j q r) where
+module _ {D : Type 0} (P : Opening → State → Type 0) {p q r : PagedMachine D} {i j most : ℕ} (few : i + j ≤ most) (a : HasPagedWhere P i p q) (b : HasPagedWhere P j q r) where
   all : events_of (a.events ++ b.events) ≡ events_of a.events ++ events_of b.events
   all = events_more a.events b.events
 
   behind : (g : Opening) (xs : List Done) (first : List happening.Event) → Behind g xs first (view_of p) → Behind g xs (first ++ events_of (a.events ++ b.events)) (view_of r)
   behind g xs first f = subst (λ es. Behind g xs es (view_of r)) (append_assoc first (events_of a.events) (events_of b.events) ∙ ap (λ es. first ++ es) (sym all)) (b.behind g xs (first ++ events_of a.events) (a.behind g xs first f))
 
-  tight : (g : Opening) (xs : List Done) (first : List happening.Event) → Behind g xs first (view_of p) → SyncsWhere (λ s. IsTight g s key) g (behind_first g xs first) false (events_of (a.events ++ b.events))
-  tight g xs first f = subst (SyncsWhere (λ s. IsTight g s key) g (behind_first g xs first) false) (sym all)
-      ((where_ (call.Get key) (call.Get key) g (behind_first g xs first) (events_of a.events)).more (events_of b.events) (a.tight g xs first f)
-      (subst (λ s. SyncsWhere (λ t. IsTight g t key) g s false (events_of b.events)) (run_more g (steps.state_after g (Rattle.desk_parts.specs.core_calls.Fronts.front xs)) first (events_of a.events)) (b.tight g xs (first ++ events_of a.events) (a.behind g xs first f))))
+  tight : (g : Opening) (xs : List Done) (first : List happening.Event) → Behind g xs first (view_of p) → SyncsWhere (P g) g (behind_first g xs first) false (events_of (a.events ++ b.events))
+  tight g xs first f = subst (SyncsWhere (P g) g (behind_first g xs first) false) (sym all)
+      (syncs_more (P g) g (events_of a.events) (events_of b.events) (behind_first g xs first) false (a.tight g xs first f)
+      (subst (λ s. SyncsWhere (P g) g s false (events_of b.events)) (run_more g (steps.state_after g (Rattle.desk_parts.specs.core_calls.Fronts.front xs)) first (events_of a.events)) (b.tight g xs (first ++ events_of a.events) (a.behind g xs first f))))
 
   logged : (w : ℕ) → 0 < w → w ≤ p.machine.work.session.workers → (g : Opening) (s : State) → Logs w g s (events_of (a.events ++ b.events)) (logs p.machine w) (logs r.machine w)
   logged w some high g s = subst (λ es. Logs w g s es (logs p.machine w) (logs r.machine w)) (sym all)
       (logs_join w g s (events_of a.events) (events_of b.events) (logs p.machine w) (logs q.machine w) (logs r.machine w) (a.logged w some high g s)
       (b.logged w some (subst (λ k. w ≤ k) (sym a.same.0) high) g (steps.run g s (events_of a.events))))
 
-  pub paged_then : HasPaged key most p r
+  pub paged_then : HasPagedWhere P most p r
   paged_then = record {
     events = a.events ++ b.events;
     given = b.given ∙ a.given;
@@ -211,7 +211,7 @@ module _ {D : Type 0} (key : ℕ) (where_ : EveryWhere) {p q r : PagedMachine D}
   then_events = refl
 
 -- by so many events at most, and more may be
-pub paged_up : {D : Type 0} {key i j : ℕ} {p q : PagedMachine D} → i ≤ j → HasPaged key i p q → HasPaged key j p q
+pub paged_up : {D : Type 0} {P : Opening → State → Type 0} {i j : ℕ} {p q : PagedMachine D} → i ≤ j → HasPagedWhere P i p q → HasPagedWhere P j p q
 paged_up few a = record {
   events = a.events;
   given = a.given;
@@ -227,13 +227,13 @@ paged_up few a = record {
   tight = a.tight;
 }
 
-pub up_events : {D : Type 0} {key i j : ℕ} {p q : PagedMachine D} (few : i ≤ j) (a : HasPaged key i p q) → (paged_up few a).events ≡ a.events
+pub up_events : {D : Type 0} {P : Opening → State → Type 0} {i j : ℕ} {p q : PagedMachine D} (few : i ≤ j) (a : HasPagedWhere P i p q) → (paged_up few a).events ≡ a.events
 unfolding paged_up
 up_events few a = refl
 
 -- nothing was done
-pub paged_none : {D : Type 0} (key : ℕ) (m : PagedMachine D) → HasPaged key 0 m m
-paged_none key m = record {
+pub paged_none : {D : Type 0} (P : Opening → State → Type 0) (m : PagedMachine D) → HasPagedWhere P 0 m m
+paged_none P m = record {
   events = [];
   given = refl;
   seen = sym (append-nil (view_of m).seen);
@@ -248,6 +248,6 @@ paged_none key m = record {
   tight = λ g xs first f. tt;
 }
 
-pub none_events : {D : Type 0} (key : ℕ) (m : PagedMachine D) → (paged_none key m).events ≡ []
+pub none_events : {D : Type 0} (P : Opening → State → Type 0) (m : PagedMachine D) → (paged_none P m).events ≡ []
 unfolding paged_none
-none_events key m = refl
+none_events P m = refl

@@ -7,6 +7,8 @@ use Rattle.desk_parts.specs.page_provider.Refusals.{Caused}
 use Rattle.paged_rows.specs.Paged.{Paged}
 use Rattle.paged_rows.specs.Warms.{IsRefusedTo}
 use Rattle.paged_rows.specs.declared.wanted.Wanted.{Wanted}
+use Rattle.desk_parts.specs.core_state.Openings.{Opening}
+use Rattle.desk_parts.specs.core_state.States.{State}
 use Rattle.desk_parts.specs.rows_trait.Causes.{EveryLow}
 use Rattle.desk_parts.specs.rows_trait.declared.view.View.{View}
 use Rattle.desk_parts.specs.rows_trait.Views.{AreLow}
@@ -19,7 +21,7 @@ use Rattle.desk_parts.specs.session_state.declared.session.Session.{Session}
 use Rattle.paged_desks.specs.Inside.{IsOfPage, LateCause, stopped_by}
 use Rattle.paged_desks.specs.Machines.{view_of}
 use Rattle.paged_desks.specs.Pages.{AreKept}
-use Rattle.paged_desks.specs.Parts.{HasHalf, IsCramped, IsLate, IsLateOrStuck, IsSpent}
+use Rattle.paged_desks.specs.Parts.{HasHalf, IsCramped, IsLate, IsLateOrStuckWhere, IsSpent}
 use Rattle.paged_desks.specs.declared.machine.PagedMachine.{PagedMachine}
 use Rattle.paged_desks.specs.declared.warming.Unwarmed.TheVariants as unwarmed
 
@@ -85,6 +87,6 @@ half_in c = record { session = c.session; low = c.low; high = c.high; half = c.h
 pub half_kept : {D : Type 0} {m n : PagedMachine D} → n.machine.work.session.workers ≡ m.machine.work.session.workers → AreKept m.machine n.machine → HasHalf n → HasHalf m
 half_kept many kept h = let high = subst (λ k. h.session ≤ k) many h.high in record { session = h.session; low = h.low; high = high; half = sym (ap (λ (s : Session). s.is_half_aborted) (kept h.session h.low high).session) ∙ h.half }
 
-pub spent_from : {D : Type 0} (key : ℕ) (m n : PagedMachine D) → (HasHalf n → HasHalf m) → IsLateOrStuck key n → IsSpent m n
-spent_from key m n f (inl l) = inl l
-spent_from key m n f (inr h) = inr (f (half_in h.cramped))
+pub spent_from : {D : Type 0} (P : Opening → State → Type 0) (m n : PagedMachine D) → (HasHalf n → HasHalf m) → IsLateOrStuckWhere P n → IsSpent m n
+spent_from P m n f (inl l) = inl l
+spent_from P m n f (inr h) = inr (f (half_in h.cramped))

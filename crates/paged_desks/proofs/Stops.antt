@@ -89,7 +89,7 @@ err_same r q a b x y e = cc
 abbrev pub unwarmed_by : Unwarmed → Result (Unit {0}) Unwarmed
 unwarmed_by u = Err u
 
--- as frame_for does
+-- as frame_for and beside do
 abbrev pub frameless_by : Unwarmed → Result ℕ Unwarmed
 frameless_by u = Err u
 

@@ -1,15 +1,17 @@
 -- Words of private functions.
 use Rattle.std.specs.Prelude.{◌≡◌, ◌≤◌, ◌<◌, ◌+◌, ◌*◌, ◌-◌, ℕ, Bool, true, false, List, length, Option, Some, None}
+use Rattle.cold_pages.specs.Laws.{IsButEntries}
 use Rattle.desk_parts.specs.call_parts.Parts.{Failed, Part}
 use Rattle.desk_parts.specs.call_parts.Rooms as rooms
 use Rattle.desk_parts.specs.core_state.Events as happening
-use Rattle.desk_parts.specs.core_state.States.{Place}
+use Rattle.desk_parts.specs.core_state.Openings.{Opening}
+use Rattle.desk_parts.specs.core_state.States.{Place, State}
 use Rattle.desk_parts.specs.Pages.{StaysWithin}
 use Rattle.lean_disk.specs.Story.{Story}
 use Rattle.desk_parts.specs.page_provider.Disks.{Disked}
 use Rattle.desk_parts.specs.page_provider.declared.refusal.Refusal.{Refusal}
 use Rattle.desk_parts.specs.page_provider.declared.refusal.Refusal.TheVariants as refusal
-use Rattle.paged_rows.specs.Paged.{IsWarm}
+use Rattle.paged_rows.specs.Paged.{IsNamed, IsWarm}
 use Rattle.paged_rows.specs.Warms.{IsCrowded, ReadsUnlessSaved}
 use Rattle.paged_rows.specs.declared.wanted.Wanted.{Wanted}
 use Rattle.paged_rows.specs.declared.wanted.Wanted.TheVariants as want
@@ -17,7 +19,7 @@ use Rattle.desk_parts.specs.rows_trait.declared.view.View.{View}
 use Rattle.desk_parts.specs.rows_trait.Views.{state}
 use Rattle.desk_parts.specs.session_desks.Parts.{AreAsMany, SeatFits, shape}
 use Rattle.paged_desks.specs.Machines.{memory, pages, view_of}
-use Rattle.paged_desks.specs.Pages.{HasPaged, hot_in}
+use Rattle.paged_desks.specs.Pages.{HasPagedWhere, hot_in}
 use Rattle.paged_desks.specs.Parts.{IsLate, StandsNowhere}
 use Rattle.paged_desks.specs.declared.machine.PagedMachine.{PagedMachine}
 use Rattle.paged_desks.specs.declared.warming.Unwarmed.{Unwarmed}
@@ -73,7 +75,7 @@ pub record IsBeside {D : Type 0} (m n : PagedMachine D) : Type 0 where
   pub latches : n.machine.latches ≡ m.machine.latches
   pub master : n.machine.master ≡ m.machine.master
 
--- no frame could be given to a page of the key's way, or to the free one that was wanted
+-- no frame could be given to a page of the key's way, or to the one that was wanted
 pub record IsTooFull {D : Type 0} (key : ℕ) (wanted : Wanted) (m : PagedMachine D) : Type 0 where
   pub on : ℕ
   pub above : ℕ
@@ -86,9 +88,9 @@ pub record HasServed {D : Type 0} (story : D → Story) (m n : PagedMachine D) :
   pub stays : StaysWithin (story m.machine.work.disk) (story n.machine.work.disk)
   pub reads : ReadsUnlessSaved (pages m) (pages n) (story m.machine.work.disk) (story n.machine.work.disk)
 
--- Pages were moved and whole syncs made, as a part of a call.
-pub record HasDone {D : Type 0} (story : D → Story) (key most : ℕ) (m n : PagedMachine D) : Type 0 where
-  pub paged : HasPaged key most m n
+-- Pages were moved and whole syncs made, each where P is so, as a part of a call.
+pub record HasDone {D : Type 0} (story : D → Story) (P : Opening → State → Type 0) (most : ℕ) (m n : PagedMachine D) : Type 0 where
+  pub paged : HasPagedWhere P most m n
   pub part : Part m.machine.work.session.workers paged.events (view_of m) (view_of n) (memory m) (memory n) (story m.machine.work.disk) (story n.machine.work.disk)
 
 -- A device failed, or a page was not to be had: these events were moves of pages and of logs, at most so many beside those by which pages cooled.
@@ -118,9 +120,20 @@ pub record IsHoused {D : Type 0} (key page frame : ℕ) (m n : PagedMachine D) :
   pub warm : IsWarm (pages n) key 0
   pub frees : (p : ℕ) → ((state (view_of n)).core.page p).node.live ≡ ((state (view_of m)).core.page p).node.live
 
--- what has come: all of the way is hot, or one page more of it; or the free page
+-- The page that a page of the way names stands hot in the frame, as it was, and is named still; the way is hot, and the same pages are free.
+pub record IsDrawn {D : Type 0} (key page frame : ℕ) (m n : PagedMachine D) : Type 0 where
+  pub hot : (state (view_of n)).core.place page ≡ Place.Hot frame
+  pub named : IsNamed (pages n) key page
+  pub like : IsButEntries ((state (view_of m)).core.page page) ((state (view_of n)).core.page page)
+  pub same : (view_of m).given.faithful ≡ true → (state (view_of n)).core.page page ≡ (state (view_of m)).core.page page
+  pub warm : IsWarm (pages n) key 0
+  pub frees : (p : ℕ) → ((state (view_of n)).core.page p).node.live ≡ ((state (view_of m)).core.page p).node.live
+
+-- what has come: all of the way is hot, or one page more of it; or the free page, or the one that a page of the way names
 abbrev pub Comes : {D : Type 0} → (key : ℕ) → Wanted → Option ℕ → PagedMachine D → PagedMachine D → Type 0
 Comes key want.Way None m n = IsWarm (pages n) key 0
 Comes key want.Way (Some frame) m n = IsWarmer key m n
 Comes key (want.Free page) None m n = ⊥
 Comes key (want.Free page) (Some frame) m n = IsHoused key page frame m n
+Comes key (want.Beside page) None m n = ⊥
+Comes key (want.Beside page) (Some frame) m n = IsDrawn key page frame m n

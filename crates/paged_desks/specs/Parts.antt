@@ -7,6 +7,7 @@ use Rattle.desk_parts.specs.core_calls.Fronts.{Done, front}
 use Rattle.desk_parts.specs.core_calls.LogEvents.{IsTight}
 use Rattle.desk_parts.specs.core_state.Events.{Event}
 use Rattle.desk_parts.specs.core_state.Openings.{Opening}
+use Rattle.desk_parts.specs.core_state.States.{State}
 use Rattle.desk_parts.specs.disk_runs.Stands.{Known, Stands}
 use Rattle.lean_disk.specs.Story.{Crash, Story}
 use Rattle.desk_parts.specs.row_words.Openings.{opening}
@@ -17,18 +18,22 @@ use Rattle.desk_parts.specs.session_desks.Parts.{AreAsMany, SeatFits, here}
 use Rattle.desk_parts.specs.session_state.Syncs.{MayFlush}
 use Rattle.desk_parts.specs.session_state.Ties.{Behind}
 use Rattle.paged_desks.specs.Machines.{memory, view_of}
-use Rattle.paged_desks.specs.Pages.{HasPaged, hot_in, most_a_level}
+use Rattle.paged_desks.specs.Pages.{HasPagedWhere, hot_in, most_a_level}
 use Rattle.paged_desks.specs.declared.machine.PagedMachine.{PagedMachine}
 
 -- so many events at most have the pages of one way
 abbrev pub most_a_way : ℕ
 most_a_way = 2 ^ 17 + 2 ^ 10
 
--- The coming of the pages of a key's way is a part of a call, of few events.
-pub record HasGone {D : Type 0} (story : D → Story) (key most : ℕ) (m n : PagedMachine D) : Type 0 where
-  pub paged : HasPaged key most m n
+-- The coming of pages is a part of a call, of few events; a sync in it begins where P is so.
+pub record HasGoneWhere {D : Type 0} (story : D → Story) (P : Opening → State → Type 0) (most : ℕ) (m n : PagedMachine D) : Type 0 where
+  pub paged : HasPagedWhere P most m n
   pub few : length paged.events ≤ most_a_way
   pub part : Part m.machine.work.session.workers paged.events (view_of m) (view_of n) (memory m) (memory n) (story m.machine.work.disk) (story n.machine.work.disk)
+
+-- so was the coming of the pages of a key's way, or of a free one
+abbrev pub HasGone : {D : Type 0} → (story : D → Story) → (key most : ℕ) → PagedMachine D → PagedMachine D → Type 0
+HasGone story key most m n = HasGoneWhere story (λ g s. IsTight g s key) most m n
 
 -- A device failed in that, or a page was not to be had: these moves of pages and logs were under way, few of them beside those by which pages cooled.
 pub record HasFailed {D : Type 0} (story : D → Story) (m n : PagedMachine D) : Type 0 where
@@ -72,11 +77,19 @@ pub record IsCramped {D : Type 0} (m : PagedMachine D) : Type 0 where
 abbrev pub IsSpent : {D : Type 0} → PagedMachine D → PagedMachine D → Type 0
 IsSpent m n = IsLate (view_of n) ⊎ HasHalf m
 
--- where it stopped a page that is needed finds no frame, so a sync is; and an abort is half done whose log may not be flushed
-pub record IsStuck {D : Type 0} (key : ℕ) (n : PagedMachine D) : Type 0 where
-  pub tight : IsTight (opening (view_of n).given) (state (view_of n)).core key
+-- where it stopped P is so, that a page which is needed finds no frame, so a sync is needed; and an abort is half done whose log may not be flushed
+pub record IsStuckWhere {D : Type 0} (P : Opening → State → Type 0) (n : PagedMachine D) : Type 0 where
+  pub tight : P (opening (view_of n).given) (state (view_of n)).core
   pub cramped : IsCramped n
 
 -- it is late behind the call, or it is stuck there
+abbrev pub IsLateOrStuckWhere : {D : Type 0} → (P : Opening → State → Type 0) → PagedMachine D → Type 0
+IsLateOrStuckWhere P n = IsLate (view_of n) ⊎ IsStuckWhere P n
+
+-- the page that is needed is of a key's way, or a free one
+abbrev pub IsStuck : {D : Type 0} → (key : ℕ) → PagedMachine D → Type 0
+IsStuck key n = IsStuckWhere (λ g s. IsTight g s key) n
+
+-- so it is late, or stuck
 abbrev pub IsLateOrStuck : {D : Type 0} → (key : ℕ) → PagedMachine D → Type 0
 IsLateOrStuck key n = IsLate (view_of n) ⊎ IsStuck key n

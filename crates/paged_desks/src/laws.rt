@@ -1,5 +1,4 @@
 // What the calls rest on.
-ghost use Rattle.desk_parts.specs.core_calls.LogEvents.{EveryWhere};
 ghost use Rattle.desk_parts.specs.core_calls.Warms.{EveryWarm};
 ghost use Rattle.core_covers.specs.Lows.{EveryLow, EverySync};
 ghost use Rattle.desk_parts.specs.core_disk.Versions.{EveryVersion};
@@ -14,7 +13,6 @@ ghost use Rattle.desk_parts.specs.worker_log.Laws.{EveryKept, EveryPrefix};
 // The laws of ways, of syncs, of the pager's calls, and of rows in a run.
 pub(crate) fn laws()
     ensures warm { EveryWarm }
-    ensures places { EveryWhere }
     ensures low { EveryLow }
     ensures flush { EveryFlush }
     ensures sync { EverySync }
@@ -29,7 +27,6 @@ pub(crate) fn laws()
     ensures seals { EverySealed }
 {
     desk_parts::every_warm();
-    desk_parts::every_where();
     core_covers::every_low();
     core_covers::every_sync();
     desk_parts::every_flush();

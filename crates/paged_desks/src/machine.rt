@@ -5,6 +5,7 @@ ghost use Rattle.desk_parts.specs.page_provider.declared.refusal.Refusal.TheVari
 ghost use Rattle.paged_rows.specs.Warms.{Brings, CanBring, IsRefusedTo, most_a_page};
 ghost use Rattle.desk_parts.specs.session_desks.Parts.{MaySync};
 ghost use Rattle.paged_desks.specs.Machines.{IsReady, pages};
+ghost use Rattle.paged_desks.specs.Pages.{IsTightFor};
 ghost use Rattle.paged_desks.specs.Inside.{AwayCause, HasBroken, HasDone, IsBeside, LateCause};
 ghost use Rattle.paged_desks.specs.Syncs.{HasNotSynced, IsSynced};
 
@@ -27,7 +28,7 @@ impl<D: Stages> PagedMachine<D> {
         requires can { CanBring key wanted (pages self.old) }
         ensures ready { self.new.pager.broken ≡ false → IsReady D.story self.new }
         ensures beside { IsBeside self.old self.new }
-        ensures done { self.new.pager.broken ≡ false → HasDone D.story key (3 * most_a_page) self.old self.new }
+        ensures done { self.new.pager.broken ≡ false → HasDone D.story (IsTightFor wanted key) (3 * most_a_page) self.old self.new }
         ensures broke { self.new.pager.broken ≡ true → HasBroken D.story (3 * most_a_page) self.old self.new }
         ensures ok { IfOk result (λ come. Brings key wanted come (pages self.old) (pages self.new)) }
         ensures err { IfErr result (λ why. IsRefusedTo key wanted (pages self.old) why (pages self.new)) }

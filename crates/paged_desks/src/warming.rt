@@ -1,14 +1,14 @@
-// The pages of a key's way are brought into frames, and a free page beside them.
+// The pages of a key's way are brought into frames, and a free page, or one that a page of the way names, beside them.
 ghost use Rattle.std.specs.Prelude.{◌≡◌, ◌⊎◌, ◌<◌, ◌+◌, ◌*◌, ◌^◌, ◌-◌, ℕ, suc, true, false, IfErr, IfOk, OnOk, Err};
 ghost use Rattle.core_covers.specs.Lows.{IsAllFlushed};
 ghost use Rattle.lean_disk.specs.Faults.{HasCause};
 ghost use Rattle.desk_parts.specs.row_words.Openings.{opening};
 ghost use Rattle.desk_parts.specs.rows_trait.Views.{state};
-ghost use Rattle.paged_rows.specs.Paged.{IsFree, IsWarm};
+ghost use Rattle.paged_rows.specs.Paged.{IsFree, IsNamed, IsWarm};
 ghost use Rattle.paged_rows.specs.Warms.{CanBring, most_a_page};
 ghost use Rattle.paged_desks.specs.Machines.{IsReady, pages};
-ghost use Rattle.paged_desks.specs.Pages.{IsHome, goes_on, most_a_level};
-ghost use Rattle.paged_desks.specs.Parts.{HasFailed, HasGone, IsLate, IsLateOrStuck, IsSpent, StandsNowhere};
+ghost use Rattle.paged_desks.specs.Pages.{IsHome, IsNear, IsTightBeside, IsTightFor, goes_on, most_a_level};
+ghost use Rattle.paged_desks.specs.Parts.{HasFailed, HasGone, HasGoneWhere, IsLate, IsLateOrStuck, IsLateOrStuckWhere, IsSpent, StandsNowhere};
 ghost use Rattle.paged_desks.specs.Inside.{Comes, HasBroken, HasDone, IsOfPage, IsStopped, IsTooFull, UnreadCause, stopped_by};
 ghost use Rattle.paged_desks.specs.declared.warming.Unwarmed.TheVariants as refused;
 
@@ -79,7 +79,7 @@ impl<D: Stages> PagedMachine<D> {
         requires can { CanBring key wanted (pages self.old) }
         ensures works { self.new.machine.work.session.works ≡ goes_on result }
         ensures ready { goes_on result ≡ true → IsReady D.story self.new }
-        ensures done { goes_on result ≡ true → HasDone D.story key (3 * most_a_page) self.old self.new }
+        ensures done { goes_on result ≡ true → HasDone D.story (IsTightFor wanted key) (3 * most_a_page) self.old self.new }
         ensures broke { goes_on result ≡ false → HasBroken D.story (3 * most_a_page) self.old self.new }
         ensures spent { result ≡ Err refused.RowSpent → IsLate self.new.machine.seat.view }
         ensures unread { IfErr result (UnreadCause D.story self.old) }
@@ -102,9 +102,9 @@ impl<D: Stages> PagedMachine<D> {
         requires can { CanBring key wanted (pages self.old) }
         ensures works { self.new.machine.work.session.works ≡ goes_on result }
         ensures ready { goes_on result ≡ true → IsReady D.story self.new }
-        ensures done { goes_on result ≡ true → HasDone D.story key (3 * most_a_page + suc self.old.machine.work.session.workers) self.old self.new }
+        ensures done { goes_on result ≡ true → HasDone D.story (IsTightFor wanted key) (3 * most_a_page + suc self.old.machine.work.session.workers) self.old self.new }
         ensures broke { goes_on result ≡ false → HasBroken D.story (3 * most_a_page + suc self.old.machine.work.session.workers) self.old self.new }
-        ensures stuck { result ≡ Err refused.RowSpent → IsLateOrStuck key self.new }
+        ensures stuck { result ≡ Err refused.RowSpent → IsLateOrStuckWhere (IsTightFor wanted key) self.new }
         ensures unread { IfErr result (UnreadCause D.story self.old) }
         ensures comes { IfOk result (λ come. Comes key wanted come self.old self.new) }
 
@@ -127,9 +127,9 @@ impl<D: Stages> PagedMachine<D> {
         requires can { CanBring key wanted (pages self.old) }
         ensures works { self.new.machine.work.session.works ≡ goes_on result }
         ensures ready { goes_on result ≡ true → IsReady D.story self.new }
-        ensures done { goes_on result ≡ true → HasDone D.story key (most_a_level self.old.machine.work.session.workers) self.old self.new }
+        ensures done { goes_on result ≡ true → HasDone D.story (IsTightFor wanted key) (most_a_level self.old.machine.work.session.workers) self.old self.new }
         ensures broke { goes_on result ≡ false → HasBroken D.story (most_a_level self.old.machine.work.session.workers) self.old self.new }
-        ensures stuck { result ≡ Err refused.RowSpent → IsLateOrStuck key self.new }
+        ensures stuck { result ≡ Err refused.RowSpent → IsLateOrStuckWhere (IsTightFor wanted key) self.new }
         ensures unread { IfErr result (UnreadCause D.story self.old) }
         ensures comes { IfOk result (λ come. Comes key wanted come self.old self.new) }
 
@@ -200,6 +200,34 @@ impl<D: Stages> PagedMachine<D> {
         laws();
         match self.bring_or_sync(key, Wanted::Free { page }) {
             Ok(Some(frame)) => Ok(frame),
+            Ok(None) => unreachable!(),
+            Err(why) => Err(why),
+        }
+    }
+    /// Brings a page that a page of a key's way names into a frame, and answers which: a neighbour, with which a page of that way is to be joined. The pages of
+    /// the way, which are hot, stay so. Where the page finds no frame, since each has a page of the way or one above the number up to which all logs are
+    /// flushed, it makes a sync first.
+    ///
+    /// The refusals are those of `warm`.
+    pub fn beside(&mut self, key: u64, page: u32) -> Result<u32, Unwarmed>
+        requires ready { IsReady D.story self.old }
+        requires key { key < 2 ^ 64 - 1 }
+        requires named { IsNamed (pages self.old) key page }
+        requires warm { IsWarm (pages self.old) key 0 }
+        ensures works { self.new.machine.work.session.works ≡ goes_on result }
+        ensures ready { goes_on result ≡ true → IsReady D.story self.new }
+        ensures gone { goes_on result ≡ true → HasGoneWhere D.story (IsTightBeside key page) (most_a_level self.old.machine.work.session.workers) self.old self.new }
+        ensures failed { goes_on result ≡ false → HasFailed D.story self.old self.new }
+        ensures spent { result ≡ Err refused.RowSpent → IsSpent self.old self.new }
+        ensures tight { result ≡ Err refused.RowSpent → IsLateOrStuckWhere (IsTightBeside key page) self.new }
+        ensures damaged { (page : ℕ) → (result ≡ Err (refused.Damaged page)) ⊎ (result ≡ Err (refused.Altered page)) → StandsNowhere D.story self.old }
+        ensures near { IfOk result (λ frame. IsNear key page frame self.old self.new) }
+
+        ensures cause_disk_fault { HasCause (D.faults self.old.machine.work.disk) (D.faults self.new.machine.work.disk) (result ≡ Err refused.DiskFault) }
+    {
+        laws();
+        match self.bring_or_sync(key, Wanted::Beside { page }) {
+            Ok(Some(place)) => Ok(place),
             Ok(None) => unreachable!(),
             Err(why) => Err(why),
         }

@@ -1,10 +1,10 @@
 -- A way that is brought into frames page by page.
-use Rattle.std.proofs.Common.{◌≡◌, ◌∙◌, ◌<◌, ◌≤◌, ◌-◌, ℕ, suc, Bool, true, false, List, [], ap, arith, refl, subst, sym, ◌&&◌, ◌==◌, leb, ltb}
-use Rattle.std.proofs.lemmas.Bool.{and_from, and_parts, eqb-true, le-leb, lt-ltb, or_cases}
+use Rattle.std.proofs.Common.{◌≡◌, ◌∙◌, ◌<◌, ◌≤◌, ◌-◌, ◌+◌, ◌⊎◌, ◌||◌, not, ℕ, suc, Bool, true, false, List, [], ap, arith, refl, subst, sym, ◌&&◌, ◌==◌, leb, ltb}
+use Rattle.std.proofs.lemmas.Bool.{and_from, and_parts, cases_eq, eqb-true, le-leb, leb-true, lt-ltb, ne_eqb, or_cases, or_right}
 use Rattle.core_calls.specs.Warms.{EveryWarm, IsWarmFrom}
 use Rattle.btree_descent.specs.core_state.Openings.{Opening}
 use Rattle.btree_descent.specs.core_state.States.{Place, State, is_hot, nodes_of}
-use Rattle.page_model.specs.Nodes.{covers, is_leaf}
+use Rattle.page_model.specs.Nodes.{Node, covers, is_leaf}
 use Rattle.btree_descent.specs.row_words.declared.given.Given.{Given}
 use Rattle.btree_descent.specs.row_words.Moments.{Moment}
 use Rattle.btree_descent.specs.row_words.Openings.{opening}
@@ -20,13 +20,13 @@ use Rattle.page_provider.specs.Moves.{Moved}
 use Rattle.page_provider.specs.Providers.{Provider}
 use Rattle.page_provider.specs.Sequels.{EverySequel}
 use Rattle.page_provider.specs.declared.refusal.Refusal.{Refusal}
-use Rattle.paged_rows.specs.Paged.{IsFedIfFaithful, IsFree, IsPaged}
+use Rattle.paged_rows.specs.Paged.{IsFedIfFaithful, IsFree, IsNamed, IsNamedIn, IsPaged}
 use Rattle.page_calls.specs.Mirrors.{Mirrors}
 use Rattle.page_provider.specs.Mirrored.{KeepsMirrored}
 use Rattle.lean_disk.specs.Moments.{Framed}
 use Rattle.std.specs.Prelude.{IsTrue}
 use Rattle.paged_rows.specs.Paged.{paged}
-use Rattle.paged_rows.specs.Warms.{CrowdedCause, HasCome, HasJoined, HasMoved, IsKept, IsLost, IsNeeded, IsRefusedTo, LostTo, most_a_page}
+use Rattle.paged_rows.specs.Warms.{CrowdedCause, HasCome, HasComeBeside, HasJoined, HasMoved, IsKept, IsLost, IsNeeded, IsOfPage, IsRefusedTo, LostTo, most_a_page}
 use Rattle.paged_rows.specs.declared.wanted.Wanted.{Wanted}
 use Rattle.paged_rows.specs.declared.wanted.Wanted.TheVariants as want
 use Rattle.btree_descent.specs.image_model.Entries.{Contents}
@@ -36,8 +36,11 @@ use Rattle.page_provider.specs.Moves.{KeepsPath}
 use Rattle.std.proofs.Common.{true≢false}
 use Rattle.std.proofs.lemmas.Bool.{ltb-true}
 use Rattle.map_model.specs.Lists.{any}
-use Rattle.map_model.proofs.ListLemmas.{any_has}
-use Rattle.page_pool.specs.Full.{IsTaken}
+use Rattle.map_model.proofs.ListLemmas.{any_has, has_any}
+use Rattle.page_model.specs.Tree.{IsTree, Names}
+use Rattle.btree_descent.specs.core_state.Lists.{all_below}
+use Rattle.btree_descent.specs.core_state.Needs.{has_hot_parent}
+use Rattle.page_pool.specs.Full.{IsTaken, IsWay}
 use Rattle.cold_pages.specs.Laws.{IsButEntries}
 use Rattle.page_provider.specs.Moves.{is_on, way}
 use Rattle.btree_descent.specs.core_state.States.{is_cold}
@@ -206,6 +209,58 @@ module _ (key : ℕ) (path : List ℕ) (v u : View) (behind : Sound u.given (sta
   crowded_by x z k is page wanted s refusal.NoPages alone short below needed c = absurd c
   crowded_by x z k is page wanted s _ alone short below needed c = tt
 
+-- ## A page that a page of the way names
+
+names_to : (n : Node) (p : ℕ) → names_page n p ≡ true → (s : Span) × Names n s × (s.child ≡ p)
+names_to n p h =
+    let a = and_parts (n.live && ltb 0 n.level) (any (λ (s : Span). s.child == p) (spans n.pairs n.high)) h in
+    let b = and_parts n.live (ltb 0 n.level) a.0 in
+    let s = any_has (λ (s : Span). s.child == p) (spans n.pairs n.high) a.1 in
+    (s.0, record { live = b.0; inner = ltb-true 0 n.level b.1; has = s.1 }, eqb-true s.0.child p s.2)
+
+not_zero : (n : ℕ) → 0 < n → (n == 0) ≡ false
+not_zero n lt = ne_eqb n 0 (λ e. omega arith)
+
+-- which is no leaf
+pub inner_of : (n : Node) (p : ℕ) → names_page n p ≡ true → is_leaf n ≡ false
+inner_of n p h = let t = names_to n p h in ap (λ b. b && (n.level == 0)) t.1.live ∙ not_zero n.level t.1.inner
+
+each_below : (n : ℕ) (f : ℕ → Bool) → ((q : ℕ) → q < n → f q ≡ true) → all_below n f ≡ true
+each_below zero f h = refl
+each_below (suc n) f h = and_from (f n) (all_below n f) (h n (omega arith)) (each_below n f (λ q l. h q (omega arith)))
+
+hot_parents : (g : Opening) (s : State) (p : ℕ) → ((q : ℕ) → q < g.format.pages → names_page (s.page q).node p ≡ true → is_hot (s.place q) ≡ true) → has_hot_parent g s p ≡ true
+hot_parents g s p h = each_below g.format.pages (λ q. not (names_page (s.page q).node p) || is_hot (s.place q)) (λ q l. go q l (names_page (s.page q).node p) refl)
+  where
+    go : (q : ℕ) → q < g.format.pages → (b : Bool) → names_page (s.page q).node p ≡ b → (not b || is_hot (s.place q)) ≡ true
+    go q l true e = h q l e
+    go q l false e = refl
+
+lies_to : (n : Node) (key : ℕ) → covers n key ≡ true → page_tree.Lies n key
+lies_to n key h =
+    let a = and_parts n.live (leb n.low key && ltb key n.high) h in
+    let b = and_parts (leb n.low key) (ltb key n.high) a.1 in
+    record { live = a.0; low = leb-true n.low key b.0; high = ltb-true key n.high b.1 }
+
+on_by : (path : List ℕ) (p f : ℕ) (x : Place) → x ≡ Place.Hot f → Has f path → is_on path p x ≡ true
+on_by path p f x hot has = ap (is_on path p) hot ∙ or_right (p == 0) (any (λ i. i == f) path) (has_any (λ i. i == f) path f has (eq-eqb f f refl))
+
+-- where a page of the way stands in one of the frames, so does each page of the way above it
+module _ (g : Opening) (s : State) (key : ℕ) (path : List ℕ) (tree : IsTree g.format (nodes_of s)) (closed : IsWay g s (way path s)) where
+  climb : (d p : ℕ) → p < g.format.pages → page_tree.Lies (nodes_of s p) key → way path s p ≡ true → (q : ℕ) → q < g.format.pages → page_tree.Lies (nodes_of s q) key → (nodes_of s q).level ≡ (nodes_of s p).level + d → way path s q ≡ true
+  climb zero p lp cp on q lq cq e = ap (way path s) (page_tree.one g.format (nodes_of s) tree q p key lq lp cq cp (omega arith)) ∙ on
+  climb (suc d) p lp cp on q lq cq e = go (cases_eq p 0) (climb d)
+    where
+      go : (p ≡ 0) ⊎ (p ≡ 0 → ⊥) → ((p : ℕ) → p < g.format.pages → page_tree.Lies (nodes_of s p) key → way path s p ≡ true → (q : ℕ) → q < g.format.pages → page_tree.Lies (nodes_of s q) key → (nodes_of s q).level ≡ (nodes_of s p).level + d → way path s q ≡ true) → way path s q ≡ true
+      go (inl z) up = let a = page_tree.tall g.format (nodes_of s) tree q lq cq.live in let b = ap (λ i. (nodes_of s i).level) z in absurd (omega arith)
+      go (inr ne) up =
+          let u = tree.up p lp cp.live ne in
+          let l = (page_tree.named g.format (nodes_of s) tree p u).1 in
+          up u.page u.below (page_tree.up_lies g.format (nodes_of s) tree p key u cp) (closed u.page p u.below (names_by (nodes_of s u.page) p u.span u.names u.child) on) q lq cq (omega arith)
+        where
+          names_by : (n : Node) (p : ℕ) (z : Span) → Names n z → z.child ≡ p → names_page n p ≡ true
+          names_by n p z m e = and_from (n.live && ltb 0 n.level) (any (λ (s : Span). s.child == p) (spans n.pairs n.high)) (and_from n.live (ltb 0 n.level) m.live (lt-ltb 0 n.level m.inner)) (has_any (λ (s : Span). s.child == p) (spans n.pairs n.high) z m.has (eq-eqb z.child p e))
+
 contents_same : (a b : Contents) → b.gsn ≡ a.gsn → b.last ≡ a.last → b.node ≡ a.node → b ≡ a
 contents_same a b gsn last node = λ i. record { gsn = gsn i; last = last i; node = node i }
 
@@ -344,62 +399,146 @@ module _ {x y : Shape} {v w : View} {k : Provider} (same : x ≡ y) (i : IsPaged
         crowded = crowded_by key path w u behind (root_on there.trail) h.keeps (contents h.moved) (stands there.trail last) x z k is page want.Way s why paged_now.alone there.trail.few (subst (λ (q : Given). page < (opening q).format.pages) (sym given) wanted_is.below) needed c;
       }
 
-  -- ## A free page
+  -- ## Where the way is hot
 
-  module _ {frames key row : ℕ} {path : List ℕ} (there : CameThere y.alone frames key path v (Leaf row) w) (met : MetLeaf y.alone key row v w) (every : EveryDescent) (frames_are : frames ≡ k.frames) (page : ℕ) (unused : IsFree (paged y v k) page) where
-    pub descent_free : IsDescent x w path
-    descent_free = subst (λ (z : Shape). IsDescent z w path) (sym same) (every y v w frames key there.row path i.keeps.sound (sized frames_are) ran there.trail).0
-
-    below : page < (opening w.given).format.pages
-    below = subst (λ (q : Given). page < (opening q).format.pages) (sym ran.given) unused.0
-
-    dead : ((state w).core.page page).node.live ≡ false
-    dead = ap (λ (m : Moment). (m.core.page page).node.live) now ∙ unused.1
-
-    pub wanted_free : IsWanted x w page
-    wanted_free = record { below = below; at_hand = inr (inl dead) }
-
-    pub leads_free : LeadsTo x w path page
-    leads_free only q lt names hot = absurd (free_unnamed w.given (state w) q page sound lt names dead)
+  module _ {frames key row : ℕ} {path : List ℕ} (there : CameThere y.alone frames key path v (Leaf row) w) (met : MetLeaf y.alone key row v w) (every : EveryDescent) (frames_are : frames ≡ k.frames) where
+    pub descent_hot : IsDescent x w path
+    descent_hot = subst (λ (z : Shape). IsDescent z w path) (sym same) (every y v w frames key there.row path i.keeps.sound (sized frames_are) ran there.trail).0
 
     at_row : IsLeafAt w.given (state w) there.row met.page key
     at_row = subst (λ r. IsLeafAt w.given (state w) r met.page key) there.there met.leaf
 
+    leaf_of : ((state w).core.page met.page).node.level ≡ 0
+    leaf_of =
+        let n = ((state w).core.page met.page).node in
+        let leaf = and_parts (is_leaf n) (covers n key) at_row.leaf in
+        eqb-true n.level 0 (and_parts n.live (n.level == 0) leaf.0).1
+
+    leaf_covers : covers ((state w).core.page met.page).node key ≡ true
+    leaf_covers = let n = ((state w).core.page met.page).node in (and_parts (is_leaf n) (covers n key) at_row.leaf).1
+
+    leaf_last : Stands w.given (state w) key there.row
+    leaf_last = leaf_stands w.given (state w) key there.row met.page at_row
+
     -- behind a call that has kept the way: the leaf is hot still, and so all of the way is
     module _ {z : Shape} {u : View} {is : Provider} (warms : EveryWarm) (later : z ≡ x) (m : Moved most_a_page x w k u is) (keeps : KeepsPath path w u) where
-      behind_joined : Sound u.given (state u)
-      behind_joined = m.goes.keeps.sound u.seen
+      behind_hot : Sound u.given (state u)
+      behind_hot = m.goes.keeps.sound u.seen
 
-      leaf_last : Stands w.given (state w) key there.row
-      leaf_last = leaf_stands w.given (state w) key there.row met.page at_row
-
-      joined_warm : IsWarm (paged z u is) key 0
-      joined_warm =
-          let n = ((state w).core.page met.page).node in
-          let leaf = and_parts (is_leaf n) (covers n key) at_row.leaf in
-          let level : ((state u).core.page met.page).node.level ≡ 0 = ap (λ n. n.level) (contents m met.page).fields ∙ eqb-true n.level 0 (and_parts n.live (n.level == 0) leaf.0).1 in
+      stays_warm : IsWarm (paged z u is) key 0
+      stays_warm =
+          let level : ((state u).core.page met.page).node.level ≡ 0 = ap (λ n. n.level) (contents m met.page).fields ∙ leaf_of in
           subst (λ j. IsWarmFrom (opening u.given) (state u).core key j) level
-          ((warms (opening u.given) (state u).core key).up behind_joined.tree behind_joined.residence met.page (subst (λ (q : Given). met.page < (opening q).format.pages) (sym m.goes.ran.given) at_row.below)
-          (ap (λ n. covers n key) (contents m met.page).fields ∙ leaf.1) (ap is_hot (keeps there.row met.page (has_last path there.row there.trail.ends) at_row.hot)))
+          ((warms (opening u.given) (state u).core key).up behind_hot.tree behind_hot.residence met.page (subst (λ (q : Given). met.page < (opening q).format.pages) (sym m.goes.ran.given) at_row.below)
+          (ap (λ n. covers n key) (contents m met.page).fields ∙ leaf_covers) (ap is_hot (keeps there.row met.page (has_last path there.row there.trail.ends) at_row.hot)))
 
-      page_same : (state u).core.page page ≡ (state v).core.page page
-      page_same =
+    module _ {z : Shape} {u : View} {is : Provider} (s : Story) (why : Refusal) (warms : EveryWarm) (later : z ≡ x) (h : HasRefused most_a_page x path w k why u is) where
+      -- behind one that was refused, of a page that was wanted beside it
+      refused_hot : (page : ℕ) (wanted : Wanted) → page < (opening w.given).format.pages → IsNeeded key wanted page (paged z u is) → FaultCause x path k page s u is why → IsRefusedTo key wanted (paged y v k) why (paged z u is)
+      refused_hot page wanted below needed c = record {
+        shape = later ∙ same;
+        refused = refused_from h;
+        warm = λ level _. warm_up (opening u.given) (state u).core key (omega arith) (stays_warm warms later h.moved h.keeps);
+        crowded = crowded_by key path w u (behind_hot warms later h.moved h.keeps) (root_on there.trail) h.keeps (contents h.moved) (stands there.trail leaf_last) x z k is page wanted s why paged_now.alone there.trail.few
+            (subst (λ (q : Given). page < (opening q).format.pages) (sym h.moved.goes.ran.given) below) needed c;
+      }
+
+    -- ## A free page
+
+    module _ (page : ℕ) (unused : IsFree (paged y v k) page) where
+      below : page < (opening w.given).format.pages
+      below = subst (λ (q : Given). page < (opening q).format.pages) (sym ran.given) unused.0
+
+      dead : ((state w).core.page page).node.live ≡ false
+      dead = ap (λ (m : Moment). (m.core.page page).node.live) now ∙ unused.1
+
+      pub wanted_free : IsWanted x w page
+      wanted_free = record { below = below; at_hand = inr (inl dead) }
+
+      pub leads_free : LeadsTo x w path page
+      leads_free only q lt names hot = absurd (free_unnamed w.given (state w) q page sound lt names dead)
+
+      page_same : {u : View} {is : Provider} → Moved most_a_page x w k u is → (state u).core.page page ≡ (state v).core.page page
+      page_same {u = u} m =
           let c = contents m page in
           let n = ((state w).core.page page).node in
           contents_same ((state w).core.page page) ((state u).core.page page) c.gsn c.last (c.other (ap (λ b. b && (n.level == 0)) dead)) ∙ ap (λ (m : Moment). m.core.page page) now
 
-      pub has_joined : {frame : ℕ} → (state u).core.place page ≡ Place.Hot frame → is.broken ≡ k.broken → HasJoined key page frame (paged y v k) (paged z u is)
-      has_joined hot broken = record { moved = moved_from later m broken; hot = hot; same = page_same; warm = joined_warm }
+      module _ {z : Shape} {u : View} {is : Provider} (warms : EveryWarm) (later : z ≡ x) where
+        pub has_joined : {frame : ℕ} → Moved most_a_page x w k u is → KeepsPath path w u → (state u).core.place page ≡ Place.Hot frame → is.broken ≡ k.broken → HasJoined key page frame (paged y v k) (paged z u is)
+        has_joined m keeps hot broken = record { moved = moved_from later m broken; hot = hot; same = page_same m; warm = stays_warm warms later m keeps }
 
-    module _ {z : Shape} {u : View} {is : Provider} (s : Story) (why : Refusal) (warms : EveryWarm) (later : z ≡ x) (h : HasRefused most_a_page x path w k why u is) where
-      pub refused_free : FaultCause x path k page s u is why → IsRefusedTo key (want.Free page) (paged y v k) why (paged z u is)
-      refused_free c = record {
-        shape = later ∙ same;
-        refused = refused_from h;
-        warm = λ level _. warm_up (opening u.given) (state u).core key (omega arith) (joined_warm warms later h.moved h.keeps);
-        crowded = crowded_by key path w u (behind_joined warms later h.moved h.keeps) (root_on there.trail) h.keeps (contents h.moved) (stands there.trail (leaf_last warms later h.moved h.keeps)) x z k is page (want.Free page) s why paged_now.alone there.trail.few
-            (subst (λ (q : Given). page < (opening q).format.pages) (sym h.moved.goes.ran.given) below) (refl, ap (λ (c : Contents). c.node.live) (page_same warms later h.moved h.keeps) ∙ unused.1) c;
+        pub refused_free : (s : Story) (why : Refusal) → HasRefused most_a_page x path w k why u is → FaultCause x path k page s u is why → IsRefusedTo key (want.Free page) (paged y v k) why (paged z u is)
+        refused_free s why h c = refused_hot s why warms later h page (want.Free page) below (refl, ap (λ (c : Contents). c.node.live) (page_same h.moved) ∙ unused.1) c
+
+    -- ## A page that a page of the way names
+
+    module _ (page : ℕ) (b : IsNamed (paged y v k) key page) (hot : IsWarm (paged y v k) key 0) where
+      parent_below : b.parent < (opening w.given).format.pages
+      parent_below = subst (λ (q : Given). b.parent < (opening q).format.pages) (sym ran.given) b.below
+
+      parent_covers : covers ((state w).core.page b.parent).node key ≡ true
+      parent_covers = ap (λ (m : Moment). covers (m.core.page b.parent).node key) now ∙ b.on
+
+      parent_names : names_page ((state w).core.page b.parent).node page ≡ true
+      parent_names = ap (λ (m : Moment). names_page (m.core.page b.parent).node page) now ∙ b.names
+
+      parent_hot : is_hot ((state w).core.place b.parent) ≡ true
+      parent_hot = ap (λ (m : Moment). is_hot (m.core.place b.parent)) now ∙ hot b.parent b.below b.on (omega arith)
+
+      naming : (s : Span) × Names ((state w).core.page b.parent).node s × (s.child ≡ page)
+      naming = names_to ((state w).core.page b.parent).node page parent_names
+
+      below_named : page < (opening w.given).format.pages
+      below_named = subst (λ p. p < (opening w.given).format.pages) naming.2 (page_tree.child_page (opening w.given).format (nodes_of (state w).core) sound.tree b.parent naming.0 parent_below naming.1).1
+
+      -- a page has one parent
+      parent_is : (q : ℕ) → q < (opening w.given).format.pages → names_page ((state w).core.page q).node page ≡ true → q ≡ b.parent
+      parent_is q lt names =
+          let t = names_to ((state w).core.page q).node page names in
+          (page_tree.only (opening w.given).format (nodes_of (state w).core) sound.tree q b.parent t.0 naming.0 lt parent_below t.1 naming.1 (t.2 ∙ sym naming.2)).0
+
+      -- which stands in one of the frames of the way
+      parent_on : way path (state w).core b.parent ≡ true
+      parent_on =
+          let n = nodes_of (state w).core in
+          let zero_is = leaf_of in
+          climb (opening w.given) (state w).core key path sound.tree (descent_hot.closed paged_now.alone) (n b.parent).level met.page at_row.below (lies_to (n met.page) key leaf_covers)
+          (on_by path met.page there.row ((state w).core.place met.page) at_row.hot (has_last path there.row there.trail.ends)) b.parent parent_below (lies_to (n b.parent) key parent_covers) (omega arith)
+
+      pub wanted_named : IsWanted x w page
+      wanted_named = record {
+        below = below_named;
+        at_hand = inr (inr (paged_now.alone, hot_parents (opening w.given) (state w).core page (λ q lt names. ap (λ i. is_hot ((state w).core.place i)) (parent_is q lt names) ∙ parent_hot)));
       }
+
+      pub leads_named : LeadsTo x w path page
+      leads_named only q lt names is_hot_there = ap (way path (state w).core) (parent_is q lt names) ∙ parent_on
+
+      -- it is named still
+      named_behind : {u : View} {is : Provider} → Moved most_a_page x w k u is → IsNamedIn (opening u.given) (state u).core key page
+      named_behind {u = u} m =
+          let c = contents m b.parent in
+          let n = ((state w).core.page b.parent).node in record {
+            parent = b.parent;
+            below = subst (λ (q : Given). b.parent < (opening q).format.pages) (sym m.goes.ran.given) parent_below;
+            on = ap (λ n. covers n key) c.fields ∙ parent_covers;
+            names = ap (λ n. names_page n page) (c.other (inner_of n page parent_names)) ∙ parent_names;
+          }
+
+      module _ {z : Shape} {u : View} {is : Provider} (warms : EveryWarm) (later : z ≡ x) where
+        pub has_come_beside : {frame : ℕ} → Moved most_a_page x w k u is → KeepsPath path w u → (state u).core.place page ≡ Place.Hot frame → is.broken ≡ k.broken → HasComeBeside key page frame (paged y v k) (paged z u is)
+        has_come_beside m keeps hot_there broken = record {
+          moved = moved_from later m broken;
+          hot = hot_there;
+          named = named_behind m;
+          like = subst (λ (s : Moment). IsButEntries (s.core.page page) ((state u).core.page page)) now (contents m page);
+          same = λ faithful. seq.contents most_a_page x w u k is paged_now.alone (ap (λ (g : Given). g.faithful) ran.given ∙ faithful) paged_now.keeps m page ∙ ap (λ (s : Moment). s.core.page page) now;
+          warm = stays_warm warms later m keeps;
+        }
+
+        pub refused_beside : (s : Story) (why : Refusal) → HasRefused most_a_page x path w k why u is → FaultCause x path k page s u is why → IsRefusedTo key (want.Beside page) (paged y v k) why (paged z u is)
+        refused_beside s why h c = refused_hot s why warms later h page (want.Beside page) below_named (refl, named_behind h.moved) c
 
   -- the slots hold what is saved still
   pub fed_now : (s : Story) → IsFedIfFaithful (paged y v k) s → IsFedIfFaithful (paged x w k) s
@@ -432,3 +571,13 @@ ok_map P Q (Err e) f h = tt
 pub err_map : {A E : Type 0} (P Q R : E → Type 0) (r : Result A E) → ((e : E) → P e → Q e → R e) → IfErr r P → IfErr r Q → IfErr r R
 err_map P Q R (Ok a) f h j = tt
 err_map P Q R (Err e) f h j = f e h j
+
+-- it is this page that is not to be had
+of_page : (x : Shape) (path : List ℕ) (k : Provider) (page : ℕ) (s : Story) (u : View) (is : Provider) (why : Refusal) → FaultCause x path k page s u is why → IsOfPage page why
+of_page x path k page s u is (refusal.Damaged p counts other) c = c.0
+of_page x path k page s u is (refusal.Altered p) c = c.0
+of_page x path k page s u is _ c = tt
+
+pub which_if : (x : Shape) (path : List ℕ) (k : Provider) (page : ℕ) (s : Story) (u : View) (is : Provider) (r : Result ℕ Refusal) → IfErr r (FaultCause x path k page s u is) → IfErr r (IsOfPage page)
+which_if x path k page s u is (Ok frame) c = tt
+which_if x path k page s u is (Err why) c = of_page x path k page s u is why c

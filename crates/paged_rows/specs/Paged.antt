@@ -4,6 +4,10 @@ use Rattle.core_calls.specs.Warms.{IsWarmFrom}
 use Rattle.lean_disk.specs.Story.{Story, Tells}
 use Rattle.page_provider.specs.Mirrored.{IsMirrored}
 use Rattle.page_provider.specs.Providers.{Keeps, Provider}
+use Rattle.page_model.specs.Check.{names_page}
+use Rattle.page_model.specs.Nodes.{covers}
+use Rattle.btree_descent.specs.core_state.Openings.{Opening}
+use Rattle.btree_descent.specs.core_state.States.{State}
 use Rattle.btree_descent.specs.row_words.Openings.{opening}
 use Rattle.btree_descent.specs.rows_trait.declared.view.View.{View}
 use Rattle.btree_descent.specs.rows_trait.Views.{Shape, state}
@@ -39,3 +43,14 @@ IsWarm p key level = IsWarmFrom (opening p.view.given) (state p.view).core key l
 -- a page of the disk that is no node of the tree
 abbrev pub IsFree : Paged → (page : ℕ) → Type 0
 IsFree p page = (page < (opening p.view.given).format.pages) × (((state p.view).core.page page).node.live ≡ false)
+
+-- A page that a page of the key's way names: the next one of the way, or one beside it, with which that one may be joined.
+pub record IsNamedIn (g : Opening) (s : State) (key page : ℕ) : Type 0 where
+  pub parent : ℕ
+  pub below : parent < g.format.pages
+  pub on : covers (s.page parent).node key ≡ true
+  pub names : names_page (s.page parent).node page ≡ true
+
+-- such a page
+abbrev pub IsNamed : Paged → (key page : ℕ) → Type 0
+IsNamed p key page = IsNamedIn (opening p.view.given) (state p.view).core key page

@@ -1,6 +1,7 @@
--- A page of a key's way, or a free one, is brought into a frame.
+-- A page of a key's way is brought into a frame, or a free one, or one beside the way.
 use Rattle.std.specs.Prelude.{◌≡◌, ◌<◌, ◌≤◌, ◌+◌, ◌⊎◌, ℕ, true, false, [], Option, Some, None}
 use Rattle.btree_descent.specs.core_state.States.{Place, flushed_by_all, in_frame, is_cold, is_cooling, is_hot}
+use Rattle.cold_pages.specs.Laws.{IsButEntries}
 use Rattle.page_model.specs.Nodes.{covers}
 use Rattle.page_pool.specs.Full.{IsHeldBack}
 use Rattle.page_provider.specs.declared.refusal.Refusal.{Refusal}
@@ -15,7 +16,7 @@ use Rattle.page_provider.specs.Moves.{Moved}
 use Rattle.btree_descent.specs.row_words.Moments.{events_of}
 use Rattle.btree_descent.specs.row_words.Openings.{opening}
 use Rattle.btree_descent.specs.rows_trait.Views.{state}
-use Rattle.paged_rows.specs.Paged.{IsFree, IsWarm, Paged}
+use Rattle.paged_rows.specs.Paged.{IsFree, IsNamed, IsWarm, Paged}
 use Rattle.paged_rows.specs.declared.wanted.Wanted.{Wanted}
 use Rattle.paged_rows.specs.declared.wanted.Wanted.TheVariants as want
 
@@ -52,16 +53,29 @@ pub record HasJoined (key page frame : ℕ) (p q : Paged) : Type 0 where
   pub same : (state q.view).core.page page ≡ (state p.view).core.page page
   pub warm : IsWarm q key 0
 
--- what is asked: a free page is brought where the key's way is hot
+-- The page, which a page of the key's way names, stands hot in this frame, and is named still. It is as it was, but for the entries of a leaf, and where rows
+-- began faithful these too; and the pages of the key's way are hot still.
+pub record HasComeBeside (key page frame : ℕ) (p q : Paged) : Type 0 where
+  pub moved : HasMoved most_a_page p q
+  pub hot : (state q.view).core.place page ≡ Place.Hot frame
+  pub named : IsNamed q key page
+  pub like : IsButEntries ((state p.view).core.page page) ((state q.view).core.page page)
+  pub same : p.view.given.faithful ≡ true → (state q.view).core.page page ≡ (state p.view).core.page page
+  pub warm : IsWarm q key 0
+
+-- what is asked: a free page, or one that a page of the way names, is brought where the key's way is hot
 abbrev pub CanBring : (key : ℕ) → Wanted → Paged → Type 0
 CanBring key want.Way p = Unit {0}
 CanBring key (want.Free page) p = IsFree p page × IsWarm p key 0
+CanBring key (want.Beside page) p = IsNamed p key page × IsWarm p key 0
 
 -- what has come, and into which frame
 abbrev pub Brings : (key : ℕ) → Wanted → Option ℕ → (p q : Paged) → Type 0
 Brings key want.Way come p q = Warms key come p q
 Brings key (want.Free page) None p q = ⊥
 Brings key (want.Free page) (Some frame) p q = HasJoined key page frame p q
+Brings key (want.Beside page) None p q = ⊥
+Brings key (want.Beside page) (Some frame) p q = HasComeBeside key page frame p q
 
 -- ## The device
 
@@ -77,10 +91,11 @@ pub record IsKept (key frame : ℕ) (q : Paged) : Type 0 where
   pub here : in_frame ((state q.view).core.place page) frame ≡ true
   pub why : (covers ((state q.view).core.page page).node key ≡ true) ⊎ ((flushed_by_all (opening q.view.given) (state q.view).core < ((state q.view).core.page page).gsn) ⊎ IsHeldBack (state q.view).core page)
 
--- the page is of the key's way, or it is the free one that was wanted
+-- the page is of the key's way, or it is the one that was wanted: a free one, or one that a page of the way names
 abbrev pub IsNeeded : (key : ℕ) → Wanted → (page : ℕ) → Paged → Type 0
 IsNeeded key want.Way page q = covers ((state q.view).core.page page).node key ≡ true
 IsNeeded key (want.Free free) page q = (page ≡ free) × (((state q.view).core.page page).node.live ≡ false)
+IsNeeded key (want.Beside beside) page q = (page ≡ beside) × IsNamed q key page
 
 -- Such a page is in no frame, and each frame is kept from it: so many by pages of the way, of each level one at most; so many by pages above what is
 -- flushed everywhere, and so many by pages that are held back; and there is such a page where the count is not 0.
@@ -120,3 +135,9 @@ abbrev pub LostTo : Paged → Story → Refusal → Type 0
 LostTo p s (refusal.Damaged page counts other) = IsLost p page s (refusal.Damaged page counts other)
 LostTo p s (refusal.Altered page) = IsLost p page s (refusal.Altered page)
 LostTo p s _ = Unit {0}
+
+-- it is this page that is not to be had
+abbrev pub IsOfPage : (page : ℕ) → Refusal → Type 0
+IsOfPage page (refusal.Damaged lost counts other) = lost ≡ page
+IsOfPage page (refusal.Altered lost) = lost ≡ page
+IsOfPage page _ = Unit {0}

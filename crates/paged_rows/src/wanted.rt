@@ -1,4 +1,4 @@
-// What is brought into a frame: a page of a key's way, or a free one.
+// What is brought into a frame: a page of a key's way, a free one, or one beside the way.
 ghost use Rattle.std.specs.Prelude.{◌≡◌, ◌<◌, ◌^◌, ◌-◌, true, false, IfOk, IfErr, Err};
 ghost use Rattle.lean_disk.specs.Faults.{HasCause};
 ghost use Rattle.lean_disk.specs.Moments.{Framed};
@@ -8,6 +8,7 @@ ghost use Rattle.page_provider.specs.declared.refusal.Refusal.TheVariants as ref
 ghost use Rattle.paged_rows.specs.Paged.{IsFedIfFaithful, IsPaged, paged};
 ghost use Rattle.paged_rows.specs.Warms.{Brings, CanBring, IsRefusedTo, LostTo, ReadsUnlessSaved};
 
+use crate::beside::bring_beside;
 use crate::coming::bring;
 use crate::joining::bring_free;
 use btree_descent::Rows;
@@ -21,9 +22,11 @@ pub enum Wanted {
     Way,
     /// This page, which is free, while the pages of the key's way stay.
     Free { page: u32 },
+    /// This page, which a page of the key's way names, while the pages of that way stay.
+    Beside { page: u32 },
 }
 
-/// Brings what is wanted, by `bring` or `bring_free`. None: the key's way was wanted, and is hot.
+/// Brings what is wanted, by `bring`, `bring_free` or `bring_beside`. None: the key's way was wanted, and is hot.
 pub fn bring_wanted<R: Rows, P: Part>(
     rows: &mut R,
     seat: &mut R::Seat,
@@ -58,6 +61,10 @@ pub fn bring_wanted<R: Rows, P: Part>(
         Wanted::Way => bring(rows, seat, pager, dev, worker, key),
         Wanted::Free { page } => {
             let frame = bring_free(rows, seat, pager, dev, worker, key, page)?;
+            Ok(Some(frame))
+        }
+        Wanted::Beside { page } => {
+            let frame = bring_beside(rows, seat, pager, dev, worker, key, page)?;
             Ok(Some(frame))
         }
     }

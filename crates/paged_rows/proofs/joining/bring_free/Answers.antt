@@ -6,7 +6,7 @@ use Rattle.btree_descent.specs.rows_trait.Views.{Shape}
 use Rattle.paged_rows.specs.Paged.{paged}
 use Rattle.paged_rows.specs.Warms.{HasJoined, IsRefusedTo, LostTo, most_a_page}
 use Rattle.paged_rows.specs.declared.wanted.Wanted.TheVariants as want
-use Rattle.paged_rows.proofs.Warming.{descent_free, disk_from, err_map, fed_now, fed_on, has_joined, leads_free, lost_from, moved_if, never_warm, ok_map, paged_if, paged_now, refused_free, wanted_free}
+use Rattle.paged_rows.proofs.Warming.{descent_hot, disk_from, err_map, fed_now, fed_on, has_joined, leads_free, lost_from, moved_if, never_warm, ok_map, paged_if, paged_now, refused_free, wanted_free}
 use Rattle.paged_rows.proofs.joining.bring_free.Goals as goal
 
 pub unreachable-requires : goal.unreachable-requires
@@ -22,7 +22,7 @@ frame_for-requires-clause-wanted g c =
 
 pub frame_for-requires-clause-descent : goal.frame_for-requires-clause-descent
 frame_for-requires-clause-descent g c =
-    descent_free c.reach.ensures.fits.1 c.requires.paged c.every_sequel.ensures c.in-Leaf.ensures.went.ran c.reach.ensures.fits.2 c.in-Leaf.ensures.came c.in-Leaf.ensures.went c.every_descent.ensures c.frames-frames.ensures c.args.page c.requires.free
+    descent_hot c.reach.ensures.fits.1 c.requires.paged c.every_sequel.ensures c.in-Leaf.ensures.went.ran c.reach.ensures.fits.2 c.in-Leaf.ensures.came c.in-Leaf.ensures.went c.every_descent.ensures c.frames-frames.ensures
 
 pub frame_for-requires-clause-leads : goal.frame_for-requires-clause-leads
 frame_for-requires-clause-leads g c =
@@ -61,7 +61,7 @@ returns-clause-err g c =
     let s = g.P.Part.story c.args.dev.now in
     err_map (λ why. HasRefused most_a_page x c.reach.new.path w k why u is) (FaultCause x c.reach.new.path k c.args.page s u is)
     (λ why. IsRefusedTo c.args.key (want.Free c.args.page) (paged (g.R.Rows.shape c.args.rows.now) (g.R.Rows.view c.args.seat.now) k) why (paged (g.R.Rows.shape c.frame_for.new.rows) u is)) c.frame_for.result
-    (λ why h f. refused_free c.reach.ensures.fits.1 c.requires.paged c.every_sequel.ensures c.in-Leaf.ensures.went.ran c.reach.ensures.fits.2 c.in-Leaf.ensures.came c.in-Leaf.ensures.went c.every_descent.ensures c.frames-frames.ensures c.args.page c.requires.free s why c.every_warm.ensures c.frame_for.ensures.fits.1 h f)
+    (λ why h f. refused_free c.reach.ensures.fits.1 c.requires.paged c.every_sequel.ensures c.in-Leaf.ensures.went.ran c.reach.ensures.fits.2 c.in-Leaf.ensures.came c.in-Leaf.ensures.went c.every_descent.ensures c.frames-frames.ensures c.args.page c.requires.free c.every_warm.ensures c.frame_for.ensures.fits.1 s why h f)
     c.frame_for.ensures.err c.frame_for.ensures.cause
 
 pub returns-clause-lost : goal.returns-clause-lost

@@ -8,6 +8,7 @@ use Rattle.desk_parts.specs.row_words.declared.given.Given.{Given}
 use Rattle.desk_parts.specs.row_words.Openings.{opening}
 use Rattle.desk_parts.specs.session_state.Opened.{plain_shape}
 use Rattle.paged_desks.specs.Machines.{pages, view_of}
+use Rattle.paged_desks.specs.Pages.{IsTightFor}
 use Rattle.paged_desks.specs.declared.machine.PagedMachine.{PagedMachine}
 use Rattle.paged_desks.proofs.Breaking.{broken_by, broken_up}
 use Rattle.paged_desks.proofs.Doing.{done_by, done_up, slots_on}
@@ -44,7 +45,7 @@ returns-clause-done g c well =
     let moved = moved_of c.args.key c.args.wanted (pages m) q c.bring_wanted-came.result c.bring_wanted-came.ensures.ok c.bring_wanted-came.ensures.err in
     let few : 3 * moved.0 ≤ 15 = (let x = moved.1 in omega arith) in
     done_up few
-    (done_by g.D.Disk.story m n c.requires.ready (record { shape = c.bring_wanted-came.ensures.fits.1; session = refl; log = refl; desks = refl; latches = refl; master = refl }) moved.2 (c.every_disk_part.ensures.pages m.machine.work.disk c.bring_wanted-came.new.dev.disk.now) c.args.key l.reached l.needs l.places l.few l.sequel
+    (done_by g.D.Disk.story m n c.requires.ready (record { shape = c.bring_wanted-came.ensures.fits.1; session = refl; log = refl; desks = refl; latches = refl; master = refl }) moved.2 (c.every_disk_part.ensures.pages m.machine.work.disk c.bring_wanted-came.new.dev.disk.now) (IsTightFor c.args.wanted c.args.key) l.reached l.needs l.few l.sequel
     (record {
       disk = subst (λ d. Disked true m.pager (view_of m) n.pager (view_of n) (g.D.Disk.story d) (g.D.Disk.story n.machine.work.disk)) c.new.ensures.disk c.bring_wanted-came.ensures.disk;
       stays = record {

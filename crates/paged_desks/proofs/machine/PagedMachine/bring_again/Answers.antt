@@ -1,7 +1,7 @@
 use Rattle.std.proofs.Common.{◌≡◌, ◌∙◌, ap, refl, subst, sym, ℕ, Option, Err}
 use Rattle.lean_disk.specs.Faults.{HasCause}
 use Rattle.paged_desks.specs.Inside.{HasDone}
-use Rattle.paged_desks.specs.Pages.{goes_on}
+use Rattle.paged_desks.specs.Pages.{IsTightFor, goes_on}
 use Rattle.paged_desks.specs.Parts.{IsLate}
 use Rattle.paged_desks.specs.Machines.{IsReady, pages, view_of}
 use Rattle.paged_desks.specs.declared.warming.Unwarmed.TheVariants as refused
@@ -56,7 +56,7 @@ returns-in-Err-clause-done g c =
     let e = c.in-Err.ensures.err in
     let why = c.in-Err.why in
     stop_keeps g.D.Disk.story c.args.key c.args.wanted m n c.stop.new.self why c.stop.result c.requires.ready e (pages_refused g.D.Disk.story c.args.key c.args.wanted m n why c.laws.ensures.reached c.laws.ensures.low c.laws.ensures.sequel c.requires.ready c.requires.low e)
-    c.stop.ensures.why c.stop.ensures.goes_on (Option ℕ) (HasDone g.D.Disk.story c.args.key 15 m) c.in-Err.ensures.done
+    c.stop.ensures.why c.stop.ensures.goes_on (Option ℕ) (HasDone g.D.Disk.story (IsTightFor c.args.wanted c.args.key) 15 m) c.in-Err.ensures.done
 
 pub returns-in-Err-clause-cause_disk_fault : goal.returns-in-Err-clause-cause_disk_fault
 returns-in-Err-clause-cause_disk_fault g c =

@@ -5,7 +5,7 @@ use Rattle.paged_desks.specs.Inside.{HasDone}
 use Rattle.paged_desks.specs.Parts.{IsLate}
 use Rattle.paged_desks.specs.declared.warming.Unwarmed.TheVariants as refused
 use Rattle.paged_desks.specs.Machines.{pages, view_of}
-use Rattle.paged_desks.specs.Pages.{goes_on, most_a_level}
+use Rattle.paged_desks.specs.Pages.{IsTightFor, goes_on, most_a_level}
 use Rattle.paged_desks.proofs.Breaking.{broken_then, broken_up, stop_broken}
 use Rattle.paged_desks.proofs.Doing.{done_then, done_up}
 use Rattle.paged_desks.proofs.Late.{late_of}
@@ -41,7 +41,7 @@ returns-then-is_full-clause-done g c on =
     let e = c.in-Err.ensures in
     let many = ap (λ (s : Session). s.workers) e.beside.session in
     let lawful : (d : g.row.D.Denot) → IsLawful (g.D.Disk.story d) = λ d. (g.met.D.Disk g.world.𝓛 g.world.𝓜 g.world.𝓡 ((λ s x. x), (λ x. x), (λ x. x), (λ x. x))).lawful d in
-    done_then g.D.Disk.story c.args.key l.places l.kept l.prefixes l.seals l.versions lawful (let few : 15 + (15 + suc n.machine.work.session.workers) ≤ most_a_level m.machine.work.session.workers = omega arith in few)
+    done_then g.D.Disk.story (IsTightFor c.args.wanted c.args.key) l.kept l.prefixes l.seals l.versions lawful (let few : 15 + (15 + suc n.machine.work.session.workers) ≤ most_a_level m.machine.work.session.workers = omega arith in few)
     (e.done (broken_is c.args.key c.args.wanted (pages m) (pages n) c.in-Err.why c.requires.ready.well e.err ∙ full_calm c.in-Err.why (sym c.is_full.ensures ∙ c.if-is_full.true))) (c.sync_and_bring.ensures.done on)
 
 pub returns-then-is_full-clause-comes : goal.returns-then-is_full-clause-comes
@@ -63,7 +63,7 @@ returns-clause-done g c =
     let why = c.in-Err.why in
     let most = most_a_level m.machine.work.session.workers in
     stop_keeps g.D.Disk.story c.args.key c.args.wanted m n c.stop.new.self why c.stop.result c.requires.ready e (of_page c.args.key c.args.wanted (pages m) (pages n) why (paged_is c.requires.ready) c.requires.ready.well (sym c.is_full.ensures ∙ c.if-is_full.false) e)
-    c.stop.ensures.why c.stop.ensures.goes_on (Option ℕ) (HasDone g.D.Disk.story c.args.key most m) (λ well. done_up (let few : 15 ≤ most_a_level m.machine.work.session.workers = omega arith in few) (c.in-Err.ensures.done well))
+    c.stop.ensures.why c.stop.ensures.goes_on (Option ℕ) (HasDone g.D.Disk.story (IsTightFor c.args.wanted c.args.key) most m) (λ well. done_up (let few : 15 ≤ most_a_level m.machine.work.session.workers = omega arith in few) (c.in-Err.ensures.done well))
 
 pub returns-then-is_full-clause-broke : goal.returns-then-is_full-clause-broke
 returns-then-is_full-clause-broke g c off =
@@ -73,7 +73,7 @@ returns-then-is_full-clause-broke g c off =
     let many = ap (λ (s : Session). s.workers) e.beside.session in
     let l = c.laws.ensures in
     let lawful : (d : g.row.D.Denot) → IsLawful (g.D.Disk.story d) = λ d. (g.met.D.Disk g.world.𝓛 g.world.𝓜 g.world.𝓡 ((λ s x. x), (λ x. x), (λ x. x), (λ x. x))).lawful d in
-    broken_then g.D.Disk.story c.args.key l.kept l.prefixes l.seals l.versions lawful (let few : 15 + (15 + suc n.machine.work.session.workers) ≤ most_a_level m.machine.work.session.workers = omega arith in few)
+    broken_then g.D.Disk.story (IsTightFor c.args.wanted c.args.key) l.kept l.prefixes l.seals l.versions lawful (let few : 15 + (15 + suc n.machine.work.session.workers) ≤ most_a_level m.machine.work.session.workers = omega arith in few)
     (e.done (broken_is c.args.key c.args.wanted (pages m) (pages n) c.in-Err.why c.requires.ready.well e.err ∙ full_calm c.in-Err.why (sym c.is_full.ensures ∙ c.if-is_full.true))) (c.sync_and_bring.ensures.broke off)
 
 pub returns-clause-broke : goal.returns-clause-broke

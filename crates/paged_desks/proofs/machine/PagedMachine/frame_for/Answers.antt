@@ -1,7 +1,7 @@
 use Rattle.std.proofs.Common.{◌*◌, ◌≤◌, arith, ap, refl, subst, ℕ, Option, Ok}
 use Rattle.paged_rows.specs.declared.wanted.Wanted.TheVariants as want
 use Rattle.paged_desks.specs.Inside.{Comes}
-use Rattle.paged_desks.specs.Pages.{goes_on, most_a_level}
+use Rattle.paged_desks.specs.Pages.{IsTightFor, goes_on, most_a_level}
 use Rattle.paged_desks.specs.declared.warming.Unwarmed.TheVariants as refused
 use Rattle.paged_desks.proofs.Breaking.{broken_up, failed_of}
 use Rattle.paged_desks.proofs.Doing.{gone_of}
@@ -14,7 +14,7 @@ use Rattle.paged_desks.proofs.machine.PagedMachine.frame_for.Goals as goal
 pub returns-in-Ok-Some-clause-gone : goal.returns-in-Ok-Some-clause-gone
 returns-in-Ok-Some-clause-gone g c _ =
     let m = c.args.self.now in
-    gone_of g.D.Disk.story m c.requires.ready c.laws.ensures.frames c.args.key (most_a_level m.machine.work.session.workers) c.bring_or_sync.new.self (omega arith) (c.in-Ok-Some.ensures.done refl)
+    gone_of g.D.Disk.story m c.requires.ready c.laws.ensures.frames (IsTightFor (want.Free c.args.page) c.args.key) (most_a_level m.machine.work.session.workers) c.bring_or_sync.new.self (omega arith) (c.in-Ok-Some.ensures.done refl)
 
 pub returns-in-Ok-Some-clause-home : goal.returns-in-Ok-Some-clause-home
 returns-in-Ok-Some-clause-home g c =
@@ -27,7 +27,7 @@ returns-in-Ok-Some-clause-damaged g c page e = damaged_of g.D.Disk.story c.args.
 pub returns-in-Err-clause-gone : goal.returns-in-Err-clause-gone
 returns-in-Err-clause-gone g c on =
     let m = c.args.self.now in
-    gone_of g.D.Disk.story m c.requires.ready c.laws.ensures.frames c.args.key (most_a_level m.machine.work.session.workers) c.bring_or_sync.new.self (omega arith) (c.in-Err.ensures.done on)
+    gone_of g.D.Disk.story m c.requires.ready c.laws.ensures.frames (IsTightFor (want.Free c.args.page) c.args.key) (most_a_level m.machine.work.session.workers) c.bring_or_sync.new.self (omega arith) (c.in-Err.ensures.done on)
 
 pub returns-in-Err-clause-failed : goal.returns-in-Err-clause-failed
 returns-in-Err-clause-failed g c off =
@@ -42,7 +42,7 @@ pub returns-in-Err-clause-spent : goal.returns-in-Err-clause-spent
 returns-in-Err-clause-spent g c r =
     let why = frame_same c.in-Err.why refused.RowSpent r in
     let d = c.in-Err.ensures.done (ap (λ u. goes_on (refusing u)) why) in
-    spent_from c.args.key c.args.self.now c.bring_or_sync.new.self (half_kept d.paged.same.0 d.paged.sessions) (c.in-Err.ensures.stuck (ap refusing why))
+    spent_from (IsTightFor (want.Free c.args.page) c.args.key) c.args.self.now c.bring_or_sync.new.self (half_kept d.paged.same.0 d.paged.sessions) (c.in-Err.ensures.stuck (ap refusing why))
 
 pub returns-in-Err-clause-damaged : goal.returns-in-Err-clause-damaged
 returns-in-Err-clause-damaged g c page e = damaged_of g.D.Disk.story c.args.self.now (frameless_by c.in-Err.why) c.in-Err.ensures.unread page e

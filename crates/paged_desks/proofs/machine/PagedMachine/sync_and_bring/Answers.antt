@@ -1,6 +1,7 @@
 use Rattle.std.proofs.Common.{inl, inr, refl, true≢false, ◌∙◌, ◌+◌, ◌≤◌, arith, sym, suc}
 use Rattle.lean_disk.specs.Story.{IsLawful}
 use Rattle.paged_desks.specs.Machines.{pages}
+use Rattle.paged_desks.specs.Pages.{IsTightFor}
 use Rattle.paged_desks.proofs.Breaking.{broken_sync, broken_then, broken_up}
 use Rattle.paged_desks.proofs.Doing.{done_none, done_sync, done_then, done_up}
 use Rattle.paged_desks.proofs.Full.{tight_is}
@@ -13,7 +14,7 @@ pub returns-then-not-may_sync-clause-done : goal.returns-then-not-may_sync-claus
 returns-then-not-may_sync-clause-done g c _ =
     let l = c.laws.ensures in
     let lawful : (d : g.row.D.Denot) → IsLawful (g.D.Disk.story d) = λ d. (g.met.D.Disk g.world.𝓛 g.world.𝓜 g.world.𝓡 ((λ s x. x), (λ x. x), (λ x. x), (λ x. x))).lawful d in
-    done_up (omega arith) (done_none g.D.Disk.story c.args.key l.places l.kept l.prefixes l.seals l.versions lawful l.reached l.needs c.args.self.now)
+    done_up (omega arith) (done_none g.D.Disk.story (IsTightFor c.args.wanted c.args.key) l.kept l.prefixes l.seals l.versions lawful l.reached l.needs c.args.self.now)
 
 pub sync-requires-clause-may : goal.sync-requires-clause-may
 sync-requires-clause-may g c κs within = c.may_sync.ensures.0 c.if-not-may_sync.false
@@ -24,8 +25,8 @@ returns-in-Ok-clause-done g c on =
     let l = c.laws.ensures in
     let t = c.requires.crowded in
     let lawful : (d : g.row.D.Denot) → IsLawful (g.D.Disk.story d) = λ d. (g.met.D.Disk g.world.𝓛 g.world.𝓜 g.world.𝓡 ((λ s x. x), (λ x. x), (λ x. x), (λ x. x))).lawful d in
-    done_then g.D.Disk.story c.args.key l.places l.kept l.prefixes l.seals l.versions lawful (let few : suc m.machine.work.session.workers + 15 ≤ 15 + suc m.machine.work.session.workers = omega arith in few)
-    (done_sync g.D.Disk.story c.args.key m c.sync.new.self l.reached l.needs l.places c.in-Ok.ensures.synced (tight_is c.args.key c.args.wanted t.on t.above t.held (pages m) c.requires.ready.outside t.crowded)) (c.bring_again.ensures.done on)
+    done_then g.D.Disk.story (IsTightFor c.args.wanted c.args.key) l.kept l.prefixes l.seals l.versions lawful (let few : suc m.machine.work.session.workers + 15 ≤ 15 + suc m.machine.work.session.workers = omega arith in few)
+    (done_sync g.D.Disk.story c.args.wanted c.args.key m c.sync.new.self l.reached l.needs c.in-Ok.ensures.synced (tight_is c.args.key c.args.wanted t.on t.above t.held (pages m) c.requires.ready.outside t.crowded)) (c.bring_again.ensures.done on)
 
 pub returns-in-Ok-clause-comes : goal.returns-in-Ok-clause-comes
 returns-in-Ok-clause-comes g c =
@@ -40,8 +41,8 @@ returns-in-Ok-clause-broke g c off =
     let t = c.requires.crowded in
     let l = c.laws.ensures in
     let lawful : (d : g.row.D.Denot) → IsLawful (g.D.Disk.story d) = λ d. (g.met.D.Disk g.world.𝓛 g.world.𝓜 g.world.𝓡 ((λ s x. x), (λ x. x), (λ x. x), (λ x. x))).lawful d in
-    broken_then g.D.Disk.story c.args.key l.kept l.prefixes l.seals l.versions lawful (let few : suc m.machine.work.session.workers + 15 ≤ 15 + suc m.machine.work.session.workers = omega arith in few)
-    (done_sync g.D.Disk.story c.args.key m c.sync.new.self l.reached l.needs l.places c.in-Ok.ensures.synced (tight_is c.args.key c.args.wanted t.on t.above t.held (pages m) c.requires.ready.outside t.crowded)) (c.bring_again.ensures.broke off)
+    broken_then g.D.Disk.story (IsTightFor c.args.wanted c.args.key) l.kept l.prefixes l.seals l.versions lawful (let few : suc m.machine.work.session.workers + 15 ≤ 15 + suc m.machine.work.session.workers = omega arith in few)
+    (done_sync g.D.Disk.story c.args.wanted c.args.key m c.sync.new.self l.reached l.needs c.in-Ok.ensures.synced (tight_is c.args.key c.args.wanted t.on t.above t.held (pages m) c.requires.ready.outside t.crowded)) (c.bring_again.ensures.broke off)
 
 pub returns-in-Err-clause-broke : goal.returns-in-Err-clause-broke
 returns-in-Err-clause-broke g c _ =
