@@ -7,7 +7,7 @@ use Rattle.lean_disk.specs.Story.{Story, areas_of}
 use Rattle.recovery.specs.Telling.{TellsAll}
 use Rattle.recovery.specs.declared.opening.Recovered.{Recovered}
 use Rattle.engine_front.specs.declared.calls.Next.TheVariants.{Line}
-use Rattle.paged_opening.specs.Opened.{HasRecovered}
+use Rattle.paged_engine.specs.paged_opening.Opened.{HasRecovered}
 use Rattle.paged_engine.specs.Openings.{BeginsOn, IsFrom, IsMadeBy}
 use Rattle.paged_engine.specs.declared.opening.Size.{Size}
 use Rattle.buffered_engine.specs.States.{InRun, State, memory_in}

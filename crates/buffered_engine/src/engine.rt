@@ -1,12 +1,18 @@
 // The engine.
-ghost use Rattle.std.specs.Prelude.{◌≡◌, ◌≤◌, ℕ, IfErr, IfOk, MatchResult};
+ghost use Rattle.std.specs.Prelude.{◌≡◌, ◌≤◌, ℕ, List, IfErr, IfOk, MatchResult};
 ghost use Rattle.page_model.specs.Limits.{most_sessions};
 ghost use Rattle.lean_disk.specs.Faults.{HasCause};
+ghost use Rattle.map_model.specs.Journals.{Name};
+ghost use Rattle.paged_scans.specs.core_calls.Fronts.{Done, front};
+ghost use Rattle.paged_scans.specs.core_state.Openings.{Opening};
+ghost use Rattle.engine_front.specs.Fronts.{events_in};
 ghost use Rattle.recovery.specs.Opened.{IsRefusal, IsUntouched};
 ghost use Rattle.recovery.specs.declared.opening.Unrecovered.{Unrecovered};
 ghost use Rattle.paged_engine.specs.Openings.{OpenKeeps, Shows};
 ghost use Rattle.buffered_engine.specs.Openings.{HasOpened};
+ghost use Rattle.buffered_engine.specs.States.{InRun};
 
+use engine_front::Front;
 use engine_front::calls::Next;
 use group_commit::{LOGS, Unripe};
 use lean_disk::Disk;
@@ -46,14 +52,21 @@ pub struct Opened<D: Disk> {
     pub undone: u64,
 }
 
-// The disk of a machine. What it has in memory is let go.
-pub(crate) fn disk_of<D>(machine: PagedMachine<D>) -> D
-    ensures { result ≡ machine.machine.work.disk }
+/// An engine that was closed: its disk, and what its seat has seen.
+pub struct Closed<D> {
+    pub disk: D,
+    pub front: Front,
+}
+
+// The disk of a machine, and its seat. What it has in memory is let go.
+fn take_apart<D>(machine: PagedMachine<D>) -> Closed<D>
+    ensures disk { result.disk ≡ machine.machine.work.disk }
+    ensures front { result.front.view ≡ machine.machine.seat.view }
 {
     let PagedMachine { machine, pager: _ } = machine;
     let Machine {
         rows: _,
-        seat: _,
+        seat,
         work,
         desks: _,
         latches: _,
@@ -65,6 +78,13 @@ pub(crate) fn disk_of<D>(machine: PagedMachine<D>) -> D
         session: _,
         staged: _,
     } = work;
+    Closed { disk, front: seat }
+}
+
+pub(crate) fn disk_of<D>(machine: PagedMachine<D>) -> D
+    ensures { result ≡ machine.machine.work.disk }
+{
+    let Closed { disk, front: _ } = take_apart(machine);
     disk
 }
 
@@ -115,9 +135,11 @@ impl<D: Disk> Engine<D> {
         })
     }
 
-    /// Its disk. What it has in memory is let go.
-    pub fn close(self) -> D
-        ensures { result ≡ self.disk }
+    /// Its disk, and what it has done: the events of the outcomes, whatever run it stands in. It makes none; what it has in memory is let go.
+    pub fn close(self) -> Closed<D>
+        ensures disk { result.disk ≡ self.disk }
+        ensures front { result.front.view ≡ self.view }
+        ensures events { (g : Opening) (xs : List Done) (names : List Name) → InRun self g xs names → events_in result.front.view ≡ front xs }
     {
         let Engine {
             machine,
@@ -126,6 +148,6 @@ impl<D: Disk> Engine<D> {
             scan: _,
             calm: _,
         } = self;
-        disk_of(machine)
+        take_apart(machine)
     }
 }

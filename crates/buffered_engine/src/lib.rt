@@ -13,7 +13,7 @@ pub use answers::Hosts;
 pub use calls::{Aborted, Began, Synced};
 pub use disk_format::{Formatted, Shape, format};
 pub use durables::Broken;
-pub use engine::{Engine, Opened};
+pub use engine::{Closed, Engine, Opened};
 pub use engine_front::calls::{Durable, Next};
 pub use group_commit::{Receipt, Ripeness};
 pub use paged_engine::{Size, Unopened};

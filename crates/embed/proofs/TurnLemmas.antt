@@ -4,11 +4,11 @@ use Rattle.map_model.specs.Pairings.{is_last}
 use Rattle.map_model.specs.declared.call.Answer.{Answer}
 use Rattle.map_model.specs.declared.call.Answer.TheVariants as answer
 use Rattle.map_model.specs.declared.call.Refusal.TheVariants as refusal
-use Rattle.buffered_engine.specs.engine_front.Turns.{behind_answer, behind_durables, behind_last, is_conflict_in}
-use Rattle.buffered_engine.specs.engine_front.declared.calls.Next.{Next}
-use Rattle.buffered_engine.specs.engine_front.declared.calls.Next.TheVariants.{Abort, Durables, Line, Scan}
-use Rattle.buffered_engine.specs.paged_scans.declared.scans.Scan as scans
-use Rattle.buffered_engine.specs.States.{pairs_left}
+use Rattle.host_disk.specs.buffered_engine.engine_front.Turns.{behind_answer, behind_durables, behind_last, is_conflict_in}
+use Rattle.host_disk.specs.buffered_engine.engine_front.declared.calls.Next.{Next}
+use Rattle.host_disk.specs.buffered_engine.engine_front.declared.calls.Next.TheVariants.{Abort, Durables, Line, Scan}
+use Rattle.host_disk.specs.buffered_engine.paged_scans.declared.scans.Scan as scans
+use Rattle.host_disk.specs.buffered_engine.States.{pairs_left}
 
 -- how many steps a scan has at most: a pair each, and one that ends it
 abbrev pub still_left : Next → scans.Scan → ℕ

@@ -7,12 +7,11 @@
 
 ghost use Rattle.std.specs.Prelude.{◌≡◌, IfOk, true};
 ghost use Rattle.embed.specs.Turns.{IsBehindAnswer, IsNoScan};
-ghost use Rattle.buffered_engine.specs.engine_trait.Calls.{IsAsked};
-ghost use Rattle.buffered_engine.specs.engine_front.Turns.{behind_durables};
-ghost use Rattle.buffered_engine.specs.engine_front.declared.calls.Next.{Next};
+ghost use Rattle.host_disk.specs.buffered_engine.engine_trait.Calls.{IsAsked};
+ghost use Rattle.host_disk.specs.buffered_engine.engine_front.Turns.{behind_durables};
+ghost use Rattle.host_disk.specs.buffered_engine.engine_front.declared.calls.Next.{Next};
 
-use buffered_engine::{Engine, Formatted, Next, Opened, Shape, Size, Unopened, format};
-use host_disk::HostDisk;
+use host_disk::{Closed, Engine, Formatted, HostDisk, Next, Opened, Shape, Size, Unopened, format};
 use map_model::Call;
 use std::io;
 
@@ -134,7 +133,10 @@ fn main(rt: HostRuntime) -> io::Result<()> {
     if said.is_ok() && engine.sessions() == 2 {
         said = talk(&rt, &mut engine);
     }
-    let _disk = engine.close();
+    let Closed {
+        disk: _disk,
+        front: _,
+    } = engine.close();
     said?;
     println!(rt; "closed")
 }

@@ -5,7 +5,9 @@
 ghost use Rattle.std.specs.Prelude.{◌≡◌, ◌≤◌, ◌<◌, ◌^◌, IfOk, IsTrue};
 ghost use Rattle.buffered_engine.specs.engine_front.declared.calls.Next.{Next};
 
-use buffered_engine::{Engine, Formatted, Next, Opened, Shape, Size, Step, Unopened, format};
+use buffered_engine::{
+    Closed, Engine, Formatted, Next, Opened, Shape, Size, Step, Unopened, format,
+};
 use lean_disk::MemDisk;
 use std::alloc::Global;
 use std::time::Instant;
@@ -210,7 +212,10 @@ fn round(rt: &HostRuntime, times: u64) -> io::Result<()> {
     let filled = fill(rt, &mut engine);
     let looked = look(rt, &mut engine, times);
     let walked = walk(rt, &mut engine, times / KEYS);
-    let _disk = engine.close();
+    let Closed {
+        disk: _disk,
+        front: _,
+    } = engine.close();
     let (sum, took) = filled?;
     println!(rt; "new keys {sum} {took} us")?;
     let (sum, took) = looked?;
@@ -226,7 +231,10 @@ fn handful(rt: &HostRuntime) -> io::Result<()> {
     let new = puts(&mut engine, 0);
     let sum = gets(&mut engine, 1000);
     let pairs = scans(&mut engine, 1);
-    let _disk = engine.close();
+    let Closed {
+        disk: _disk,
+        front: _,
+    } = engine.close();
     println!(rt; "{new} {sum} {pairs}")
 }
 

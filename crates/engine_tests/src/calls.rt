@@ -6,7 +6,7 @@ ghost use Rattle.buffered_engine.specs.engine_front.declared.calls.Next.{Next};
 use crate::cases::expect;
 use crate::disks::formatted;
 use crate::sessions::take_rest;
-use buffered_engine::{Engine, Next, Opened, Size, Unanswered, Unopened};
+use buffered_engine::{Closed, Engine, Next, Opened, Size, Unanswered, Unopened};
 use lean_disk::MemDisk;
 use map_model::{Answer, Call, Refusal};
 use std::alloc::{AllocError, Global};
@@ -368,7 +368,7 @@ fn is_met(alloc: Global, case: &Case) -> Result<bool, AllocError> {
         Err(Unopened { disk: _, reason: _ }) => return Ok(false),
     };
     let are_done = are_done(&mut engine, case.steps);
-    let disk = engine.close();
+    let Closed { disk, front: _ } = engine.close();
     let moment = disk.moment().checked_sub(OPENING);
     Ok(are_done && disk.bytes(2).len() == case.bytes && moment == Some(case.moment))
 }

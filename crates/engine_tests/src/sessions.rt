@@ -2,8 +2,8 @@
 use crate::cases::expect;
 use crate::disks::unused;
 use buffered_engine::{
-    Aborted, Began, Broken, Engine, Formatted, Next, Opened, Receipt, Ripeness, Shape, Size,
-    Synced, Unanswered, Unopened, Unserved, choose, format,
+    Aborted, Began, Broken, Closed, Engine, Formatted, Next, Opened, Receipt, Ripeness, Shape,
+    Size, Synced, Unanswered, Unopened, Unserved, choose, format,
 };
 use lean_disk::{AreaOf, MemDisk};
 use map_model::{Answer, Refusal};
@@ -747,7 +747,10 @@ fn is_met(alloc: Global, masters: &[u64], case: &Case) -> Result<bool, AllocErro
         Err(Unopened { disk: _, reason: _ }) => return Ok(false),
     };
     let are_done = are_done(&mut engine, case.steps);
-    let _disk = engine.close();
+    let Closed {
+        disk: _disk,
+        front: _,
+    } = engine.close();
     Ok(are_done)
 }
 

@@ -6,3 +6,6 @@ mod part;
 
 pub use disk::HostDisk;
 pub use part::HostPart;
+
+// Passed on to the crates above.
+pub use buffered_engine::{Closed, Engine, Formatted, Next, Opened, Shape, Size, Unopened, format};

@@ -1,5 +1,5 @@
 -- How each command ended, as an end whatever the words.
-use Rattle.std.proofs.Common.{◌≡◌, ◌≢◌, ◌⊎◌, inl, inr, ◌≤◌, ℕ, List, length, Some, refl, sym, ◌∙◌, ap, subst, arith, codes, []}
+use Rattle.std.proofs.Common.{◌≡◌, ◌≢◌, ◌⊎◌, inl, inr, ◌≤◌, ◌<◌, ◌-◌, ◌^◌, ℕ, List, [], length, Option, Some, None, MatchOption, refl, sym, ◌∙◌, ap, subst, arith, codes}
 use Rattle.std.proofs.lemmas.Fmt.{decimal_injective}
 use Rattle.lean_disk.specs.Area.{Leaves}
 use Rattle.lean_disk.specs.Faults.{HasCause, IsBlamed}
@@ -21,8 +21,17 @@ use Rattle.lean_shell.specs.Endings.{FormatEnds, IsFormatStatus, IsStatus, Stays
 use Rattle.lean_disk.specs.Told.{TellsOn, OnlyNotes}
 use Rattle.lean_shell.specs.Inside.Commands.{CommandEnds, Counts, UnreadEnds}
 use Rattle.lean_shell.specs.Inside.Openings.{Refuses}
-use Rattle.lean_shell.specs.Words.{AsksDump, AsksFormat, AsksNothing, AsksRun, Gives, Names}
-use Rattle.lean_shell.specs.declared.words.Command.TheVariants.{Dump, Format, Run}
+use Rattle.lean_shell.specs.Words.{AsksDump, AsksFormat, AsksMake, AsksNothing, AsksRun, Gives, Names}
+use Rattle.lean_shell.specs.Makes.{Came, MakeEnds, WentMade, made_line, make_size}
+use Rattle.map_model.specs.declared.call.Call.{Call}
+use Rattle.script_run.specs.Inside.{IsOfEngine}
+use Rattle.script_run.specs.Runs.{calls_of}
+use Rattle.transcripts.specs.Told.{asked_text}
+use Rattle.workload_run.specs.Makes.{IsCount, feed_of}
+use Rattle.workload_run.specs.Plans.{IsWalked}
+use Rattle.workload_run.specs.declared.run.Made.{Made}
+use Rattle.lean_shell.specs.declared.make.Workload.{Workload}
+use Rattle.lean_shell.specs.declared.words.Command.TheVariants.{Dump, Format, Make, Run}
 use Rattle.buffered_engine.specs.disk_format.declared.shape.Shape.{Shape}
 use Rattle.buffered_engine.specs.paged_engine.declared.opening.Size.{Size}
 use Rattle.clap.specs.Words.{Row, first_of}
@@ -33,7 +42,9 @@ use Rattle.lean_shell.proofs.Dumps.EndLemmas as dumps
 use Rattle.lean_shell.proofs.Runs.EndLemmas.{refused_ends, refused_headline}
 use Rattle.lean_shell.proofs.Runs.MomentLemmas.{unmoved as not_moved}
 use Rattle.lean_shell.proofs.Runs.NoteLemmas.{put_notes}
+use Rattle.lean_shell.proofs.MakeLemmas.{none_makes, refused_makes}
 use Rattle.lean_shell.proofs.PutLemmas.{IsOfBytes, noted_moments}
+use Rattle.lean_shell.proofs.WordLemmas.{not_alike}
 
 -- ## Words
 
@@ -50,7 +61,7 @@ no_command : (words : List (List ℕ)) (a b : List ℕ) (x y : List Row) → len
 no_command words a b x y differ is other = differ (ap length (one_met words a b x y is other).0)
 
 -- an option gives one number
-one_number : (name : List ℕ) (from to : ℕ) (x y : List Row) (m n : ℕ) → to ≤ 65536 → x ≡ y → Gives x name from to m → Gives y name from to n → m ≡ n
+one_number : (name : List ℕ) (from to : ℕ) (x y : List Row) (m n : ℕ) → to < 2 ^ 64 → x ≡ y → Gives x name from to m → Gives y name from to n → m ≡ n
 one_number name from to x y m n end same is other =
     let text : is.text ≡ other.text = some_is is.text other.text (sym is.value ∙ (ap (first_of name) same ∙ other.value)) in
     decimal_injective m n (omega (arith, end, is.number.most)) (omega (arith, end, other.number.most)) (sym is.number.spelled ∙ (text ∙ other.number.spelled))
@@ -84,6 +95,23 @@ not_dumped words shape format dump = no_command words (codes "format") (codes "d
 
 pub not_run : (words : List (List ℕ)) (size : Size) → AsksDump words → AsksRun words size → ⊥
 not_run words size dump run = no_command words (codes "dump") (codes "run") dump.options run.options (λ e. omega (arith, e)) dump.names run.names
+
+-- words that ask for a workload ask for one, and for nothing else
+pub same_workload : (words : List (List ℕ)) (x y : Workload) → AsksMake words x → AsksMake words y → x ≡ y
+same_workload words x y is other =
+    let same : is.options ≡ other.options = (one_met words (codes "make") (codes "make") is.options other.options is.names other.names).1 in
+    let number : x.number ≡ y.number = one_number (codes "number") 0 (2 ^ 64 - 1) is.options other.options x.number y.number (omega arith) same is.given.number other.given.number in
+    let count : x.count ≡ y.count = one_number (codes "count") 1 1000000 is.options other.options x.count y.count (omega arith) same is.given.count other.given.count in
+    ap (λ (n : ℕ). record x { number = n }) number ∙ ap (λ (n : ℕ). record y { count = n }) count
+
+pub no_format : (words : List (List ℕ)) (shape : Shape) (workload : Workload) → AsksFormat words shape → AsksMake words workload → ⊥
+no_format words shape workload format make = no_command words (codes "format") (codes "make") format.options make.options (λ e. omega (arith, e)) format.names make.names
+
+pub no_run : (words : List (List ℕ)) (size : Size) (workload : Workload) → AsksRun words size → AsksMake words workload → ⊥
+no_run words size workload run make = no_command words (codes "run") (codes "make") run.options make.options (λ e. omega (arith, e)) run.names make.names
+
+pub no_dump : (words : List (List ℕ)) (workload : Workload) → AsksDump words → AsksMake words workload → ⊥
+no_dump words workload dump make = not_alike (one_met words (codes "make") (codes "dump") make.options dump.options make.names dump.names).0
 
 -- ## Statuses
 
@@ -126,6 +154,39 @@ of_printed n text put sink0 sink1 (inr p) = let e = p.0 in (inr (inr (inr (inr (
 of_dump_status : (n : ℕ) (s0 s1 : Story) (put : List ℕ) (sink0 sink1 : ℕ) → NotOpened 16 n s0 s1 put sink0 sink1 ⊎ Dumped n s0 s1 put sink0 sink1 → IsStatus n × (n ≡ 2 → ⊥) × (n ≡ 4 → ⊥)
 of_dump_status n s0 s1 put sink0 sink1 (inl x) = let is = of_reason x.reason n x.status_is in (is.0, is.1, not_read x.reason n x.status_is)
 of_dump_status n s0 s1 put sink0 sink1 (inr x) = of_printed n (dump_text x.counts x.pairs) put sink0 sink1 x.printed
+
+not_a_read : (stop : Stop) (n : ℕ) → n ≡ ended stop → (stop ≡ stops.ReadFault → ⊥) → n ≡ 4 → ⊥
+not_a_read stops.End n e other z = omega (arith, e, z)
+not_a_read (stops.Refused line) n e other z = omega (arith, e, z)
+not_a_read stops.ReadFault n e other z = other refl
+not_a_read stops.WriteFault n e other z = omega (arith, e, z)
+not_a_read stops.DiskFault n e other z = omega (arith, e, z)
+not_a_read (stops.Damaged place) n e other z = omega (arith, e, z)
+
+not_read_by : (stop : Stop) → IsOfEngine stop → stop ≡ stops.ReadFault → ⊥
+not_read_by stops.DiskFault of e = cc
+not_read_by (stops.Damaged place) of e = cc
+not_read_by _ of e = absurd of
+
+not_read_made : (made : Option Made) (stop : Stop) (P : Made → Type 0) → ((m : Made) → P m → stop ≡ stops.End) → MatchOption made (IsOfEngine stop) P → stop ≡ stops.ReadFault → ⊥
+not_read_made None stop P ends of e = not_read_by stop of e
+not_read_made (Some m) stop P ends is e = let clash : stops.End ≡ stops.ReadFault = sym (ends m is) ∙ e in cc
+
+of_came : (sessions : ℕ) (script : List (ℕ × Call)) (made : Option Made) (size : Size) (n : ℕ) (s0 s1 : Story) (feed0 feed1 : Feed) (replied put : List ℕ) (sink0 sink1 : ℕ) (how : HowRun size n s0 s1 feed0 feed1 replied sink0 sink1) → Came sessions script made how put → n ≡ 4 → ⊥
+of_came sessions script made size n s0 s1 feed0 feed1 replied put sink0 sink1 (OfReason x unread) came = not_read x.reason n x.status_is
+of_came sessions script made size n s0 s1 feed0 feed1 replied put sink0 sink1 (OfCut x) came = λ z. let five = x.status_is in omega (arith, five, z)
+of_came sessions script made size n s0 s1 feed0 feed1 replied put sink0 sink1 (OfScript x) came = not_a_read x.stop n x.status_is (not_read_made made x.stop (λ m. (x.stop ≡ stops.End) × IsCount m (calls_of x.calls) × IsWalked script (calls_of x.calls)) (λ m is. is.0) came.comes)
+
+of_made : (workload : Workload) (made : Option Made) (before n : ℕ) (put : List ℕ) (sink0 sink1 : ℕ) → IsStatus before × (before ≡ 2 → ⊥) × (before ≡ 4 → ⊥) → WentMade workload made before n put sink0 sink1 → IsStatus n × (n ≡ 2 → ⊥) × (n ≡ 4 → ⊥)
+of_made workload None before n put sink0 sink1 is went = subst (λ (m : ℕ). IsStatus m × (m ≡ 2 → ⊥) × (m ≡ 4 → ⊥)) (sym went.0) is
+of_made workload (Some made) before n put sink0 sink1 is went = of_printed n (made_line workload made) put sink0 sink1 went
+
+of_make_status : (workload : Workload) (n : ℕ) (events : List Event) (s0 s1 s2 : Story) (held0 held1 : Held) (sink0 sink1 : ℕ) → MakeEnds workload n events s0 s1 s2 held0 held1 sink0 sink1 → IsStatus n × (n ≡ 2 → ⊥) × (n ≡ 4 → ⊥)
+of_make_status workload n events s0 s1 s2 held0 held1 sink0 sink1 x =
+    let r = x.run.run in
+    let is = of_run_status make_size x.before s0 s1 (feed_of (asked_text x.run.script)) x.run.left r.put sink0 x.sink r.how in
+    of_made workload x.made x.before n x.last x.sink sink1
+    (is.0, is.1, of_came x.run.sessions x.run.script x.made make_size x.before s0 s1 (feed_of (asked_text x.run.script)) x.run.left r.put x.put sink0 x.sink r.how x.run.came) x.last_is
 
 -- ## Words that ask for nothing
 
@@ -192,6 +253,22 @@ module _ (words : List (List ℕ)) (status : ℕ) (events : List Event) (s0 s1 :
         none = λ none. absurd (none Dump asks);
       }
 
+  pub of_make : (workload : Workload) (mid : Story) → AsksMake words workload → now.source ≡ before.source → MakeEnds workload status events s0 mid s1 held0 held1 before.sink now.sink
+      → IsBlamed before.sink now.sink (status ≡ 5) → HasCause before.disk now.disk (status ≡ 6) → Ends
+  of_make workload mid asks unread ends write disk =
+      let is = of_make_status workload status events s0 mid s1 held0 held1 before.sink now.sink ends in
+      record {
+        known = is.0;
+        usage = λ e. absurd (is.1 e);
+        cause_read_fault = record { later = omega (arith, unread); cause = λ e. absurd (is.2 e); calm = λ n. unread };
+        cause_write_fault = write;
+        cause_disk_fault = disk;
+        format = λ shape also. absurd (no_format words shape workload also asks);
+        run = λ size also. absurd (no_run words size workload also asks);
+        dump = λ also. absurd (no_dump words workload also asks);
+        none = λ none. absurd (none (Make workload) asks);
+      }
+
   pub of_none : AsksNothing words → status ≡ 2 → now.source ≡ before.source
       → UsageEnds status s0 s1 held0 held1 before.sink now.sink before.disk now.disk → Ends
   of_none nothing two unread ends = record {
@@ -242,6 +319,7 @@ module _ (notice_law : EveryNotice) (tail_law : EveryTail) (s0 s1 : Story) (law 
         (record { later = omega (arith, calm); cause = λ e. absurd (let n : number_of Memory ≡ number_of DiskFault = ap number_of e in omega (arith, n)); calm = λ n. calm });
     run = λ size feed. refused_ends size notice_law tail_law status s0 s0 s1 law keeps (λ a lt. refl) (λ m tells clean. not_moved m s0 law) feed why.Memory eight tt (λ refused a. absurd refused) held0 held1 sink0 sink1 r events none;
     headline = λ feed. refused_headline (record { frames = 32; rows = 16; group = 1; sessions = 16 }) notice_law tail_law s0 s0 s1 law keeps (λ m tells clean. not_moved m s0 law) feed why.Memory held0 held1 sink0 sink1 r;
+    make = λ workload. none_makes workload status events s0 s1 held0 held1 sink0 sink1 (refused_makes workload notice_law tail_law status s0 s0 s1 law keeps (λ a lt. refl) (λ m tells clean. not_moved m s0 law) why.Memory eight tt (λ refused a. absurd refused) held0 held1 sink0 sink1 r events none);
     dump = dumps.refused s0 s0 s1 law (record { keeps = keeps; logs = λ a lt. record { bytes = refl; writes = refl; first = refl }; others = λ a lt. refl; any = λ m tells clean. not_moved m s0 law }) why.Memory tt (λ refused a. absurd refused) held0 held1 sink0 sink1 r.answer status eight r.line r.cause;
     none = record {
       failure = Memory;

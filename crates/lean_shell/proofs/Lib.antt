@@ -1,6 +1,7 @@
 mod CommandLemmas
 mod Dumps
 mod EndLemmas
+mod MakeLemmas
 mod NumberLemmas
 mod PutLemmas
 mod WordLemmas

@@ -1,5 +1,5 @@
 -- What matches ask for is what the words ask for.
-use Rattle.std.proofs.Common.{◌≡◌, ⊎_elim, ℕ, List, [], Option, Some, None, IfSome, IfNone, refl, sym, ◌∙◌, ap, subst, arith, length, codes, true}
+use Rattle.std.proofs.Common.{◌≡◌, ⊎_elim, ℕ, List, [], ◌∷◌, Option, Some, None, IfSome, IfNone, refl, sym, ◌∙◌, ap, subst, arith, length, codes, true}
 use Rattle.clap.specs.Words.{Row, fault_of, first_of, is_simple_and_free, is_simple, subcommand_of}
 use Rattle.clap.specs.Words.{HasKind, IsAmong, kind_of}
 use Rattle.clap.specs.declared.error.Error.{Error}
@@ -8,9 +8,10 @@ use Rattle.clap.proofs.OnLiterals.{clap_on_literals}
 use Rattle.buffered_engine.specs.disk_format.declared.shape.Shape.{Shape}
 use Rattle.buffered_engine.specs.paged_engine.declared.opening.Size.{Size}
 use Rattle.lean_shell.specs.Inside.CommandLines.{AsksAs, AsksBy, GivesShape}
-use Rattle.lean_shell.specs.Words.{Asks, AsksNothing, Gives, GivesSize, IsNumberIn, lean_words}
+use Rattle.lean_shell.specs.Words.{Asks, AsksNothing, Gives, GivesSize, GivesWorkload, IsNumberIn, lean_words}
+use Rattle.lean_shell.specs.declared.make.Workload.{Workload}
 use Rattle.lean_shell.specs.declared.words.Command.{Command}
-use Rattle.lean_shell.specs.declared.words.Command.TheVariants.{Dump, Format, Run}
+use Rattle.lean_shell.specs.declared.words.Command.TheVariants.{Dump, Format, Make, Run}
 
 some_none : {A : Type 0} (x : A) → Some x ≡ None → ⊥
 some_none x e = cc
@@ -40,11 +41,13 @@ module _ (words : List (List ℕ)) (met : Option (List ℕ × List Row)) (fits :
     blocks = given.blocks;
   }
   asks (Run size) (name, options, there, (named, given)) = record { options = options; names = record { no_fault = fits; are = sym is ∙ (there ∙ ap (λ (n : List ℕ). Some (n, options)) named) }; given = given }
+  asks (Make workload) (name, options, there, (named, given)) = record { options = options; names = record { no_fault = fits; are = sym is ∙ (there ∙ ap (λ (n : List ℕ). Some (n, options)) named) }; given = given }
   asks Dump (name, options, there, named) = record { options = options; names = record { no_fault = fits; are = sym is ∙ (there ∙ ap (λ (n : List ℕ). Some (n, options)) named) } }
 
   asked : (c : Command) → Asks words c → AsksAs met c
   asked (Format shape) a = (codes "format", a.options, is ∙ a.names.are, (refl, record { workers = a.workers; pages = a.pages; blocks = a.blocks }))
   asked (Run size) a = (codes "run", a.options, is ∙ a.names.are, (refl, a.given))
+  asked (Make workload) a = (codes "make", a.options, is ∙ a.names.are, (refl, a.given))
   asked Dump a = (codes "dump", a.options, is ∙ a.names.are, refl)
 
   pub asks_some : (o : Option Command) → IfSome o (AsksAs met) → IfSome o (Asks words)
@@ -59,6 +62,7 @@ module _ (words : List (List ℕ)) (met : Option (List ℕ × List Row)) (fits :
 pub faulty : (words : List (List ℕ)) → (fault_of lean_words words ≡ [] → ⊥) → AsksNothing words
 faulty words fault (Format shape) a = fault a.names.no_fault
 faulty words fault (Run size) a = fault a.names.no_fault
+faulty words fault (Make workload) a = fault a.names.no_fault
 faulty words fault Dump a = fault a.names.no_fault
 
 -- ## Options
@@ -84,12 +88,28 @@ if_none (Some x) p = tt
 pub only_format : (name : List ℕ) (options : List Row) → name ≡ codes "format" → ((s : Shape) → GivesShape options s → ⊥) → (c : Command) → AsksBy name options c → ⊥
 only_format name options is none (Format shape) a = none shape a.1
 only_format name options is none (Run size) a = let e : 6 ≡ 3 = ap length (sym is ∙ a.0) in omega (arith, e)
+only_format name options is none (Make workload) a = let e : 6 ≡ 4 = ap length (sym is ∙ a.0) in omega (arith, e)
 only_format name options is none Dump a = let e : 6 ≡ 4 = ap length (sym is ∙ a) in omega (arith, e)
 
 pub only_run : (name : List ℕ) (options : List Row) → name ≡ codes "run" → ((s : Size) → GivesSize options s → ⊥) → (c : Command) → AsksBy name options c → ⊥
 only_run name options is none (Format shape) a = let e : 3 ≡ 6 = ap length (sym is ∙ a.0) in omega (arith, e)
 only_run name options is none (Run size) a = none size a.1
+only_run name options is none (Make workload) a = let e : 3 ≡ 4 = ap length (sym is ∙ a.0) in omega (arith, e)
 only_run name options is none Dump a = let e : 3 ≡ 4 = ap length (sym is ∙ a) in omega (arith, e)
+
+abbrev first_of_word : List ℕ → ℕ
+first_of_word [] = 0
+first_of_word (b ∷ bytes) = b
+
+-- nor do these words begin alike
+pub not_alike : codes "make" ≡ codes "dump" → ⊥
+not_alike same = let e : 109 ≡ 100 = ap first_of_word same in omega (arith, e)
+
+pub only_make : (name : List ℕ) (options : List Row) → name ≡ codes "make" → ((w : Workload) → GivesWorkload options w → ⊥) → (c : Command) → AsksBy name options c → ⊥
+only_make name options is none (Format shape) a = let e : 4 ≡ 6 = ap length (sym is ∙ a.0) in omega (arith, e)
+only_make name options is none (Run size) a = let e : 4 ≡ 3 = ap length (sym is ∙ a.0) in omega (arith, e)
+only_make name options is none (Make workload) a = none workload a.1
+only_make name options is none Dump a = not_alike (sym is ∙ a)
 
 -- ## A parse that failed
 

@@ -7,3 +7,4 @@ pub mod Assembled
 pub mod Openings
 pub mod Laws
 pub mod Puts
+pub mod Makings

@@ -1,12 +1,13 @@
 -- The words of a command line, and what they ask for: which options there are, of clap's definitions that these are their arguments, and which numbers.
-use Rattle.std.specs.Prelude.{◌≡◌, ◌≢◌, ◌≤◌, ◌<◌, ℕ, true, List, [], ◌∷◌, length, map, slice_index, codes, Some, String, string_bytes}
+use Rattle.std.specs.Prelude.{◌≡◌, ◌≢◌, ◌≤◌, ◌<◌, ◌-◌, ◌^◌, ℕ, true, List, [], ◌∷◌, length, map, slice_index, codes, Some, String, string_bytes}
 use Rattle.std.specs.declared.alloc.Global.{Global}
 use Rattle.std.specs.Fmt.{decimal}
 use Rattle.clap.specs.Words.{App, Row, Rule, fault_of, first_of, new_app, new_rule, subcommand_of, with_rule, with_subcommand}
 use Rattle.buffered_engine.specs.disk_format.declared.shape.Shape.{Shape}
 use Rattle.buffered_engine.specs.paged_engine.declared.opening.Size.{Size}
+use Rattle.lean_shell.specs.declared.make.Workload.{Workload}
 use Rattle.lean_shell.specs.declared.words.Command.{Command}
-use Rattle.lean_shell.specs.declared.words.Command.TheVariants.{Dump, Format, Run}
+use Rattle.lean_shell.specs.declared.words.Command.TheVariants.{Dump, Format, Make, Run}
 
 abbrev pub texts : List (String Global) → List (List ℕ)
 texts words = map string_bytes words
@@ -35,11 +36,18 @@ wanted name = record (new_rule name) { long = Some name; required = true }
 abbrev pub with_default : (name value : List ℕ) → Rule
 with_default name value = record (new_rule name) { long = Some name; defaults = value ∷ [] }
 
+-- one that has no name, and has to be there: a VALUE in its place
+abbrev pub placed : List ℕ → Rule
+placed name = record (new_rule name) { required = true }
+
 abbrev pub format_words : App
 format_words = with_rule (with_rule (with_rule (new_app (codes "format")) (wanted (codes "workers"))) (wanted (codes "pages"))) (wanted (codes "blocks"))
 
 abbrev pub run_words : App
 run_words = with_rule (with_rule (with_rule (new_app (codes "run")) (with_default (codes "rows") (codes "256"))) (with_default (codes "group") (codes "1"))) (with_default (codes "frames") (codes "256"))
+
+abbrev pub make_words : App
+make_words = with_rule (with_rule (new_app (codes "make")) (placed (codes "number"))) (placed (codes "count"))
 
 abbrev pub dump_words : App
 dump_words = new_app (codes "dump")
@@ -50,7 +58,7 @@ wanting app = record app { top = record app.top { subcommand_required = true } }
 
 -- the program's command line
 unfoldable pub lean_words : App
-lean_words = wanting (with_subcommand (with_subcommand (with_subcommand (new_app (codes "lean")) format_words.top) run_words.top) dump_words.top)
+lean_words = wanting (with_subcommand (with_subcommand (with_subcommand (with_subcommand (new_app (codes "lean")) format_words.top) run_words.top) make_words.top) dump_words.top)
 
 -- ## What words ask for
 
@@ -86,6 +94,17 @@ pub record AsksRun (words : List (List ℕ)) (size : Size) : Type 0 where
   pub names : Names words (codes "run") options
   pub given : GivesSize options size
 
+-- the number of a workload, and how many transactions it has
+pub record GivesWorkload (options : List Row) (workload : Workload) : Type 0 where
+  pub number : Gives options (codes "number") 0 (2 ^ 64 - 1) workload.number
+  pub count : Gives options (codes "count") 1 1000000 workload.count
+
+-- `make NUMBER COUNT`
+pub record AsksMake (words : List (List ℕ)) (workload : Workload) : Type 0 where
+  pub options : List Row
+  pub names : Names words (codes "make") options
+  pub given : GivesWorkload options workload
+
 -- `dump`
 pub record AsksDump (words : List (List ℕ)) : Type 0 where
   pub options : List Row
@@ -95,6 +114,7 @@ pub record AsksDump (words : List (List ℕ)) : Type 0 where
 abbrev pub Asks : List (List ℕ) → Command → Type 0
 Asks words (Format shape) = AsksFormat words shape
 Asks words (Run size) = AsksRun words size
+Asks words (Make workload) = AsksMake words workload
 Asks words Dump = AsksDump words
 
 -- they ask for nothing

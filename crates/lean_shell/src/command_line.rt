@@ -2,7 +2,7 @@
 ghost use Rattle.std.specs.Prelude.{◌≡◌, IfOk, false};
 ghost use Rattle.clap.specs.Words.{app_of, rule_of};
 ghost use Rattle.lean_shell.specs.Inside.CommandLines.{IsLine};
-ghost use Rattle.lean_shell.specs.Words.{dump_words, format_words, lean_words, run_words, wanted, with_default};
+ghost use Rattle.lean_shell.specs.Words.{dump_words, format_words, lean_words, make_words, placed, run_words, wanted, with_default};
 
 use clap::{Arg, Command as Line};
 use std::alloc::{AllocError, Global};
@@ -23,6 +23,14 @@ fn with_default<'a>(alloc: Global, name: &'a str, value: &'a str) -> Arg<'a>
     Arg::new(alloc, name).long(name).default_value(value)
 }
 
+// One that has no name, and has to be there.
+fn placed<'a>(alloc: Global, name: &'a str) -> Arg<'a>
+    ensures rule { rule_of result ≡ placed name.entry.now }
+    ensures local { result.global ≡ false }
+{
+    Arg::new(alloc, name).required(true)
+}
+
 fn format_line<'a>(alloc: Global) -> Result<Line<'a>, AllocError>
     ensures { IfOk result (IsLine format_words) }
 {
@@ -41,6 +49,14 @@ fn run_line<'a>(alloc: Global) -> Result<Line<'a>, AllocError>
         .arg(with_default(alloc, "frames", "256"))
 }
 
+fn make_line<'a>(alloc: Global) -> Result<Line<'a>, AllocError>
+    ensures { IfOk result (IsLine make_words) }
+{
+    Line::new(alloc, "make")
+        .arg(placed(alloc, "number"))?
+        .arg(placed(alloc, "count"))
+}
+
 fn dump_line<'a>(alloc: Global) -> Line<'a>
     ensures { IsLine dump_words result }
 {
@@ -54,6 +70,7 @@ pub(crate) fn lean_line<'a>(alloc: Global) -> Result<Line<'a>, AllocError>
     let lean = Line::new(alloc, "lean")
         .subcommand(format_line(alloc)?)?
         .subcommand(run_line(alloc)?)?
+        .subcommand(make_line(alloc)?)?
         .subcommand(dump_line(alloc))?;
     Ok(lean.subcommand_required(true))
 }

@@ -15,7 +15,7 @@ use crate::engine_lines::{put_last, put_opened};
 use crate::lines::put_reason;
 use crate::program::Ended;
 use buffered_engine::{
-    Engine, EngineFrontCalls as Calls, Hosts, Opened, Put, Sink, Size, Source, Unopened,
+    Closed, Engine, EngineFrontCalls as Calls, Hosts, Opened, Put, Sink, Size, Source, Unopened,
     Unrecovered,
 };
 use lean_disk::Disk;
@@ -35,7 +35,8 @@ pub(crate) fn status_of(reason: Unrecovered) -> u8
     }
 }
 
-fn ended(stop: Stop) -> u8
+/// The status of a script that stopped so.
+pub(crate) fn ended(stop: Stop) -> u8
     ensures { result ≡ ended stop }
 {
     match stop {
@@ -49,7 +50,11 @@ fn ended(stop: Stop) -> u8
 }
 
 // Puts the line of a disk that was not opened.
-fn refuse<K: Sink<D>, D: Disk>(reason: Unrecovered, sink: &mut K, mut disk: D) -> Ended<D>
+pub(crate) fn refuse<K: Sink<D>, D: Disk>(
+    reason: Unrecovered,
+    sink: &mut K,
+    mut disk: D,
+) -> Ended<D>
     ensures status { result.status ≡ status_of reason }
     ensures put { Refuses reason (K.held sink.old) (K.held sink.new) (K.faults sink.old) (K.faults sink.new) (D.story disk) (D.story result.disk) }
     ensures front { events_in result.front.view ≡ [] }
@@ -112,7 +117,7 @@ pub fn run_disk<S: Source, K: Sink<D>, D: Hosts>(
     let Put::Done = put_opened(generation, winners, undone, sink, &mut engine) else {
         return Ended {
             status: 5,
-            disk: engine.close(),
+            disk: disk_of(engine),
             front: no_events(),
         };
     };
@@ -124,13 +129,21 @@ pub fn run_disk<S: Source, K: Sink<D>, D: Hosts>(
     put_last(stop, sink, &mut engine);
     Ended {
         status: ended(stop),
-        disk: engine.close(),
+        disk: disk_of(engine),
         front,
     }
 }
 
-// What other crates prove of calls, their numbers and their crashes, of transcripts, of images that agree, and of logs.
-fn laws()
+/// The disk of an engine whose front was taken before.
+pub(crate) fn disk_of<D: Disk>(engine: Engine<D>) -> D
+    ensures { result ≡ engine.disk }
+{
+    let Closed { disk, front: _ } = engine.close();
+    disk
+}
+
+/// What other crates prove of calls, their numbers and their crashes, of transcripts, of images that agree, and of logs.
+pub(crate) fn laws()
     ensures { Laws }
 {
     buffered_engine::every_rise();

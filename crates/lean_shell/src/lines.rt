@@ -10,7 +10,7 @@ ghost use Rattle.lean_shell.specs.Runs.{first_line, notice_of};
 use buffered_engine::{Put, Sink, Unrecovered};
 use lean_disk::Disk;
 use script_lang::{
-    DISK_FAULT, END, NO_MEMORY, NOT_FORMATTED, REPLY, damaged_bytes, fixed_lines,
+    DISK_FAULT, END, NO_MEMORY, NOT_FORMATTED, REPLY, damaged_bytes, fixed_lines, made_bytes,
     notices_are_no_replies, opened_bytes, pair_bytes,
 };
 
@@ -101,4 +101,24 @@ pub(crate) fn put_end<K: Sink<D>, D: Disk>(sink: &mut K, disk: &mut D) -> Put
     fixed_lines();
     notices_are_no_replies();
     put_line(END, sink, disk)
+}
+
+/// Puts what a workload of so many transactions came to.
+pub(crate) fn put_made<K: Sink<D>, D: Disk>(
+    count: u32,
+    refused: u64,
+    pairs: u64,
+    sum: u128,
+    sink: &mut K,
+    disk: &mut D,
+) -> Put
+    ensures put { IsPut (line_of (Notice.Made count refused pairs sum)) result (K.held sink.old) (K.held sink.new) (D.story disk.old) (D.story disk.new) }
+    ensures faults { D.faults disk.new ≡ D.faults disk.old }
+
+    ensures cause { HasCause (K.faults sink.old) (K.faults sink.new) (result ≡ Put.Failed) }
+{
+    notices_are_no_replies();
+    let mut line = [0; REPLY];
+    let end = made_bytes(count, refused, pairs, sum, &mut line);
+    put_line(&line[..end], sink, disk)
 }

@@ -7,11 +7,13 @@ ghost use Rattle.buffered_engine.specs.engine_front.Fronts.{events_in};
 ghost use Rattle.lean_shell.specs.Dumps.{DumpEnds};
 ghost use Rattle.lean_shell.specs.Ends.{RunEnds};
 ghost use Rattle.lean_shell.specs.Headline.{Headline};
+ghost use Rattle.lean_shell.specs.Makes.{MakeEnds};
 ghost use Rattle.lean_shell.specs.Endings.{FinishedPut, FormatEnds, IsStatus, UsageEnds, WentOut, last_line, number_of};
 ghost use Rattle.lean_disk.specs.Told.{OnlyNotes};
 ghost use Rattle.lean_shell.specs.Inside.Commands.{CommandEnds};
 ghost use Rattle.lean_shell.specs.Words.{Asks, AsksNothing, texts};
-ghost use Rattle.lean_shell.specs.declared.words.Command.TheVariants.{Dump, Format, Run};
+ghost use Rattle.lean_shell.specs.declared.make.Workload.{Workload};
+ghost use Rattle.lean_shell.specs.declared.words.Command.TheVariants.{Dump, Format, Make, Run};
 ghost use Rattle.buffered_engine.specs.disk_format.declared.shape.Shape.{Shape};
 ghost use Rattle.buffered_engine.specs.paged_engine.declared.opening.Size.{Size};
 
@@ -19,6 +21,7 @@ use crate::Gate;
 use crate::disk_run::{run_disk, unread};
 use crate::dump::dump_disk;
 use crate::failure::Failure;
+use crate::make::make_disk;
 use crate::words::{Command, read_words};
 use buffered_engine::{Formatted, Hosts, Put, Shape, Sink, Source, format};
 use lean_disk::Disk;
@@ -89,6 +92,7 @@ fn run_alone<S: Source, K: Sink<D>, D: Hosts>(
     ensures ends { CommandEnds (texts words.now) result.status (events_in result.front.view) (D.story disk) (D.story result.disk) (S.feed source.old) (S.feed source.new) (K.held sink.old) (K.held sink.new)
         (record { source = S.faults source.old; sink = K.faults sink.old; disk = D.faults disk }) (record { source = S.faults source.new; sink = K.faults sink.new; disk = D.faults result.disk }) }
     ensures headline { (size : Size) → Asks (texts words.now) (Run size) → IsTrue (S.feed source.old).tells → IsTrue (K.held sink.old).tells → TellsAll 16 (D.story disk) → Headline (D.story disk) (D.story result.disk) (S.feed source.old).left (added (K.held sink.old) (K.held sink.new)) }
+    ensures make { (workload : Workload) → Asks (texts words.now) (Make workload) → (mid : D) × MakeEnds workload result.status (events_in result.front.view) (D.story disk) (D.story mid) (D.story result.disk) (K.held sink.old) (K.held sink.new) (K.faults sink.old) (K.faults sink.new) }
     ensures source { ((size : Size) → Asks (texts words.now) (Run size) → ⊥) → source.new ≡ source.old }
 {
     match read_words(alloc, words) {
@@ -101,6 +105,7 @@ fn run_alone<S: Source, K: Sink<D>, D: Hosts>(
             }
         }
         Ok(Some(Command::Run(size))) => run_disk(alloc, source, sink, disk, size),
+        Ok(Some(Command::Make(workload))) => make_disk(alloc, workload, sink, disk),
         Ok(Some(Command::Dump)) => {
             let status = dump_disk(alloc, sink, &mut disk);
             Ended {
@@ -149,6 +154,7 @@ pub fn run<R: Threads + Wait + Sync, S: Source, K: Sink<D>, D: Hosts, G: Gate + 
     // What each command does.
     ensures format { (shape : Shape) → Asks (texts words.now) (Format shape) → FormatEnds shape result.status (D.story disk) (D.story result.disk) (K.held sink.old) (K.held sink.new) (K.faults sink.old) (K.faults sink.new) (D.faults disk) (D.faults result.disk) }
     ensures run { (size : Size) → Asks (texts words.now) (Run size) → RunEnds size result.status (events_in result.front.view) (D.story disk) (D.story result.disk) (S.feed source.old) (S.feed source.new) (K.held sink.old) (K.held sink.new) (K.faults sink.old) (K.faults sink.new) }
+    ensures make { (workload : Workload) → Asks (texts words.now) (Make workload) → (mid : D) × MakeEnds workload result.status (events_in result.front.view) (D.story disk) (D.story mid) (D.story result.disk) (K.held sink.old) (K.held sink.new) (K.faults sink.old) (K.faults sink.new) }
     ensures dump { Asks (texts words.now) Dump → DumpEnds result.status (D.story disk) (D.story result.disk) (K.held sink.old) (K.held sink.new) (K.faults sink.old) (K.faults sink.new) }
     ensures none { AsksNothing (texts words.now) → UsageEnds result.status (D.story disk) (D.story result.disk) (K.held sink.old) (K.held sink.new) (K.faults sink.old) (K.faults sink.new) (D.faults disk) (D.faults result.disk) }
 

@@ -5,10 +5,12 @@ ghost use Rattle.clap.specs.Words.{found_of, rows_of, subcommand_rows_of};
 ghost use Rattle.buffered_engine.specs.disk_format.declared.shape.Shape.{Shape};
 ghost use Rattle.buffered_engine.specs.paged_engine.declared.opening.Size.{Size};
 ghost use Rattle.lean_shell.specs.Inside.CommandLines.{AsksAs, AsksBy, GivesShape};
-ghost use Rattle.lean_shell.specs.Words.{Asks, AsksNothing, Gives, GivesSize, IsNumberIn, IsPlain, texts};
+ghost use Rattle.lean_shell.specs.Words.{Asks, AsksNothing, Gives, GivesSize, GivesWorkload, IsNumberIn, IsPlain, texts};
+ghost use Rattle.lean_shell.specs.declared.make.Workload.{Workload};
 ghost use Rattle.lean_shell.specs.declared.words.Command.{Command};
 
 use crate::command_line::lean_line;
+use crate::make::Workload;
 use buffered_engine::{Shape, Size};
 use clap::ArgMatches;
 use clap::error::ErrorKind;
@@ -20,6 +22,7 @@ use std::alloc::{AllocError, Global};
 pub enum Command {
     Format(Shape),
     Run(Size),
+    Make(Workload),
     Dump,
 }
 
@@ -35,19 +38,19 @@ fn is_plain(text: &[u8]) -> bool
 }
 
 // A number as a script spells it.
-fn number(word: &str) -> Option<u32>
+fn number(word: &str) -> Option<u64>
     ensures some { IfSome result (λ n. word.now ≡ decimal n) }
-    ensures fits { IfSome result (λ n. n < 2 ^ 32) }
-    ensures none { IfNone result ((n : ℕ) → n < 2 ^ 32 → word.now ≡ decimal n → ⊥) }
+    ensures fits { IfSome result (λ n. n < 2 ^ 64) }
+    ensures none { IfNone result ((n : ℕ) → n < 2 ^ 64 → word.now ≡ decimal n → ⊥) }
 {
     if !is_plain(word.as_bytes()) {
         return None;
     }
-    word.parse::<u32>().ok()
+    word.parse::<u64>().ok()
 }
 
 // Such a number that is in a range.
-fn number_in(word: &str, from: u32, to: u32) -> Option<u32>
+fn number_in(word: &str, from: u64, to: u64) -> Option<u64>
     ensures some { IfSome result (IsNumberIn from to word.now) }
     ensures none { IfNone result ((n : ℕ) → IsNumberIn from to word.now n → ⊥) }
 {
@@ -63,6 +66,15 @@ fn number_in(word: &str, from: u32, to: u32) -> Option<u32>
 
 // The number that is an option's value, if it is in a range.
 fn option_in(options: &ArgMatches, name: &str, from: u32, to: u32) -> Option<u32>
+    ensures some { IfSome result (Gives (rows_of (found_of options.now)) name.now from to) }
+    ensures none { IfNone result ((n : ℕ) → Gives (rows_of (found_of options.now)) name.now from to n → ⊥) }
+{
+    let n = wide_in(options, name, from as u64, to as u64)?;
+    Some(n as u32)
+}
+
+// The same of a greater range.
+fn wide_in(options: &ArgMatches, name: &str, from: u64, to: u64) -> Option<u64>
     ensures some { IfSome result (Gives (rows_of (found_of options.now)) name.now from to) }
     ensures none { IfNone result ((n : ℕ) → Gives (rows_of (found_of options.now)) name.now from to n → ⊥) }
 {
@@ -99,6 +111,15 @@ fn read_size(options: &ArgMatches) -> Option<Size>
     })
 }
 
+fn read_workload(options: &ArgMatches) -> Option<Workload>
+    ensures some { IfSome result (GivesWorkload (rows_of (found_of options.now))) }
+    ensures none { IfNone result ((w : Workload) → GivesWorkload (rows_of (found_of options.now)) w → ⊥) }
+{
+    let number = wide_in(options, "number", 0, u64::MAX)?;
+    let count = option_in(options, "count", 1, 1_000_000)?;
+    Some(Workload { number, count })
+}
+
 // What a command and its options ask for.
 fn asked(name: &str, options: &ArgMatches) -> Option<Command>
     ensures some { IfSome result (AsksBy name.now (rows_of (found_of options.now))) }
@@ -111,6 +132,10 @@ fn asked(name: &str, options: &ArgMatches) -> Option<Command>
     if name == "run" {
         let size = read_size(options)?;
         return Some(Command::Run(size));
+    }
+    if name == "make" {
+        let workload = read_workload(options)?;
+        return Some(Command::Make(workload));
     }
     if name == "dump" {
         return Some(Command::Dump);

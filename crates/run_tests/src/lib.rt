@@ -91,23 +91,11 @@ mod dumps;
 #[cfg(test)]
 mod fours;
 #[cfg(test)]
-mod random;
-#[cfg(test)]
 mod rows;
-#[cfg(test)]
-mod rule_crashes;
-#[cfg(test)]
-mod rule_files;
-#[cfg(test)]
-mod ruled;
-#[cfg(test)]
-mod rules;
 #[cfg(test)]
 mod runs;
 #[cfg(test)]
 mod scripts;
-#[cfg(test)]
-mod sessions;
 #[cfg(test)]
 mod sweeps;
 #[cfg(test)]

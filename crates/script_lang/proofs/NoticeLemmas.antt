@@ -2,10 +2,10 @@
 use Rattle.std.proofs.Common.{◌≡◌, ◌++◌, ◌∷◌, None, codes, refl, arith, rules}
 use Rattle.std.specs.Fmt.{decimal}
 use Rattle.script_lang.specs.Notices.{Notice, notice_text, NoticeFits}
-use Rattle.script_lang.specs.Notices.Notice.{Opened, Formatted, Refused, Damaged, Pair, End, Usage, ReadFault, DiskFault, NoMemory, NotFormatted, AlreadyFormatted}
+use Rattle.script_lang.specs.Notices.Notice.{Opened, Formatted, Refused, Damaged, Pair, Made, End, Usage, ReadFault, DiskFault, NoMemory, NotFormatted, AlreadyFormatted}
 use Rattle.script_lang.specs.Replies.{reply_of}
 use Rattle.script_lang.specs.Text.{IsLine}
-use Rattle.script_lang.proofs.ReplyLemmas.{line_number, line_with_number}
+use Rattle.script_lang.proofs.ReplyLemmas.{line_number, line_wide, line_with_number}
 
 pub no_reply : (n : Notice) → reply_of (notice_text n) ≡ None
 no_reply (Opened g w u) = refl
@@ -13,6 +13,7 @@ no_reply (Formatted w p n) = refl
 no_reply (Refused n) = refl
 no_reply (Damaged a p) = refl
 no_reply (Pair k v) = refl
+no_reply (Made n r p t) = refl
 no_reply End = refl
 no_reply Usage = refl
 no_reply ReadFault = refl
@@ -49,6 +50,15 @@ one_line (Pair k v) h =
     let last = line_number v h.1 in
     let value : IsLine (32 ∷ decimal v) = search (rules, last) in
     let first = line_with_number k (32 ∷ decimal v) h.0 value in
+    search (rules, first)
+one_line (Made n r p t) h =
+    let last = line_wide t (omega arith) in
+    let sum : IsLine (codes " sum " ++ decimal t) = search (rules, last) in
+    let third = line_with_number p (codes " sum " ++ decimal t) h.2 sum in
+    let pairs : IsLine (codes " pairs " ++ (decimal p ++ (codes " sum " ++ decimal t))) = search (rules, third) in
+    let second = line_with_number r (codes " pairs " ++ (decimal p ++ (codes " sum " ++ decimal t))) h.1 pairs in
+    let refused : IsLine (codes " refused " ++ (decimal r ++ (codes " pairs " ++ (decimal p ++ (codes " sum " ++ decimal t))))) = search (rules, second) in
+    let first = line_with_number n (codes " refused " ++ (decimal r ++ (codes " pairs " ++ (decimal p ++ (codes " sum " ++ decimal t))))) (omega arith) refused in
     search (rules, first)
 one_line End h = search rules
 one_line Usage h = search rules

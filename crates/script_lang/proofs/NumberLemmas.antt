@@ -4,7 +4,7 @@ use mathlib.Core.List.{append_assoc}
 use Rattle.std.proofs.lemmas.List.{append-nil}
 use Rattle.std.proofs.lemmas.Bool.{eqb-true}
 use Rattle.std.proofs.lemmas.Bool.Decides.{nat_tests}
-use Rattle.std.proofs.lemmas.Fmt.{decimal_by_steps, decimal_digit, decimal_step, first_decimal}
+use Rattle.std.proofs.lemmas.Fmt.{decimal_by_steps, decimal_by_steps_wide, decimal_digit, decimal_step, first_decimal}
 use Rattle.std.specs.Fmt.{decimal}
 use Rattle.script_lang.specs.Words.{first_word, after_word, goes_on, digits_on, nothing_else, number_of, ranged}
 use Rattle.script_lang.specs.Pieces.{name}
@@ -18,8 +18,11 @@ digits_end : (ds : List ℕ) (d : ℕ) → Digits ds → 47 < d → d < 58 → D
 digits_end [] d h low high = (low, high, tt)
 digits_end (x ∷ ds) d h low high = (h.0, h.1, digits_end ds d h.2 low high)
 
+pub digits_wide : (n : ℕ) → n < 10 ^ 64 → Digits (decimal n)
+digits_wide n small = decimal_by_steps_wide (λ n ds. Digits ds) (λ n h. (omega arith, omega arith, tt)) (λ n ds h is. digits_end ds (48 + n % 10) is (omega arith) (omega arith)) n small
+
 pub digits : (n : ℕ) → n < 2 ^ 64 → Digits (decimal n)
-digits n small = decimal_by_steps (λ n ds. Digits ds) (λ n h. (omega arith, omega arith, tt)) (λ n ds h is. digits_end ds (48 + n % 10) is (omega arith) (omega arith)) n small
+digits n small = digits_wide n (omega arith)
 
 -- a word: no space in it
 abbrev pub IsWord : List ℕ → Type 0

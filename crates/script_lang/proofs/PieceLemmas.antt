@@ -31,6 +31,10 @@ holds_regrouped prefix a b c first now end is =
 pub three_pieces : (a b c d e f : List ℕ) → (((a ++ b) ++ (c ++ d)) ++ (e ++ f)) ≡ a ++ (b ++ (c ++ (d ++ (e ++ f))))
 three_pieces a b c d e f = simp append_assoc
 
+-- four of them
+pub four_pieces : (a b c d e f g h : List ℕ) → ((((a ++ b) ++ (c ++ d)) ++ (e ++ f)) ++ (g ++ h)) ≡ a ++ (b ++ (c ++ (d ++ (e ++ (f ++ (g ++ h))))))
+four_pieces a b c d e f g h = simp append_assoc
+
 pub two_pieces : (a b c d : List ℕ) → ((a ++ b) ++ (c ++ d)) ≡ a ++ (b ++ (c ++ d))
 two_pieces a b c d = simp append_assoc
 

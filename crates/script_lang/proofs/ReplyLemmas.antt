@@ -14,7 +14,7 @@ use Rattle.map_model.specs.Outputs.Reply.{Answered, Durable}
 use Rattle.map_model.specs.declared.call.Answer.{Answer}
 use Rattle.map_model.specs.declared.call.Answer.TheVariants.{Begun, Value, Was, Pair, More, End, Committed, Aborted, Synced, Refused}
 use Rattle.map_model.specs.declared.call.Refusal.TheVariants.{InTransaction, NoTransaction, TooLong, LogFull, ClockSpent, RowSpent, Conflict, TooTall, NoPages}
-use Rattle.script_lang.proofs.NumberLemmas.{Digits, digits, word_number, word_name, word_last, after_last, word_before, after_before, number_is}
+use Rattle.script_lang.proofs.NumberLemmas.{Digits, digits, digits_wide, word_number, word_name, word_last, after_last, word_before, after_before, number_is}
 
 prefix_is : (prefix ds : List ℕ) → after_prefix prefix (prefix ++ ds) ≡ number_of ds
 prefix_is prefix ds =
@@ -98,6 +98,9 @@ line_digits (d ∷ ds) more h is = let low : 47 < d = h.0 in ((λ e. omega arith
 line_only : (ds : List ℕ) → Digits ds → IsLine ds
 line_only [] h = tt
 line_only (d ∷ ds) h = let low : 47 < d = h.0 in ((λ e. omega arith), line_only ds h.2)
+
+pub line_wide : (n : ℕ) → n < 10 ^ 64 → IsLine (decimal n)
+line_wide n small = line_only (decimal n) (digits_wide n small)
 
 pub line_number : (n : ℕ) → n < 2 ^ 64 → IsLine (decimal n)
 line_number n small = line_only (decimal n) (digits n small)

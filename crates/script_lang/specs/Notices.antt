@@ -8,6 +8,7 @@ pub data Notice : Type 0 where
   Refused : ℕ → Notice
   Damaged : ℕ → ℕ → Notice
   Pair : ℕ → ℕ → Notice
+  Made : ℕ → ℕ → ℕ → ℕ → Notice
   End Usage ReadFault DiskFault NoMemory NotFormatted AlreadyFormatted : Notice
 
 abbrev pub notice_text : Notice → List ℕ
@@ -16,6 +17,7 @@ notice_text (Formatted w p n) = codes "formatted " ++ (decimal w ++ 32 ∷ (deci
 notice_text (Refused n) = codes "lean: line " ++ (decimal n ++ codes " refused")
 notice_text (Damaged a p) = codes "lean: damaged area " ++ (decimal a ++ (codes " place " ++ decimal p))
 notice_text (Pair k v) = codes "pair " ++ (decimal k ++ 32 ∷ decimal v)
+notice_text (Made c r p t) = codes "made " ++ (decimal c ++ (codes " refused " ++ (decimal r ++ (codes " pairs " ++ (decimal p ++ (codes " sum " ++ decimal t))))))
 notice_text End = codes "end"
 notice_text Usage = codes "lean: usage"
 notice_text ReadFault = codes "lean: read fault"
@@ -31,4 +33,5 @@ NoticeFits (Formatted w p n) = (w < 2 ^ 32) × (p < 2 ^ 32) × (n < 2 ^ 32)
 NoticeFits (Refused n) = n < 2 ^ 64
 NoticeFits (Damaged a p) = (a < 2 ^ 32) × (p < 2 ^ 64)
 NoticeFits (Pair k v) = (k < 2 ^ 64) × (v < 2 ^ 64)
+NoticeFits (Made c r p t) = (c < 2 ^ 32) × (r < 2 ^ 64) × (p < 2 ^ 64) × (t < 2 ^ 128)
 NoticeFits _ = Unit {0}

@@ -2,12 +2,12 @@
 ghost use Rattle.std.specs.Prelude.{◌≡◌, ◌≤◌, ◌+◌, ◌++◌, ◌∷◌, [], ℕ, List, None, length};
 ghost use Rattle.script_lang.specs.Pieces.{Holds};
 ghost use Rattle.script_lang.specs.Notices.{Notice, notice_text, NoticeFits};
-ghost use Rattle.script_lang.specs.Notices.Notice.{Opened, Formatted, Refused, Damaged, Pair, End, Usage, ReadFault, DiskFault, NoMemory, NotFormatted, AlreadyFormatted};
+ghost use Rattle.script_lang.specs.Notices.Notice.{Opened, Formatted, Refused, Damaged, Pair, Made, End, Usage, ReadFault, DiskFault, NoMemory, NotFormatted, AlreadyFormatted};
 ghost use Rattle.script_lang.specs.Replies.{reply_of};
 ghost use Rattle.script_lang.specs.Text.{IsLine};
 ghost use Rattle.script_lang.specs.declared.reply.TheConstants.{REPLY};
 
-use crate::text::{put_text, put_with_number};
+use crate::text::{put_text, put_wide, put_with_number};
 
 /// All pairs of a map were put.
 pub const END: &[u8] = b"end\n";
@@ -89,5 +89,17 @@ pub fn pair_bytes(key: u64, value: u64, into: &mut [u8]) -> usize
 {
     let at = put_with_number(into, 0, b"pair ", key);
     let at = put_with_number(into, at, b" ", value);
+    put_text(into, at, b"\n")
+}
+
+/// Writes the line of a workload that was made: its transactions, the draws that were refused, the pairs of the map, and the sum of their values.
+pub fn made_bytes(count: u32, refused: u64, pairs: u64, sum: u128, into: &mut [u8]) -> usize
+    requires { REPLY ≤ length into.old }
+    ensures { Holds (notice_text (Made count refused pairs sum) ++ 10 ∷ []) into.old into.new result }
+{
+    let at = put_with_number(into, 0, b"made ", count as u64);
+    let at = put_with_number(into, at, b" refused ", refused);
+    let at = put_with_number(into, at, b" pairs ", pairs);
+    let at = put_wide(into, at, b" sum ", sum);
     put_text(into, at, b"\n")
 }

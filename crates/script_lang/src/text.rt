@@ -3,7 +3,7 @@ ghost use Rattle.std.specs.Prelude.{◌≡◌, ◌≤◌, ◌+◌, ◌++◌, ◌
 ghost use Rattle.std.specs.Fmt.{decimal};
 ghost use Rattle.script_lang.specs.Pieces.{Holds, name};
 
-use itoa::write_digits;
+use itoa::{Buffer, write_digits};
 
 /// Puts a text behind the first `at` bytes. The answer is how many bytes stand then.
 #[inline(always)]
@@ -73,6 +73,17 @@ pub fn put_with_number(into: &mut [u8], at: usize, text: &[u8], number: u64) -> 
 {
     let at = put_text(into, at, text);
     put_number(into, at, number)
+}
+
+/// Puts a text, and a number of up to 128 bits behind it.
+pub fn put_wide(into: &mut [u8], at: usize, text: &[u8], number: u128) -> usize
+    requires room { at + length text.now + 40 ≤ length into.old }
+    ensures end { result ≤ at + length text.now + 40 }
+    ensures written { (prefix first : List ℕ) → Holds prefix first into.old at → Holds (prefix ++ (text.now ++ decimal number)) first into.new result }
+{
+    let at = put_text(into, at, text);
+    let mut digits = Buffer::new();
+    put_text(into, at, digits.format(number).as_bytes())
 }
 
 /// Puts a text, and behind it the name of a session's transaction.

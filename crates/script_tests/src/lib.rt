@@ -10,6 +10,10 @@ mod file_disks;
 #[cfg(test)]
 mod files;
 #[cfg(test)]
+mod make_words;
+#[cfg(test)]
+mod makes;
+#[cfg(test)]
 mod programs;
 #[cfg(test)]
 mod rows;

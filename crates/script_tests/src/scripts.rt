@@ -3,7 +3,7 @@ use crate::cases::expect;
 use crate::commands::formatted;
 use lean_disk::MemDisk;
 use lean_shell::{
-    Engine, LineReader, MemSink, MemSource, Opened, Size, Stop, Unopened, run_script,
+    Closed, Engine, LineReader, MemSink, MemSource, Opened, Size, Stop, Unopened, run_script,
 };
 use script_run::no_events;
 use std::alloc::{AllocError, Global};
@@ -103,7 +103,10 @@ fn stop_on(
         Err(Unopened { disk: _, reason: _ }) => return None,
     };
     let stop = run_script(&mut engine, reader, source, sink, &mut no_events());
-    engine.close();
+    let Closed {
+        disk: _disk,
+        front: _,
+    } = engine.close();
     Some(stop)
 }
 

@@ -8,9 +8,13 @@ use std::sync::Wait;
 use std::thread::Threads;
 
 // A command line, its status and what it prints: a format of a new disk, and all else of one of 16 pages that is formatted.
-struct Line(&'static str, u8, &'static [u8]);
+pub(crate) struct Line(
+    pub(crate) &'static str,
+    pub(crate) u8,
+    pub(crate) &'static [u8],
+);
 
-const NONE: &[u8] = b"lean: usage\n";
+pub(crate) const NONE: &[u8] = b"lean: usage\n";
 
 const OPENED: &[u8] = b"open 1 winners 0 undone 0\n";
 
@@ -366,7 +370,8 @@ fn is_same(old: &MemDisk, new: &MemDisk) -> bool {
     old.bytes(0) == new.bytes(0) && old.bytes(1) == new.bytes(1) && old.bytes(2) == new.bytes(2)
 }
 
-fn is_met<R: Threads + Wait + Sync>(
+// Whether the command ends and prints so, and leaves a disk that it refuses as it was.
+pub(crate) fn is_met<R: Threads + Wait + Sync>(
     rt: &R,
     alloc: Global,
     line: &Line,

@@ -1,5 +1,5 @@
 use Rattle.std.proofs.Common.{◌≡◌, true}
-use Rattle.buffered_engine.specs.group_commit.Queues.{queued}
+use Rattle.host_disk.specs.buffered_engine.group_commit.Queues.{queued}
 use Rattle.embed.proofs.take_durables.Given as goal
 
 abbrev pub invariant-loop-durable : goal.invariant-loop-durable

@@ -32,8 +32,8 @@ use Rattle.lean_shell.specs.Ends.{RunEnds}
 use Rattle.lean_shell.specs.Inside.Openings.{Refuses}
 use Rattle.lean_shell.specs.Inside.Lefts.{LivesOn}
 use Rattle.lean_shell.specs.Lines.{IsPut, line_of}
-use Rattle.lean_shell.specs.Runs.{Counts, IsFrom, first_line, notice_of, status_of}
-use Rattle.lean_shell.specs.Runs.HowRun.{OfCut, OfReason}
+use Rattle.lean_shell.specs.Runs.{Counts, HowRun, IsFrom, first_line, notice_of, status_of}
+use Rattle.lean_shell.specs.Runs.HowRun.{OfCut, OfReason, OfScript}
 use Rattle.lean_shell.proofs.Runs.LastLemmas.{PutText, put_text, went_out}
 use Rattle.lean_shell.proofs.Runs.MomentLemmas.{line_moments}
 use Rattle.lean_shell.proofs.Runs.NoteLemmas.{put_notes}
@@ -79,6 +79,17 @@ module _ (size : Size) (AreIts : Opening → List Done → Option Done → Type 
       subst (Headline s0 new feed.left) (sym (ap (drop (length held0.bytes)) (line_text.holds sink_tells) ∙ drop-append_seam held0.bytes line_text.text)) (line_says tail_law all)
 
 -- no script was executed
+abbrev pub IsUnread : {size : Size} {status : ℕ} {s0 s1 : Story} {feed0 feed1 : Feed} {put : List ℕ} {sink0 sink1 : ℕ} → HowRun size status s0 s1 feed0 feed1 put sink0 sink1 → Type 0
+IsUnread (OfReason reason unread) = Unit {0}
+IsUnread (OfCut cut) = Unit {0}
+IsUnread (OfScript ran) = ⊥
+
+-- and this alone was put
+pub record OnlyLine (size : Size) (status : ℕ) (events : List Event) (s0 s1 : Story) (feed : Feed) (held0 held1 : Held) (sink0 sink1 : ℕ) (text : List ℕ) : Type 0 where
+  pub ends : RunEnds size status events s0 s1 feed feed held0 held1 sink0 sink1
+  pub unread : IsUnread ends.how
+  pub put_is : ends.put ≡ text
+
 abbrev NoCalls : Opening → List Done → Option Done → Type 0
 NoCalls opening heard next_one = ⊥
 
@@ -105,6 +116,14 @@ refused_ends size notice_law tail_law status s0 old new law keeps others any fee
       masters = λ tells. line_masters size NoCalls notice_law s0 old new law keeps any feed (notice_of reason) r.fits r.answer held0 held1 r.line;
     }
 
+pub refused_line : (size : Size) → EveryNotice → EveryTail → (status : ℕ) (s0 old new : Story) → IsLawful old → Keeps s0 old → ((a : ℕ) → 1 + size.sessions < a → old.area a ≡ s0.area a)
+    → ((m : Master) → TellsAll size.sessions s0 → IsCleanDisk m (areas_of s0) → LeavesOnly s0 old (RecoveryLeaves m s0)) → (feed : Feed) (reason : Unrecovered) → status ≡ status_of reason → Shows size.sessions s0 reason
+    → (IsRefusal reason → (a : ℕ) → IsUntouched (s0.area a) (old.area a))
+    → (held0 held1 : Held) (sink0 sink1 : ℕ) → (r : Refuses reason held0 held1 sink0 sink1 old new) → (events : List Event) → events ≡ [] → OnlyLine size status events s0 new feed held0 held1 sink0 sink1 (put_text (line_of (notice_of reason)) r.answer held0 held1 r.line.puts).text
+unfolding refused_ends
+refused_line size notice_law tail_law status s0 old new law keeps others any feed reason is shown left held0 held1 sink0 sink1 r events none =
+    record { ends = refused_ends size notice_law tail_law status s0 old new law keeps others any feed reason is shown left held0 held1 sink0 sink1 r events none; unread = tt; put_is = refl }
+
 pub refused_headline : (size : Size) → EveryNotice → EveryTail → (s0 old new : Story) → IsLawful old → Keeps s0 old → ((m : Master) → TellsAll size.sessions s0 → IsCleanDisk m (areas_of s0) → LeavesOnly s0 old (RecoveryLeaves m s0))
     → (feed : Feed) (reason : Unrecovered) (held0 held1 : Held) (sink0 sink1 : ℕ) → Refuses reason held0 held1 sink0 sink1 old new → IsTrue held0.tells → TellsAll size.sessions s0 → Headline s0 new feed.left (added held0 held1)
 refused_headline size notice_law tail_law s0 old new law keeps any feed reason held0 held1 sink0 sink1 r = line_headline size NoCalls notice_law s0 old new law keeps any feed (notice_of reason) r.fits r.answer held0 held1 r.line tail_law
@@ -126,6 +145,11 @@ module _ (size : Size) (notice_law : EveryNotice) (s0 old new : Story) (law : Is
         headline = λ tells. line_says size NoCalls notice_law s0 old new law keeps any feed opened fits answer held0 held1 p tail_law;
         masters = λ tells. line_masters size NoCalls notice_law s0 old new law keeps any feed opened fits answer held0 held1 p;
       }
+
+  pub cut_line : EveryTail → ((a : ℕ) → 1 + size.sessions < a → old.area a ≡ s0.area a) → (g : Opening) → (TellsAll size.sessions s0 → IsFrom size.sessions g s0 n) → (sink0 sink1 : ℕ) → Rose sink0 sink1 → (events : List Event) → events ≡ []
+      → OnlyLine size 5 events s0 new feed held0 held1 sink0 sink1 (put_text (first_line n) answer held0 held1 p.puts).text
+  unfolding cut_ends
+  cut_line tail_law others g from sink0 sink1 rose events none = record { ends = cut_ends tail_law others g from sink0 sink1 rose events none; unread = tt; put_is = refl }
 
   pub cut_headline : EveryTail → IsTrue held0.tells → TellsAll size.sessions s0 → Headline s0 new feed.left (added held0 held1)
   cut_headline = line_headline size NoCalls notice_law s0 old new law keeps any feed opened fits answer held0 held1 p

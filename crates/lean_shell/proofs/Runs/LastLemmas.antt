@@ -34,6 +34,12 @@ pub put_text : (line : List ℕ) (answer : Put) (held0 held1 : Held) → Puts li
 put_text line Done held0 held1 p = record { text = line; holds = p.done refl; prefix = length line; is_prefix = sym (take-length line); whole = λ e. refl }
 put_text line Failed held0 held1 p = let q = p.failed refl in record { text = take q.0 line; holds = q.1; prefix = q.0; is_prefix = refl; whole = λ e. absurd (not_done e) }
 
+-- sinks that took as much of it hold the same text
+pub same_text : (line : List ℕ) (answer : Put) (h0 h1 k0 k1 : Held) (p : Puts line answer h0 h1) (q : Puts line answer k0 k1) → ((f : answer ≡ Failed) → (p.failed f).0 ≡ (q.failed f).0) → (put_text line answer h0 h1 p).text ≡ (put_text line answer k0 k1 q).text
+unfolding put_text
+same_text line Done h0 h1 k0 k1 p q as_much = refl
+same_text line Failed h0 h1 k0 k1 p q as_much = ap (λ (n : ℕ). take n line) (as_much refl)
+
 -- it went out, or the sink failed
 pub went_out : (line text : List ℕ) (answer : Put) (before now prefix : ℕ) → text ≡ take prefix line → (answer ≡ Done → text ≡ line) → HasCause before now (answer ≡ Failed) → WentOut line text before now
 went_out line text Done before now prefix is whole cause = inl (whole refl, cause.calm (λ e. not_done (sym e)))

@@ -70,13 +70,13 @@ use Rattle.lean_shell.specs.Headline.{Headline, RunLeaves, Survives}
 use Rattle.lean_shell.specs.Inside.Begins.{Begins, HasStarted, began}
 use Rattle.lean_shell.specs.Inside.Laws.{Laws}
 use Rattle.lean_shell.specs.Inside.Lefts.{IsSameBut, LivesOn}
-use Rattle.lean_shell.specs.Inside.Assembled.{EveryRun}
+use Rattle.lean_shell.specs.Inside.Assembled.{EveryRun, IsRun}
 use Rattle.lean_shell.specs.Inside.Openings.{EndsWith}
 use Rattle.lean_shell.specs.Lines.{IsPut}
-use Rattle.lean_shell.specs.Runs.{AreAll, AreAllOf, AreFirst, AreFirstOf, Counts, HasBlocks, IsClosed, IsOnDisk, ended, first_line}
+use Rattle.lean_shell.specs.Runs.{AreAll, AreAllOf, AreFirst, AreFirstOf, Counts, HasBlocks, HowRun, IsClosed, IsOnDisk, Ran, ended, first_line}
 use Rattle.lean_shell.specs.Runs.AreAll.{All, ButNewest}
 use Rattle.lean_shell.specs.Runs.AreFirst.{Among, Behind}
-use Rattle.lean_shell.specs.Runs.HowRun.{OfScript}
+use Rattle.lean_shell.specs.Runs.HowRun.{OfCut, OfReason, OfScript}
 use Rattle.lean_shell.specs.Starts.{AllAnswered, HasLinesFor, IsAskedNext, IsLeft, IsRoomOfNext}
 use Rattle.lean_shell.proofs.Runs.CountLemmas.{TakesFew, all_few, few_taken, most_any, with_own}
 use Rattle.lean_shell.proofs.Runs.DiskLemmas.{HeardNow, InPart, InRoom, InRun, IsCutLast, Moved, StandsNow, asked_of, both, counts_moved, damaged_not, heard_now, lines_with, moved, stands_now}
@@ -684,3 +684,41 @@ every_run laws s0 sa sb sc s1 size feed0 feed1 held0 held_b held_c held1 stop si
   ends = λ status is sink0 sinks others. run_ends size x.few x.frames laws s0 sa sb sc s1 x.law_a x.law_c x.law_1 x.g x.first x.counts x.starts x.keeps x.any held0 held_b held_c held1 x.opened_fits x.put feed0 feed1 x.reader stop x.last_memory x.runs sink_c sink1 x.last status is sink0 sinks others x.closed events x.made;
   headline = run_headline size x.few x.frames laws s0 sa sb sc s1 x.law_a x.law_c x.law_1 x.g x.first x.counts x.starts x.keeps x.any held0 held_b held_c held1 x.opened_fits x.put feed0 feed1 x.reader stop x.last_memory x.runs sink_c sink1 x.last;
 }
+
+-- ## How it ran
+
+abbrev IsScript : {size : Size} {status : ℕ} {s0 s1 : Story} {feed0 feed1 : Feed} {put : List ℕ} {sink0 sink1 : ℕ} → HowRun size status s0 s1 feed0 feed1 put sink0 sink1 → Type 0
+IsScript (OfReason reason unread) = ⊥
+IsScript (OfCut cut) = ⊥
+IsScript (OfScript ran) = Unit {0}
+
+abbrev ran_in : {size : Size} {status : ℕ} {s0 s1 : Story} {feed0 feed1 : Feed} {put : List ℕ} {sink0 sink1 : ℕ} → (how : HowRun size status s0 s1 feed0 feed1 put sink0 sink1) → IsScript how → Ran size status s0 s1 feed0 feed1 put sink0 sink1
+ran_in (OfReason reason unread) is = absurd is
+ran_in (OfCut cut) is = absurd is
+ran_in (OfScript ran) is = ran
+
+-- these calls were executed from this opening on, and it stopped so
+pub record EndsSo (size : Size) (status : ℕ) (events : List Event) (s0 s1 : Story) (feed0 feed1 : Feed) (held0 held1 : Held) (sink0 sink1 : ℕ) (g : Opening) (counts : Counts) (stop : Stop) (calls : List Done) : Type 0 where
+  pub ends : RunEnds size status events s0 s1 feed0 feed1 held0 held1 sink0 sink1
+  pub ran : Ran size status s0 s1 feed0 feed1 ends.put sink0 sink1
+  pub how_is : ends.how ≡ OfScript ran
+  pub opening_is : ran.executed.opening ≡ g
+  pub counts_are : ran.counts ≡ counts
+  pub stop_is : ran.stop ≡ stop
+  pub calls_are : ran.calls ≡ calls
+
+module _ (laws : Laws) (s0 sa sb sc s1 : Story) (size : Size) (feed0 feed1 : Feed) (held0 held_b held_c held1 : Held) (stop : Stop) (sink_c sink1 : ℕ) (events : List Event) (x : IsRun size s0 sa sb sc s1 feed0 feed1 held0 held_b held_c held1 stop sink_c sink1 events) where
+  ends_by : (status : ℕ) → status ≡ ended stop → (sink0 : ℕ) → HasCause sink0 sink_c (stop ≡ stops.WriteFault) → ((a : ℕ) → 1 + size.sessions < a → sa.area a ≡ s0.area a) → RunEnds size status events s0 s1 feed0 feed1 held0 held1 sink0 sink1
+  ends_by status is sink0 sinks others = run_ends size x.few x.frames laws s0 sa sb sc s1 x.law_a x.law_c x.law_1 x.g x.first x.counts x.starts x.keeps x.any held0 held_b held_c held1 x.opened_fits x.put feed0 feed1 x.reader stop x.last_memory x.runs sink_c sink1 x.last status is sink0 sinks others x.closed events x.made
+
+  pub every_end : (status : ℕ) → status ≡ ended stop → (sink0 : ℕ) → HasCause sink0 sink_c (stop ≡ stops.WriteFault) → ((a : ℕ) → 1 + size.sessions < a → sa.area a ≡ s0.area a) → EndsSo size status events s0 s1 feed0 feed1 held0 held1 sink0 sink1 x.g x.counts stop x.runs.newer
+  unfolding ends_by run_ends
+  every_end status is sink0 sinks others = record {
+    ends = ends_by status is sink0 sinks others;
+    ran = ran_in (ends_by status is sink0 sinks others).how tt;
+    how_is = refl;
+    opening_is = refl;
+    counts_are = refl;
+    stop_is = refl;
+    calls_are = refl;
+  }

@@ -4,9 +4,9 @@ use Rattle.clap.specs.Words.{App, Row, app_of}
 use Rattle.clap.specs.declared.builder.Command.TheViews.{out-Command as fields_of}
 use Rattle.clap.specs.declared.builder.Command.{Command as Line}
 use Rattle.buffered_engine.specs.disk_format.declared.shape.Shape.{Shape}
-use Rattle.lean_shell.specs.Words.{Gives, GivesSize}
+use Rattle.lean_shell.specs.Words.{Gives, GivesSize, GivesWorkload}
 use Rattle.lean_shell.specs.declared.words.Command.{Command}
-use Rattle.lean_shell.specs.declared.words.Command.TheVariants.{Dump, Format, Run}
+use Rattle.lean_shell.specs.declared.words.Command.TheVariants.{Dump, Format, Make, Run}
 
 -- a command line with these commands and options
 pub record IsLine (app : App) (line : Line) : Type 0 where
@@ -23,6 +23,7 @@ pub record GivesShape (options : List Row) (shape : Shape) : Type 0 where
 abbrev pub AsksBy : (name : List ℕ) (options : List Row) → Command → Type 0
 AsksBy name options (Format shape) = (name ≡ codes "format") × GivesShape options shape
 AsksBy name options (Run size) = (name ≡ codes "run") × GivesSize options size
+AsksBy name options (Make workload) = (name ≡ codes "make") × GivesWorkload options workload
 AsksBy name options Dump = name ≡ codes "dump"
 
 -- so do the matches, if they are of a command

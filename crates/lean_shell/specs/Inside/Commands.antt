@@ -9,8 +9,10 @@ use Rattle.buffered_engine.specs.core_state.Events.{Event}
 use Rattle.lean_shell.specs.Ends.{RunEnds}
 use Rattle.lean_shell.specs.Endings.{FormatEnds, IsStatus, UsageEnds}
 use Rattle.lean_shell.specs.Headline.{Headline}
+use Rattle.lean_shell.specs.Makes.{MakeEnds}
 use Rattle.lean_shell.specs.Words.{Asks, AsksNothing}
 use Rattle.lean_shell.specs.declared.words.Command.TheVariants.{Dump, Format, Run}
+use Rattle.lean_shell.specs.declared.make.Workload.{Workload}
 use Rattle.buffered_engine.specs.disk_format.declared.shape.Shape.{Shape}
 use Rattle.buffered_engine.specs.paged_engine.declared.opening.Size.{Size}
 
@@ -38,5 +40,6 @@ pub record UnreadEnds (status : ℕ) (events : List Event) (s0 s1 : Story) (held
   pub format : (shape : Shape) → FormatEnds shape status s0 s1 held0 held1 sink0 sink1 disk0 disk1
   pub run : (size : Size) (feed : Feed) → RunEnds size status events s0 s1 feed feed held0 held1 sink0 sink1
   pub headline : (feed : Feed) → IsTrue held0.tells → TellsAll 16 s0 → Headline s0 s1 feed.left (added held0 held1)
+  pub make : (workload : Workload) → MakeEnds workload status events s0 s1 s1 held0 held1 sink0 sink1
   pub dump : DumpEnds status s0 s1 held0 held1 sink0 sink1
   pub none : UsageEnds status s0 s1 held0 held1 sink0 sink1 disk0 disk1

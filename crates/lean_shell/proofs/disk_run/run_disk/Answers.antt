@@ -63,7 +63,7 @@ returns-in_default-put_opened-clause-ends g c =
     let o = c.in-Ok-open.ensures.opened in
     let k = c.in-Ok-open.ensures.keeps in
     let sa = g.D.Disk.story n.engine.disk in
-    subst (λ d. RunEnds c.args.size 5 (events_in c.no_events.result.view) s0 (g.D.Disk.story d) (g.S.Source.feed c.args.source.now) (g.S.Source.feed c.args.source.now) (g.K.Sink.held c.args.sink.now) (g.K.Sink.held c.put_opened.new.sink) (g.K.Sink.faults c.args.sink.now) (g.K.Sink.faults c.put_opened.new.sink)) (sym c.close.ensures)
+    subst (λ d. RunEnds c.args.size 5 (events_in c.no_events.result.view) s0 (g.D.Disk.story d) (g.S.Source.feed c.args.source.now) (g.S.Source.feed c.args.source.now) (g.K.Sink.held c.args.sink.now) (g.K.Sink.held c.put_opened.new.sink) (g.K.Sink.faults c.args.sink.now) (g.K.Sink.faults c.put_opened.new.sink)) (sym c.disk_of.ensures)
     (cut_ends c.args.size c.laws.ensures.notice s0 sa (g.D.Disk.story c.put_opened.new.engine.disk) ((g.met.D.Disk g.world.𝓛 g.world.𝓜 g.world.𝓡 ((λ s x. x), (λ x. x), (λ x. x), (λ x. x))).lawful n.engine.disk) k.keeps k.any_moment (g.S.Source.feed c.args.source.now)
     (counts c.args.size s0 sa n.engine n.generation n.winners n.undone o) c.put_opened.ensures.fits (g.K.Sink.held c.args.sink.now) (g.K.Sink.held c.put_opened.new.sink) c.put_opened.result c.put_opened.ensures.put c.laws.ensures.tail k.others o.opening
     (from c.args.size s0 sa n.engine n.generation n.winners n.undone o)
@@ -76,7 +76,7 @@ returns-in_default-put_opened-clause-headline g c tells =
     let o = c.in-Ok-open.ensures.opened in
     let k = c.in-Ok-open.ensures.keeps in
     let sa = g.D.Disk.story n.engine.disk in
-    subst (λ d. IsTrue (g.K.Sink.held c.args.sink.now).tells → TellsAll c.args.size.sessions s0 → Headline s0 (g.D.Disk.story d) (g.S.Source.feed c.args.source.now).left (added (g.K.Sink.held c.args.sink.now) (g.K.Sink.held c.put_opened.new.sink))) (sym c.close.ensures)
+    subst (λ d. IsTrue (g.K.Sink.held c.args.sink.now).tells → TellsAll c.args.size.sessions s0 → Headline s0 (g.D.Disk.story d) (g.S.Source.feed c.args.source.now).left (added (g.K.Sink.held c.args.sink.now) (g.K.Sink.held c.put_opened.new.sink))) (sym c.disk_of.ensures)
     (cut_headline c.args.size c.laws.ensures.notice s0 sa (g.D.Disk.story c.put_opened.new.engine.disk) ((g.met.D.Disk g.world.𝓛 g.world.𝓜 g.world.𝓡 ((λ s x. x), (λ x. x), (λ x. x), (λ x. x))).lawful n.engine.disk) k.keeps k.any_moment (g.S.Source.feed c.args.source.now)
     (counts c.args.size s0 sa n.engine n.generation n.winners n.undone o) c.put_opened.ensures.fits (g.K.Sink.held c.args.sink.now) (g.K.Sink.held c.put_opened.new.sink) c.put_opened.result c.put_opened.ensures.put c.laws.ensures.tail)
 
@@ -87,7 +87,7 @@ returns-in_default-put_opened-clause-cause_write_fault g c =
 pub returns-in_default-put_opened-clause-cause_disk_fault : goal.returns-in_default-put_opened-clause-cause_disk_fault
 returns-in_default-put_opened-clause-cause_disk_fault g c =
     let faults = g.D.Disk.faults in
-    let same : faults c.close.result ≡ faults c.args.disk = ap faults c.close.ensures ∙ (c.put_opened.ensures.same.2 ∙ c.in-Ok-open.ensures.no_fault) in
+    let same : faults c.disk_of.result ≡ faults c.args.disk = ap faults c.disk_of.ensures ∙ (c.put_opened.ensures.same.2 ∙ c.in-Ok-open.ensures.no_fault) in
     record { later = subst (λ (n : ℕ). faults c.args.disk ≤ n) (sym same) (omega arith); cause = λ e. absurd (omega (arith, e)); calm = λ _. same }
 
 -- ## A run
@@ -135,14 +135,14 @@ says g c =
 pub returns-clause-ends : goal.returns-clause-ends
 returns-clause-ends g c =
     let s0 = g.D.Disk.story c.args.disk in
-    subst (λ d. RunEnds c.args.size c.ended.result (events_in c.all_events-front.result.view) s0 (g.D.Disk.story d) (g.S.Source.feed c.args.source.now) (g.S.Source.feed c.run_script-stop.new.source) (g.K.Sink.held c.args.sink.now) (g.K.Sink.held c.put_last.new.sink) (g.K.Sink.faults c.args.sink.now) (g.K.Sink.faults c.put_last.new.sink)) (sym c.close-2.ensures)
+    subst (λ d. RunEnds c.args.size c.ended.result (events_in c.all_events-front.result.view) s0 (g.D.Disk.story d) (g.S.Source.feed c.args.source.now) (g.S.Source.feed c.run_script-stop.new.source) (g.K.Sink.held c.args.sink.now) (g.K.Sink.held c.put_last.new.sink) (g.K.Sink.faults c.args.sink.now) (g.K.Sink.faults c.put_last.new.sink)) (sym c.disk_of-2.ensures)
     ((says g c).ends c.ended.result c.ended.ensures (g.K.Sink.faults c.args.sink.now)
     (cause_from (g.K.Sink.faults c.args.sink.now) (g.K.Sink.faults c.put_opened.new.sink) (g.K.Sink.faults c.run_script-stop.new.sink) c.put_opened.result c.run_script-stop.result c.in-Done.is c.put_opened.ensures.cause c.run_script-stop.ensures.cause_write_fault) c.in-Ok-open.ensures.keeps.others)
 
 pub returns-clause-headline : goal.returns-clause-headline
 returns-clause-headline g c =
     let s0 = g.D.Disk.story c.args.disk in
-    subst (λ d. IsTrue (g.S.Source.feed c.args.source.now).tells → IsTrue (g.K.Sink.held c.args.sink.now).tells → TellsAll c.args.size.sessions s0 → Headline s0 (g.D.Disk.story d) (g.S.Source.feed c.args.source.now).left (added (g.K.Sink.held c.args.sink.now) (g.K.Sink.held c.put_last.new.sink))) (sym c.close-2.ensures)
+    subst (λ d. IsTrue (g.S.Source.feed c.args.source.now).tells → IsTrue (g.K.Sink.held c.args.sink.now).tells → TellsAll c.args.size.sessions s0 → Headline s0 (g.D.Disk.story d) (g.S.Source.feed c.args.source.now).left (added (g.K.Sink.held c.args.sink.now) (g.K.Sink.held c.put_last.new.sink))) (sym c.disk_of-2.ensures)
     (says g c).headline
 
 pub returns-clause-cause_read_fault : goal.returns-clause-cause_read_fault
@@ -157,5 +157,5 @@ returns-clause-cause_write_fault g c =
 pub returns-clause-cause_disk_fault : goal.returns-clause-cause_disk_fault
 returns-clause-cause_disk_fault g c =
     let faults = g.D.Disk.faults in
-    disk_cause (faults c.args.disk) (faults c.put_opened.new.engine.disk) (faults c.run_script-stop.new.engine.disk) (faults c.close-2.result) c.run_script-stop.result c.ended.result c.ended.ensures
-    (c.put_opened.ensures.same.2 ∙ c.in-Ok-open.ensures.no_fault) (ap faults c.close-2.ensures ∙ c.put_last.ensures.same.2) c.run_script-stop.ensures.cause_disk_fault
+    disk_cause (faults c.args.disk) (faults c.put_opened.new.engine.disk) (faults c.run_script-stop.new.engine.disk) (faults c.disk_of-2.result) c.run_script-stop.result c.ended.result c.ended.ensures
+    (c.put_opened.ensures.same.2 ∙ c.in-Ok-open.ensures.no_fault) (ap faults c.disk_of-2.ensures ∙ c.put_last.ensures.same.2) c.run_script-stop.ensures.cause_disk_fault

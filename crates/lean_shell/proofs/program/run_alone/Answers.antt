@@ -1,10 +1,12 @@
 use Rattle.std.proofs.Common.{ℕ, inl, refl, subst, sym}
 use Rattle.buffered_engine.specs.recovery.Telling.{TellsAll}
 use Rattle.lean_shell.specs.declared.failure.Failure.TheVariants.{Usage}
-use Rattle.lean_shell.proofs.CommandLemmas.{not_both, not_run, of_dump, of_format, of_none, of_run, of_unread, tells_on, usage_moments}
+use Rattle.lean_shell.proofs.CommandLemmas.{no_dump, no_format, no_run, not_both, not_run, of_dump, of_format, of_make, of_none, of_run, of_unread, same_workload, tells_on, usage_moments}
 use Rattle.buffered_engine.specs.engine_front.Fronts.{events_in}
 use Rattle.lean_shell.specs.Words.{AsksRun, texts}
-use Rattle.lean_shell.specs.declared.words.Command.TheVariants.{Dump, Format, Run}
+use Rattle.lean_shell.specs.Makes.{MakeEnds}
+use Rattle.lean_shell.specs.declared.make.Workload.{Workload}
+use Rattle.lean_shell.specs.declared.words.Command.TheVariants.{Dump, Format, Make, Run}
 use Rattle.lean_shell.proofs.WordLemmas.{read_none, read_some}
 use Rattle.lean_shell.proofs.program.run_alone.Goals as goal
 
@@ -63,3 +65,36 @@ returns-in-Err-clause-ends g c = of_unread (texts c.args.words.now) c.unread.res
 
 pub returns-in-Err-clause-headline : goal.returns-in-Err-clause-headline
 returns-in-Err-clause-headline g c = λ size also feed_tells. c.unread.ensures.headline (g.S.Source.feed c.args.source.now)
+
+-- ## A workload
+
+pub returns-in-Ok-Some-Make-clause-ends : goal.returns-in-Ok-Some-Make-clause-ends
+returns-in-Ok-Some-Make-clause-ends g c = of_make (texts c.args.words.now) c.make_disk.result.status (events_in c.make_disk.result.front.view) (g.D.Disk.story c.args.disk) (g.D.Disk.story c.make_disk.result.disk) (g.S.Source.feed c.args.source.now) (g.S.Source.feed c.args.source.now) (g.K.Sink.held c.args.sink.now) (g.K.Sink.held c.make_disk.new.sink)
+    (record { source = g.S.Source.faults c.args.source.now; sink = g.K.Sink.faults c.args.sink.now; disk = g.D.Disk.faults c.args.disk }) (record { source = g.S.Source.faults c.args.source.now; sink = g.K.Sink.faults c.make_disk.new.sink; disk = g.D.Disk.faults c.make_disk.result.disk })
+    c.in-Ok-Some-Make.workload (g.D.Disk.story c.make_disk.ensures.ends.0) (read_some (texts c.args.words.now) c.in-Ok-Some-Make.field-0 c.in-Ok-Some-Make.field-0-0 (Make c.in-Ok-Some-Make.workload) c.in-Ok-Some-Make.field-0-is c.in-Ok-Some-Make.field-0-0-is c.in-Ok-Some-Make.ensures.some) refl c.make_disk.ensures.ends.1 c.make_disk.ensures.cause_write_fault c.make_disk.ensures.cause_disk_fault
+
+pub returns-in-Ok-Some-Make-clause-headline : goal.returns-in-Ok-Some-Make-clause-headline
+returns-in-Ok-Some-Make-clause-headline g c = λ size also. absurd (no_run (texts c.args.words.now) size c.in-Ok-Some-Make.workload also (read_some (texts c.args.words.now) c.in-Ok-Some-Make.field-0 c.in-Ok-Some-Make.field-0-0 (Make c.in-Ok-Some-Make.workload) c.in-Ok-Some-Make.field-0-is c.in-Ok-Some-Make.field-0-0-is c.in-Ok-Some-Make.ensures.some))
+
+pub returns-in-Ok-Some-Make-clause-make : goal.returns-in-Ok-Some-Make-clause-make
+returns-in-Ok-Some-Make-clause-make g c = λ workload also.
+    let ends = c.make_disk.ensures.ends in (
+      ends.0,
+      subst (λ (w : Workload). MakeEnds w c.make_disk.result.status (events_in c.make_disk.result.front.view) (g.D.Disk.story c.args.disk) (g.D.Disk.story ends.0) (g.D.Disk.story c.make_disk.result.disk) (g.K.Sink.held c.args.sink.now) (g.K.Sink.held c.make_disk.new.sink) (g.K.Sink.faults c.args.sink.now) (g.K.Sink.faults c.make_disk.new.sink))
+          (same_workload (texts c.args.words.now) c.in-Ok-Some-Make.workload workload (read_some (texts c.args.words.now) c.in-Ok-Some-Make.field-0 c.in-Ok-Some-Make.field-0-0 (Make c.in-Ok-Some-Make.workload) c.in-Ok-Some-Make.field-0-is c.in-Ok-Some-Make.field-0-0-is c.in-Ok-Some-Make.ensures.some) also) ends.1,
+    )
+
+pub returns-in-Ok-Some-Format-clause-make : goal.returns-in-Ok-Some-Format-clause-make
+returns-in-Ok-Some-Format-clause-make g c = λ workload also. absurd (no_format (texts c.args.words.now) c.in-Ok-Some-Format.shape workload (read_some (texts c.args.words.now) c.in-Ok-Some-Format.field-0 c.in-Ok-Some-Format.field-0-0 (Format c.in-Ok-Some-Format.shape) c.in-Ok-Some-Format.field-0-is c.in-Ok-Some-Format.field-0-0-is c.in-Ok-Some-Format.ensures.some) also)
+
+pub returns-in-Ok-Some-Run-clause-make : goal.returns-in-Ok-Some-Run-clause-make
+returns-in-Ok-Some-Run-clause-make g c = λ workload also. absurd (no_run (texts c.args.words.now) c.in-Ok-Some-Run.size workload (read_some (texts c.args.words.now) c.in-Ok-Some-Run.field-0 c.in-Ok-Some-Run.field-0-0 (Run c.in-Ok-Some-Run.size) c.in-Ok-Some-Run.field-0-is c.in-Ok-Some-Run.field-0-0-is c.in-Ok-Some-Run.ensures.some) also)
+
+pub returns-in-Ok-Some-Dump-clause-make : goal.returns-in-Ok-Some-Dump-clause-make
+returns-in-Ok-Some-Dump-clause-make g c = λ workload also. absurd (no_dump (texts c.args.words.now) workload (read_some (texts c.args.words.now) c.in-Ok-Some-Dump.field-0 c.in-Ok-Some-Dump.field-0-0 Dump c.in-Ok-Some-Dump.field-0-is c.in-Ok-Some-Dump.field-0-0-is c.in-Ok-Some-Dump.ensures.some) also)
+
+pub returns-in-Ok-None-clause-make : goal.returns-in-Ok-None-clause-make
+returns-in-Ok-None-clause-make g c = λ workload also. absurd ((read_none (texts c.args.words.now) c.in-Ok-None.field-0 c.in-Ok-None.field-0-is c.in-Ok-None.ensures.none) (Make workload) also)
+
+pub returns-in-Err-clause-make : goal.returns-in-Err-clause-make
+returns-in-Err-clause-make g c = λ workload also. (c.unread.result.disk, c.unread.ensures.make workload)

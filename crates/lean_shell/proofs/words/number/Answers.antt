@@ -15,4 +15,4 @@ returns-clause-some c =
 
 pub returns-clause-none : goal.returns-clause-none
 returns-clause-none c =
-    subst (λ (o : Option ℕ). IfNone o ((n : ℕ) → n < 2 ^ 32 → c.args.word.now ≡ decimal n → ⊥)) (sym c.ok.ensures.value) (not_parsed c.args.word.now c.parse.result c.parse.ensures.value.0)
+    subst (λ (o : Option ℕ). IfNone o ((n : ℕ) → n < 2 ^ 64 → c.args.word.now ≡ decimal n → ⊥)) (sym c.ok.ensures.value) (not_parsed c.args.word.now c.parse.result c.parse.ensures.value.0)
