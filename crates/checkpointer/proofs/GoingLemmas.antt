@@ -1,6 +1,6 @@
 -- An increment from frame to frame.
-use Rattle.std.proofs.Common.{◌≡◌, ◌⊎◌, ⊎_elim, ◌≤◌, ◌<◌, ℕ, Bool, true, false, cond, ltb, List, [], ◌∷◌, ◌++◌, Result, Ok, Err, OnOk, refl, sym, ap, ◌∙◌, subst, arith, append_assoc, true≢false}
-use Rattle.std.proofs.lemmas.Bool.{and_from, and_parts, cond-true, ltb-true}
+use Rattle.std.proofs.Common.{◌≡◌, ◌⊎◌, ⊎_elim, ◌≤◌, ◌<◌, ◌||◌, ℕ, Bool, true, false, cond, ltb, List, [], ◌∷◌, ◌++◌, Result, Ok, Err, OnOk, refl, sym, ap, ◌∙◌, subst, arith, append_assoc, true≢false}
+use Rattle.std.proofs.lemmas.Bool.{and_from, and_parts, cond-true, ltb-true, or_left, or_right}
 use Rattle.std.proofs.lemmas.List.{append-nil}
 use Rattle.map_model.specs.Lists.{all, upd}
 use Rattle.disk_runs.specs.image_model.Entries.{Contents}
@@ -26,9 +26,9 @@ use Rattle.disk_runs.proofs.MomentLemmas.{every_moment}
 use Rattle.disk_runs.proofs.StandLemmas.{every_rest}
 use Rattle.core_covers.specs.Changes.{EveryChange}
 use Rattle.core_covers.specs.Covers.{EveryCover, IsSettled}
-use Rattle.checkpointer.specs.Increments.{AreSaves, IncrementFails, Increments, KeepsSome, KnowsCovers, is_save}
-use Rattle.checkpointer.specs.Inside.{AreLow, AreSaved, Going, Looked}
-use Rattle.checkpointer.specs.Savers.{KeepsRun, PagesGo, SameLogs, Saves, Settles, firm_of}
+use Rattle.checkpointer.specs.Increments.{AreSaves, AreSavesOrMisses, IncrementFails, IncrementStops, Increments, KeepsSome, KnowsCovers, is_save}
+use Rattle.checkpointer.specs.Inside.{AreLow, AreSaved, Going}
+use Rattle.checkpointer.specs.Savers.{KeepsRun, PagesGo, SameLogs, Saves, Settles, Stops, firm_of, is_miss}
 
 -- ## States
 
@@ -86,6 +86,22 @@ after_saves g es saves are = subst (Saving (state_after g es)) (sym (run_more g 
 are_more : (a b : List Event) → AreSaves a → AreSaves b → AreSaves (a ++ b)
 are_more [] b x y = y
 are_more (e ∷ a) b x y = let both = and_parts (is_save e) (all is_save a) x in and_from (is_save e) (all is_save (a ++ b)) both.0 (are_more a b both.1 y)
+
+-- saves and misses
+abbrev is_either : Event → Bool
+is_either e = is_save e || is_miss e
+
+either_more : (a b : List Event) → AreSavesOrMisses a → AreSavesOrMisses b → AreSavesOrMisses (a ++ b)
+either_more [] b x y = y
+either_more (e ∷ a) b x y = let both = and_parts (is_either e) (all is_either a) x in and_from (is_either e) (all is_either (a ++ b)) both.0 (either_more a b both.1 y)
+
+saves_are : (es : List Event) → AreSaves es → AreSavesOrMisses es
+saves_are [] are = refl
+saves_are (e ∷ es) are = let both = and_parts (is_save e) (all is_save es) are in and_from (is_either e) (all is_either es) (or_left (is_save e) (is_miss e) both.0) (saves_are es both.1)
+
+misses_are : (es : List Event) → all is_miss es ≡ true → AreSavesOrMisses es
+misses_are [] are = refl
+misses_are (e ∷ es) are = let both = and_parts (is_miss e) (all is_miss es) are in and_from (is_either e) (all is_either es) (or_right (is_save e) (is_miss e) both.0) (misses_are es both.1)
 
 met_more : (g : Opening) (s : State) (a b : List Event) → AllMet g s a → AllMet g (run g s a) b → AllMet g s (a ++ b)
 met_more g s [] b x y = y
@@ -212,6 +228,16 @@ module _ (g : Opening) (es mid : List Event) (shard : ℕ) (A : ℕ → Type 0) 
     keeps = keeps_then g es x.saves y.saves P Q s0 s1 s2 x.go x.frame.notes x.keeps (subst (λ (l : List Event). KeepsSome g l y.saves Q s1 s2) x.now_is y.keeps);
   }
 
+  pub stops_then : (now : List Event) (R : Known → Type 0) (s2 : Story) → IncrementStops g mid now Q R s1 s2 → IncrementStops g es now P R s0 s2
+  stops_then now R s2 y = record {
+    events = x.saves ++ y.events;
+    are = either_more x.saves y.events (saves_are x.saves x.are) y.are;
+    met = met_more g (state_after g es) x.saves y.events x.met (subst (λ (z : State). AllMet g z y.events) (ap (state_after g) x.now_is ∙ run_more g (start g) es x.saves) y.met);
+    now_is = y.now_is ∙ (ap (λ (l : List Event). l ++ y.events) x.now_is ∙ append_assoc es x.saves y.events);
+    go = go_then g es x.saves y.events P Q R s0 s1 s2 x.go (subst (λ (l : List Event). PagesGo g l y.events Q R s1 s2) x.now_is y.go);
+    keeps = keeps_then g es x.saves y.events P Q s0 s1 s2 x.go x.frame.notes x.keeps (subst (λ (l : List Event). KeepsSome g l y.events Q s1 s2) x.now_is y.keeps);
+  }
+
   module _ (now : List Event) (B C : ℕ → Type 0) (R : Known → Type 0) (s2 : Story) (y : Going g mid now shard B Q R s1 s2) (cover : (f : ℕ) → C f → A f ⊎ B f) where
     rest : Saving (state_after g mid) (state_after g now)
     rest = subst (λ (l : List Event). Saving (state_after g mid) (state_after g l)) (sym y.now_is) (after_saves g mid y.saves y.are)
@@ -269,52 +295,70 @@ module _ (changes : EveryChange) (covers : EveryCover) (g : Opening) (es mid now
 pub settle_fails : (g : Opening) (es mid : List Event) (shard : ℕ) (P Q : Known → Type 0) (s0 s1 s2 : Story) → Going g es mid shard (λ _. Unit {0}) P Q s0 s1 → KeepsRun g mid Q s1 s2 → IncrementFails g es P s0 s2
 settle_fails g es mid shard P Q s0 s1 s2 x keeps = fails_then g es mid shard (λ _. Unit {0}) P Q s0 s1 x s2 (record { saves = []; are = refl; keeps = some_of g mid [] Q s1 s2 keeps })
 
--- a save failed
-pub save_fails : (g : Opening) (es : List Event) (P M : Known → Type 0) (old new : Story) → ((k : Known) → P k → M k) → KeepsRun g es M old new → IncrementFails g es P old new
-save_fails g es P M old new follows keeps = record {
-  saves = [];
-  are = refl;
-  keeps = some_of g es [] P old new (record { moments = λ s0 k stands knew. keeps.moments s0 k stands (follows k knew); told = λ s0 k stands knew. keeps.told s0 k stands (follows k knew) });
-}
-
 -- ## From a call to these words
 
 pub map_ok : {T F P : Type 0} (R : Type 0) (r : Result T F) → OnOk r P → (P → R) → OnOk r R
 map_ok R (Ok a) p f = f p
 map_ok R (Err e) p f = tt
 
--- behind a look at the frame
-pub going_save : EveryResidence → (g h : Opening) (es mid now : List Event) (frame shard : ℕ) (P M Q : Known → Type 0) (old new : Story) → Looked g h es mid P M → KeepsRun h mid M old new → Framed 1 old new → Saves h mid now frame M Q old new
-    → Going g es now shard (λ f. f ≡ frame) P Q old new
-going_save residence g h es mid now frame shard P M Q old new looked keeps f it =
-    let one : (o : Opening) (l : List Event) → o ≡ g → l ≡ es → Saves o l now frame M Q old new → KeepsRun o l M old new → Going g es now shard (λ f. f ≡ frame) P Q old new = λ o l eo el a b.
-    going_one residence g es now frame shard P M Q old new looked.knows (subst (λ (x : List Event). Saves g x now frame M Q old new) el (subst (λ (x : Opening). Saves x l now frame M Q old new) eo a))
-    (subst (λ (x : List Event). KeepsRun g x M old new) el (subst (λ (x : Opening). KeepsRun x l M old new) eo b)) f in
-    one h mid looked.opening looked.front it keeps
+-- what was known before a look
+module _ (g : Opening) (es mid : List Event) (P M : Known → Type 0) (old new : Story) (front : mid ≡ es) (follows : (k : Known) → P k → M k) where
+  pub run_looked : KeepsRun g mid M old new → KeepsRun g es P old new
+  run_looked keeps =
+      let at = subst (λ (l : List Event). KeepsRun g l M old new) front keeps in
+      record { moments = λ s0 k stands knew. at.moments s0 k stands (follows k knew); told = λ s0 k stands knew. at.told s0 k stands (follows k knew) }
 
-pub fails_save : (g h : Opening) (es mid : List Event) (P M : Known → Type 0) (old new : Story) → Looked g h es mid P M → KeepsRun h mid M old new → IncrementFails g es P old new
-fails_save g h es mid P M old new looked keeps = save_fails g es P M old new looked.knows (subst (λ (x : List Event). KeepsRun g x M old new) looked.front (subst (λ (x : Opening). KeepsRun x mid M old new) looked.opening keeps))
+  some_looked : (saves : List Event) → KeepsSome g mid saves M old new → KeepsSome g es saves P old new
+  some_looked saves keeps =
+      let at = subst (λ (l : List Event). KeepsSome g l saves M old new) front keeps in
+      record { moments = λ s0 k stands knew. at.moments s0 k stands (follows k knew); told = λ s0 k stands knew. at.told s0 k stands (follows k knew) }
 
--- behind a look at all frames
-pub going_looked : (g h : Opening) (es mid now : List Event) (shard : ℕ) (Of : ℕ → Type 0) (P M Q : Known → Type 0) (old new : Story) → Looked g h es mid P M → Going h mid now shard Of M Q old new → Going g es now shard Of P Q old new
-going_looked g h es mid now shard Of P M Q old new looked x =
-    let at : Going g es now shard Of M Q old new = subst (λ (l : List Event). Going g l now shard Of M Q old new) looked.front (subst (λ (o : Opening). Going o mid now shard Of M Q old new) looked.opening x) in
-    record {
-      saves = at.saves;
-      are = at.are;
-      met = at.met;
-      now_is = at.now_is;
-      go = λ s0 k stands knew. at.go s0 k stands (looked.knows k knew);
-      keeps = record { moments = λ s0 k stands knew. at.keeps.moments s0 k stands (looked.knows k knew); told = λ s0 k stands knew. at.keeps.told s0 k stands (looked.knows k knew) };
-      frame = at.frame;
-      saved = at.saved;
-    }
+  -- behind a look at the frame
+  pub going_save : EveryResidence → (now : List Event) (frame shard : ℕ) (Q : Known → Type 0) → KeepsRun g mid M old new → Framed 1 old new → Saves g mid now frame M Q old new → Going g es now shard (λ f. f ≡ frame) P Q old new
+  going_save residence now frame shard Q keeps f it =
+      going_one residence g es now frame shard P M Q old new follows (subst (λ (l : List Event). Saves g l now frame M Q old new) front it) (subst (λ (l : List Event). KeepsRun g l M old new) front keeps) f
 
-pub fails_looked : (g h : Opening) (es mid : List Event) (P M : Known → Type 0) (old new : Story) → Looked g h es mid P M → IncrementFails h mid M old new → IncrementFails g es P old new
-fails_looked g h es mid P M old new looked x =
-    let at : IncrementFails g es M old new = subst (λ (l : List Event). IncrementFails g l M old new) looked.front (subst (λ (o : Opening). IncrementFails o mid M old new) looked.opening x) in
-    record {
-      saves = at.saves;
-      are = at.are;
-      keeps = record { moments = λ s0 k stands knew. at.keeps.moments s0 k stands (looked.knows k knew); told = λ s0 k stands knew. at.keeps.told s0 k stands (looked.knows k knew) };
-    }
+  pub fails_save : KeepsRun g mid M old new → IncrementFails g es P old new
+  fails_save keeps = record { saves = []; are = refl; keeps = some_of g es [] P old new (run_looked keeps) }
+
+  pub stops_save : (now : List Event) (Q : Known → Type 0) → KeepsRun g mid M old new → Stops g mid now M Q old new → IncrementStops g es now P Q old new
+  stops_save now Q keeps it =
+      let at = subst (λ (l : List Event). Stops g l now M Q old new) front it in
+      record {
+        events = at.misses;
+        are = misses_are at.misses at.are;
+        met = at.met;
+        now_is = at.now_is;
+        go = λ s0 k stands knew. at.go s0 k stands (follows k knew);
+        keeps = some_of g es at.misses P old new (run_looked keeps);
+      }
+
+  -- behind a look at all frames
+  pub going_looked : (now : List Event) (shard : ℕ) (Of : ℕ → Type 0) (Q : Known → Type 0) → Going g mid now shard Of M Q old new → Going g es now shard Of P Q old new
+  going_looked now shard Of Q x =
+      let at : Going g es now shard Of M Q old new = subst (λ (l : List Event). Going g l now shard Of M Q old new) front x in
+      record {
+        saves = at.saves;
+        are = at.are;
+        met = at.met;
+        now_is = at.now_is;
+        go = λ s0 k stands knew. at.go s0 k stands (follows k knew);
+        keeps = record { moments = λ s0 k stands knew. at.keeps.moments s0 k stands (follows k knew); told = λ s0 k stands knew. at.keeps.told s0 k stands (follows k knew) };
+        frame = at.frame;
+        saved = at.saved;
+      }
+
+  pub fails_looked : IncrementFails g mid M old new → IncrementFails g es P old new
+  fails_looked x = record { saves = x.saves; are = x.are; keeps = some_looked x.saves x.keeps }
+
+  pub stops_looked : (now : List Event) (Q : Known → Type 0) → IncrementStops g mid now M Q old new → IncrementStops g es now P Q old new
+  stops_looked now Q x =
+      let at : IncrementStops g es now M Q old new = subst (λ (l : List Event). IncrementStops g l now M Q old new) front x in
+      record {
+        events = at.events;
+        are = at.are;
+        met = at.met;
+        now_is = at.now_is;
+        go = λ s0 k stands knew. at.go s0 k stands (follows k knew);
+        keeps = record { moments = λ s0 k stands knew. at.keeps.moments s0 k stands (follows k knew); told = λ s0 k stands knew. at.keeps.told s0 k stands (follows k knew) };
+      }

@@ -1,5 +1,5 @@
 -- An increment: the dirty pages of one shard are saved, and the pages are synced.
-use Rattle.std.specs.Prelude.{◌≡◌, ◌<◌, ◌++◌, ℕ, Bool, true, false, List}
+use Rattle.std.specs.Prelude.{◌≡◌, ◌<◌, ◌≤◌, ◌++◌, ◌||◌, ℕ, Bool, true, false, List}
 use Rattle.map_model.specs.Lists.{all, upd}
 use Rattle.disk_runs.specs.core_state.Openings.{Opening}
 use Rattle.disk_runs.specs.core_state.States.{State}
@@ -10,9 +10,9 @@ use Rattle.lean_disk.specs.Story.{Crash, Story}
 use Rattle.disk_runs.specs.Moments.{LeavesSome}
 use Rattle.disk_runs.specs.Stands.{Known, Stands}
 use Rattle.core_covers.specs.Covers.{AreCovers, shard_of}
-use Rattle.checkpointer.specs.Savers.{IsDirtyIn, PagesGo, firm_of}
+use Rattle.checkpointer.specs.Savers.{IsDirtyIn, PagesGo, firm_of, is_miss}
 use Rattle.checkpointer.specs.declared.increment.Unsaved.{Unsaved}
-use Rattle.checkpointer.specs.declared.increment.Unsaved.TheVariants.{Again, DiskFault}
+use Rattle.checkpointer.specs.declared.increment.Unsaved.TheVariants.{Again, RowSpent, DiskFault}
 
 -- a page is saved
 abbrev pub is_save : Event → Bool
@@ -37,11 +37,13 @@ IsSomeAbove s shard floor = (page : ℕ) × (gsn : ℕ) × IsAbove s shard floor
 -- a refusal for that
 abbrev pub IsAgain : Unsaved → Type 0
 IsAgain (Again p n f) = Unit {0}
+IsAgain RowSpent = ⊥
 IsAgain DiskFault = ⊥
 
 -- it tells of such a page
 abbrev pub TellsAgain : State → (shard floor : ℕ) → Unsaved → Type 0
 TellsAgain s shard floor (Again p n f) = IsAbove s shard floor p n × (f ≡ floor)
+TellsAgain s shard floor RowSpent = Unit {0}
 TellsAgain s shard floor DiskFault = Unit {0}
 
 -- What a crash leaves at every moment of it, by the saves that it makes; and no line came out.
@@ -68,3 +70,20 @@ pub record IncrementFails (g : Opening) (es : List Event) (Knew : Known → Type
   pub saves : List Event
   pub are : AreSaves saves
   pub keeps : KeepsSome g es saves Knew old new
+
+-- pages are saved, or rows were not as they have to be
+abbrev pub AreSavesOrMisses : List Event → Type 0
+AreSavesOrMisses es = all (λ e. is_save e || is_miss e) es ≡ true
+
+-- A row could not be latched behind some saves: each run goes on behind these.
+pub record IncrementStops (g : Opening) (es now : List Event) (Knew Knows : Known → Type 0) (old new : Story) : Type 0 where
+  pub events : List Event
+  pub are : AreSavesOrMisses events
+  pub met : AllMet g (state_after g es) events
+  pub now_is : now ≡ es ++ events
+  pub go : PagesGo g es events Knew Knows old new
+  pub keeps : KeepsSome g es events Knew old new
+
+-- by so many events at most
+abbrev pub Within : (Since : ℕ → Type 0) → (most : ℕ) → Type 0
+Within Since most = (n : ℕ) × (n ≤ most) × Since n

@@ -17,12 +17,6 @@ use Rattle.checkpointer.specs.Numbers.{cover_of}
 use Rattle.checkpointer.specs.Savers.{PagesGo}
 use Rattle.checkpointer.specs.declared.saver.Dirty.{Dirty}
 
--- it was only looked at
-pub record Looked (g h : Opening) (es now : List Event) (Knew Knows : Known → Type 0) : Type 0 where
-  pub opening : h ≡ g
-  pub front : now ≡ es
-  pub knows : (k : Known) → Knew k → Knows k
-
 -- of these frames none of the shard has a dirty page above the number
 abbrev pub AreLow : State → (shard floor : ℕ) → (Of : ℕ → Type 0) → Type 0
 AreLow s shard floor Of = (p f : ℕ) → Of f → in_frame (s.place p) f ≡ true → shard_of f ≡ shard → is_dirty s p ≡ true → (s.page p).gsn ≤ floor

@@ -1,10 +1,11 @@
 -- Who saves the pages that stand in frames: what its calls say, in the words of a run over a disk.
-use Rattle.std.specs.Prelude.{◌≡◌, ◌≤◌, ◌++◌, ◌∷◌, [], ℕ, true, List, Option, Some, None}
+use Rattle.std.specs.Prelude.{◌≡◌, ◌≤◌, ◌↔◌, ◌++◌, ◌∷◌, [], ℕ, Bool, true, false, List, Option, Some, None}
+use Rattle.map_model.specs.Lists.{all}
 use Rattle.disk_runs.specs.core_state.Openings.{Opening}
 use Rattle.disk_runs.specs.core_state.States.{State, flushed_by_all, in_frame}
 use Rattle.disk_runs.specs.core_state.Events.{Event}
 use Rattle.disk_runs.specs.core_state.Needs.{is_dirty, may}
-use Rattle.disk_runs.specs.core_state.Steps.{state_after}
+use Rattle.disk_runs.specs.core_state.Steps.{AllMet, state_after}
 use Rattle.lean_disk.specs.Moments.{LeavesOnly}
 use Rattle.lean_disk.specs.Story.{Crash, Story}
 use Rattle.disk_runs.specs.page_store.Bases.{image_page}
@@ -31,6 +32,12 @@ pub record MaySave (g : Opening) (s : State) (frame : ℕ) : Type 0 where
   pub gsn : ℕ
   pub found : IsDirtyIn s frame page gsn
   pub flushed : gsn ≤ flushed_by_all g s
+
+-- It was only looked at: the rows may have begun as before, no event was seen, and what was known is right still.
+pub record Looked (Opened Opens : Opening → Type 0) (es now : List Event) (Knew Knows : Known → Type 0) : Type 0 where
+  pub opens : (o : Opening) → Opened o ↔ Opens o
+  pub front : now ≡ es
+  pub knows : (k : Known) → Knew k → Knows k
 
 -- ## Calls on the pages' area
 
@@ -79,3 +86,18 @@ pub record KnowsFirm (g : Opening) (es : List Event) (Knows : Known → Type 0) 
 pub record Settles (g : Opening) (es now : List Event) (Knew Knows : Known → Type 0) (old new : Story) : Type 0 where
   pub now_is : now ≡ es
   pub go : PagesGo g es [] Knew (KnowsFirm g es Knows) old new
+
+-- ## A row that can't be latched
+
+-- a row was not as it has to be
+abbrev pub is_miss : Event → Bool
+is_miss (Event.Miss w) = true
+is_miss _ = false
+
+-- Nothing was saved: misses were appended at most, and each run goes on.
+pub record Stops (g : Opening) (es now : List Event) (Knew Knows : Known → Type 0) (old new : Story) : Type 0 where
+  pub misses : List Event
+  pub are : all is_miss misses ≡ true
+  pub met : AllMet g (state_after g es) misses
+  pub now_is : now ≡ es ++ misses
+  pub go : PagesGo g es misses Knew Knows old new

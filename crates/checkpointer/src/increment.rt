@@ -1,14 +1,17 @@
 //! One increment: the dirty pages of a shard of frames are saved, and the pages are synced.
-ghost use Rattle.std.specs.Prelude.{◌≡◌, ◌<◌, ◌≤◌, ◌↔◌, Err, IsErr, IsErrAnd, IfErr, OnOk};
-ghost use Rattle.disk_runs.specs.Stands.{Known};
+ghost use Rattle.std.specs.Prelude.{◌≡◌, ◌<◌, ◌≤◌, ◌+◌, ◌↔◌, ℕ, Err, IsErr, IsErrAnd, IfErr, OnOk};
+ghost use Rattle.disk_runs.specs.core_state.Openings.{Opening};
 ghost use Rattle.disk_runs.specs.core_state.States.{flushed_by_all};
 ghost use Rattle.disk_runs.specs.core_state.Steps.{state_after};
 ghost use Rattle.lean_disk.specs.Faults.{HasCause};
 ghost use Rattle.lean_disk.specs.Moments.{Framed};
-ghost use Rattle.checkpointer.specs.Inside.{Above, AreLow, Going, Looked};
-ghost use Rattle.checkpointer.specs.Increments.{IncrementFails, Increments, IsAgain, IsSomeAbove, TellsAgain};
+ghost use Rattle.checkpointer.specs.Inside.{Above, AreLow, Going};
+ghost use Rattle.checkpointer.specs.Increments.{IncrementFails, IncrementStops, Increments, IsAgain, IsSomeAbove, TellsAgain, Within};
+ghost use Rattle.checkpointer.specs.Savers.{Looked};
+ghost use Rattle.checkpointer.specs.declared.increment.Unsaved.TheVariants as unsaved;
+ghost use Rattle.checkpointer.specs.declared.saver.NotSaved.TheVariants as not_saved;
 
-use crate::saver::{Dirty, Saver};
+use crate::saver::{Dirty, NotSaved, Saver};
 use disk_runs::DiskFault;
 use lean_disk::Disk;
 
@@ -20,6 +23,8 @@ pub const SHARDS: u32 = 8;
 pub enum Unsaved {
     /// Page `page` of the shard has the number `gsn`, above what was flushed everywhere. Nothing was done.
     Again { page: u32, gsn: u64, floor: u64 },
+    /// The version of a row has come to its last number. Some pages were saved.
+    RowSpent,
     DiskFault,
 }
 
@@ -30,9 +35,13 @@ fn above_in<D: Disk, S: Saver<D>>(
     shard: u32,
     floor: u64,
 ) -> Option<Dirty>
-    requires frame { frame < (S.opening saver.old).frames }
-    ensures answer { Above (state_after (S.opening saver.old) (S.front saver.old)) shard floor (λ f. f ≡ frame) result }
-    ensures looked { Looked (S.opening saver.old) (S.opening saver.new) (S.front saver.old) (S.front saver.new) (S.knows saver.old) (S.knows saver.new) }
+    requires ready { S.ready saver.old }
+    requires frame { frame < S.frames_of saver.old }
+    ensures ready { S.ready saver.new }
+    ensures frames { S.frames_of saver.new ≡ S.frames_of saver.old }
+    ensures answer { (o : Opening) → S.opens saver.old o → Above (state_after o (S.front saver.old)) shard floor (λ f. f ≡ frame) result }
+    ensures looked { Looked (S.opens saver.old) (S.opens saver.new) (S.front saver.old) (S.front saver.new) (S.knows saver.old) (S.knows saver.new) }
+    ensures since { (base : S) (n : ℕ) → S.since base n saver.old → S.since base n saver.new }
 {
     disk_runs::every_residence();
     if frame % SHARDS != shard {
@@ -51,8 +60,12 @@ fn above_in<D: Disk, S: Saver<D>>(
 
 // A dirty page of the shard above the floor, if there is one.
 fn above<D: Disk, S: Saver<D>>(saver: &mut S, shard: u32, floor: u64) -> Option<Dirty>
-    ensures answer { Above (state_after (S.opening saver.old) (S.front saver.old)) shard floor (λ _. Unit {0}) result }
-    ensures looked { Looked (S.opening saver.old) (S.opening saver.new) (S.front saver.old) (S.front saver.new) (S.knows saver.old) (S.knows saver.new) }
+    requires ready { S.ready saver.old }
+    ensures ready { S.ready saver.new }
+    ensures frames { S.frames_of saver.new ≡ S.frames_of saver.old }
+    ensures answer { (o : Opening) → S.opens saver.old o → Above (state_after o (S.front saver.old)) shard floor (λ _. Unit {0}) result }
+    ensures looked { Looked (S.opens saver.old) (S.opens saver.new) (S.front saver.old) (S.front saver.new) (S.knows saver.old) (S.knows saver.new) }
+    ensures since { (base : S) (n : ℕ) → S.since base n saver.old → S.since base n saver.new }
 {
     disk_runs::every_residence();
     for frame in 0..saver.frames() {
@@ -70,16 +83,22 @@ fn save_in<D: Disk, S: Saver<D>>(
     frame: u32,
     shard: u32,
     floor: u64,
-) -> Result<(), DiskFault>
-    requires frame { frame < (S.opening saver.old).frames }
-    requires low { AreLow (state_after (S.opening saver.old) (S.front saver.old)) shard floor (λ f. f ≡ frame) }
-    requires floor { floor ≤ flushed_by_all (S.opening saver.old) (state_after (S.opening saver.old) (S.front saver.old)) }
-    ensures opening { S.opening saver.new ≡ S.opening saver.old }
-    ensures going { OnOk result (Going (S.opening saver.old) (S.front saver.old) (S.front saver.new) shard (λ f. f ≡ frame) (S.knows saver.old) (S.knows saver.new) (D.story disk.old) (D.story disk.new)) }
-    ensures failed { IsErr result → IncrementFails (S.opening saver.old) (S.front saver.old) (S.knows saver.old) (D.story disk.old) (D.story disk.new) }
+) -> Result<(), NotSaved>
+    requires ready { S.ready saver.old }
+    requires frame { frame < S.frames_of saver.old }
+    requires low { (o : Opening) → S.opens saver.old o → AreLow (state_after o (S.front saver.old)) shard floor (λ f. f ≡ frame) }
+    requires floor { (o : Opening) → S.opens saver.old o → floor ≤ flushed_by_all o (state_after o (S.front saver.old)) }
+    ensures ready { (result ≡ Err not_saved.DiskFault → ⊥) → S.ready saver.new }
+    ensures frames { S.frames_of saver.new ≡ S.frames_of saver.old }
+    ensures opens { (o : Opening) → S.opens saver.old o ↔ S.opens saver.new o }
+    ensures going { OnOk result ((o : Opening) → S.opens saver.old o → Going o (S.front saver.old) (S.front saver.new) shard (λ f. f ≡ frame) (S.knows saver.old) (S.knows saver.new) (D.story disk.old) (D.story disk.new)) }
+    ensures stopped { result ≡ Err not_saved.RowSpent → (o : Opening) → S.opens saver.old o → IncrementStops o (S.front saver.old) (S.front saver.new) (S.knows saver.old) (S.knows saver.new) (D.story disk.old) (D.story disk.new) }
+    ensures failed { IsErr result → (o : Opening) → S.opens saver.old o → IncrementFails o (S.front saver.old) (S.knows saver.old) (D.story disk.old) (D.story disk.new) }
+    ensures since { (base : S) (n : ℕ) → S.since base n saver.old → Within (λ m. S.since base m saver.new) (n + 1) }
     ensures frame { Framed 1 (D.story disk.old) (D.story disk.new) }
 
-    ensures cause { HasCause (D.faults disk.old) (D.faults disk.new) (IsErr result) }
+    ensures cause_row_spent { result ≡ Err not_saved.RowSpent → S.spent saver.new }
+    ensures cause_disk_fault { HasCause (D.faults disk.old) (D.faults disk.new) (result ≡ Err not_saved.DiskFault) }
 {
     disk_runs::every_kept();
     disk_runs::every_prefix();
@@ -89,7 +108,7 @@ fn save_in<D: Disk, S: Saver<D>>(
         return Ok(());
     }
     match saver.dirty(frame) {
-        Some(_) => saver.save(disk, frame),
+        Some(_found) => saver.save(disk, frame),
         None => Ok(()),
     }
 }
@@ -100,15 +119,20 @@ fn save_shard<D: Disk, S: Saver<D>>(
     disk: &mut D,
     shard: u32,
     floor: u64,
-) -> Result<(), DiskFault>
-    requires low { AreLow (state_after (S.opening saver.old) (S.front saver.old)) shard floor (λ _. Unit {0}) }
-    requires floor { floor ≤ flushed_by_all (S.opening saver.old) (state_after (S.opening saver.old) (S.front saver.old)) }
-    ensures opening { S.opening saver.new ≡ S.opening saver.old }
-    ensures going { OnOk result (Going (S.opening saver.old) (S.front saver.old) (S.front saver.new) shard (λ _. Unit {0}) (S.knows saver.old) (S.knows saver.new) (D.story disk.old) (D.story disk.new)) }
-    ensures failed { IsErr result → IncrementFails (S.opening saver.old) (S.front saver.old) (S.knows saver.old) (D.story disk.old) (D.story disk.new) }
+) -> Result<(), NotSaved>
+    requires ready { S.ready saver.old }
+    requires low { (o : Opening) → S.opens saver.old o → AreLow (state_after o (S.front saver.old)) shard floor (λ _. Unit {0}) }
+    requires floor { (o : Opening) → S.opens saver.old o → floor ≤ flushed_by_all o (state_after o (S.front saver.old)) }
+    ensures ready { (result ≡ Err not_saved.DiskFault → ⊥) → S.ready saver.new }
+    ensures opens { (o : Opening) → S.opens saver.old o ↔ S.opens saver.new o }
+    ensures going { OnOk result ((o : Opening) → S.opens saver.old o → Going o (S.front saver.old) (S.front saver.new) shard (λ _. Unit {0}) (S.knows saver.old) (S.knows saver.new) (D.story disk.old) (D.story disk.new)) }
+    ensures stopped { result ≡ Err not_saved.RowSpent → (o : Opening) → S.opens saver.old o → IncrementStops o (S.front saver.old) (S.front saver.new) (S.knows saver.old) (S.knows saver.new) (D.story disk.old) (D.story disk.new) }
+    ensures failed { IsErr result → (o : Opening) → S.opens saver.old o → IncrementFails o (S.front saver.old) (S.knows saver.old) (D.story disk.old) (D.story disk.new) }
+    ensures since { (base : S) (n : ℕ) → S.since base n saver.old → Within (λ m. S.since base m saver.new) (n + S.frames_of saver.old) }
     ensures frame { Framed 1 (D.story disk.old) (D.story disk.new) }
 
-    ensures cause { HasCause (D.faults disk.old) (D.faults disk.new) (IsErr result) }
+    ensures cause_row_spent { result ≡ Err not_saved.RowSpent → S.spent saver.new }
+    ensures cause_disk_fault { HasCause (D.faults disk.old) (D.faults disk.new) (result ≡ Err not_saved.DiskFault) }
 {
     disk_runs::every_residence();
     disk_runs::every_kept();
@@ -121,24 +145,30 @@ fn save_shard<D: Disk, S: Saver<D>>(
 }
 
 /// Saves the dirty pages of a shard and syncs the pages. `floor` is the number up to which all logs are flushed, and is
-/// the cover of the shard then. `Again` comes before anything is saved; a fault of the disk behind some of the saves.
+/// the cover of the shard then. `Again` comes before anything is saved; `RowSpent`, behind which the saver may be called again,
+/// and a fault of the disk behind some of the saves.
 pub fn increment<D: Disk, S: Saver<D>>(
     saver: &mut S,
     disk: &mut D,
     shard: u32,
     floor: u64,
 ) -> Result<(), Unsaved>
+    requires ready { S.ready saver.old }
     requires shard { shard < 8 }
-    requires floor { floor ≡ flushed_by_all (S.opening saver.old) (state_after (S.opening saver.old) (S.front saver.old)) }
-    ensures opening { S.opening saver.new ≡ S.opening saver.old }
-    ensures saved { OnOk result (Increments (S.opening saver.old) (S.front saver.old) (S.front saver.new) shard floor (S.knows saver.old) (S.knows saver.new) (D.story disk.old) (D.story disk.new)) }
-    ensures told { IfErr result (TellsAgain (state_after (S.opening saver.old) (S.front saver.old)) shard floor) }
-    ensures same { IsErrAnd result IsAgain → (disk.new ≡ disk.old) × Looked (S.opening saver.old) (S.opening saver.new) (S.front saver.old) (S.front saver.new) (S.knows saver.old) (S.knows saver.new) }
-    ensures failed { result ≡ Err Unsaved.DiskFault → IncrementFails (S.opening saver.old) (S.front saver.old) (S.knows saver.old) (D.story disk.old) (D.story disk.new) }
+    requires floor { (o : Opening) → S.opens saver.old o → floor ≡ flushed_by_all o (state_after o (S.front saver.old)) }
+    ensures ready { (result ≡ Err unsaved.DiskFault → ⊥) → S.ready saver.new }
+    ensures opens { (o : Opening) → S.opens saver.old o ↔ S.opens saver.new o }
+    ensures saved { OnOk result ((o : Opening) → S.opens saver.old o → Increments o (S.front saver.old) (S.front saver.new) shard floor (S.knows saver.old) (S.knows saver.new) (D.story disk.old) (D.story disk.new)) }
+    ensures told { IfErr result (λ why. (o : Opening) → S.opens saver.old o → TellsAgain (state_after o (S.front saver.old)) shard floor why) }
+    ensures same { IsErrAnd result IsAgain → (disk.new ≡ disk.old) × Looked (S.opens saver.old) (S.opens saver.new) (S.front saver.old) (S.front saver.new) (S.knows saver.old) (S.knows saver.new) }
+    ensures stopped { result ≡ Err unsaved.RowSpent → (o : Opening) → S.opens saver.old o → IncrementStops o (S.front saver.old) (S.front saver.new) (S.knows saver.old) (S.knows saver.new) (D.story disk.old) (D.story disk.new) }
+    ensures failed { result ≡ Err unsaved.DiskFault → (o : Opening) → S.opens saver.old o → IncrementFails o (S.front saver.old) (S.knows saver.old) (D.story disk.old) (D.story disk.new) }
+    ensures since { (base : S) (n : ℕ) → S.since base n saver.old → Within (λ m. S.since base m saver.new) (n + S.frames_of saver.old) }
     ensures frame { Framed 1 (D.story disk.old) (D.story disk.new) }
 
-    ensures cause_again { IsErrAnd result IsAgain ↔ IsSomeAbove (state_after (S.opening saver.old) (S.front saver.old)) shard floor }
-    ensures cause_disk_fault { HasCause (D.faults disk.old) (D.faults disk.new) (result ≡ Err Unsaved.DiskFault) }
+    ensures cause_again { (o : Opening) → S.opens saver.old o → (IsErrAnd result IsAgain ↔ IsSomeAbove (state_after o (S.front saver.old)) shard floor) }
+    ensures cause_row_spent { result ≡ Err unsaved.RowSpent → S.spent saver.new }
+    ensures cause_disk_fault { HasCause (D.faults disk.old) (D.faults disk.new) (result ≡ Err unsaved.DiskFault) }
 {
     disk_runs::every_version();
     disk_runs::every_residence();
@@ -151,9 +181,11 @@ pub fn increment<D: Disk, S: Saver<D>>(
             floor,
         });
     }
-    let Ok(()) = save_shard(saver, disk, shard, floor) else {
-        return Err(Unsaved::DiskFault);
-    };
+    match save_shard(saver, disk, shard, floor) {
+        Ok(()) => {}
+        Err(NotSaved::RowSpent) => return Err(Unsaved::RowSpent),
+        Err(NotSaved::DiskFault) => return Err(Unsaved::DiskFault),
+    }
     match saver.settle(disk) {
         Ok(()) => Ok(()),
         Err(DiskFault) => Err(Unsaved::DiskFault),

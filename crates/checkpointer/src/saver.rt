@@ -1,12 +1,13 @@
 //! Who saves the pages that stand in frames.
-ghost use Rattle.std.specs.Prelude.{◌≡◌, ◌<◌, ◌≤◌, ℕ, List, IsErr, OnOk};
+ghost use Rattle.std.specs.Prelude.{◌≡◌, ◌<◌, ◌≤◌, ◌+◌, ◌↔◌, ℕ, List, Err, IsErr, OnOk};
 ghost use Rattle.disk_runs.specs.core_state.Events.{Event};
 ghost use Rattle.disk_runs.specs.core_state.Openings.{Opening};
 ghost use Rattle.disk_runs.specs.core_state.Steps.{state_after};
 ghost use Rattle.disk_runs.specs.Stands.{Known};
 ghost use Rattle.lean_disk.specs.Faults.{HasCause};
 ghost use Rattle.lean_disk.specs.Moments.{Framed};
-ghost use Rattle.checkpointer.specs.Savers.{IsFound, KeepsRun, MaySave, Saves, Settles};
+ghost use Rattle.checkpointer.specs.Savers.{IsFound, KeepsRun, Looked, MaySave, Saves, Settles, Stops};
+ghost use Rattle.checkpointer.specs.declared.saver.NotSaved.TheVariants as not_saved;
 
 use disk_runs::DiskFault;
 use lean_disk::Disk;
@@ -18,45 +19,81 @@ pub struct Dirty {
     pub gsn: u64,
 }
 
-/// Rows with the pages in frames, and what is known of the pages' slots on the disk. Nobody else steps on the rows.
-pub trait Saver<D: Disk> {
-    /// The opening with which its rows began.
-    ghost opening: { Self → Opening };
+/// Why a page was not saved.
+#[derive(Clone, Copy, Debug, PartialEq, Eq)]
+pub enum NotSaved {
+    /// The version of the frame's row has come to its last number: nothing was written.
+    RowSpent,
+    DiskFault,
+}
 
-    /// The events that it has seen since.
+/// Rows with the pages in frames, and what is known of the pages' slots on the disk. Nobody else steps on the rows.
+///
+/// Rows do not know in which run of the core they stand: each call speaks of every opening as which they may have begun.
+pub trait Saver<D: Disk> {
+    /// Its rows may have begun as this opening.
+    ghost opens: { Self → Opening → Type 0 };
+
+    /// The events that it has seen since, and those before the rows began.
     ghost front: { Self → List Event };
 
     /// What it knows of the slots is right of this.
     ghost knows: { Self → Known → Type 0 };
 
     /// How many frames there are.
+    ghost frames_of: { Self → ℕ };
+
+    /// It may be called: no device has failed it.
+    ghost ready: { Self → Type 0 };
+
+    /// It has come there from an earlier one, by so many events at most, which a saver says of itself.
+    ghost since: { Self → ℕ → Self → Type 0 };
+
+    /// A row of it has come to its last version.
+    ghost spent: { Self → Type 0 };
+
+    /// How many frames there are.
     fn frames(&self) -> u32
-        ensures { result ≡ (opening self.now).frames };
+        requires ready { ready self.now }
+        ensures count { result ≡ frames_of self.now }
+        ensures fits { (o : Opening) → opens self.now o → o.frames ≡ frames_of self.now };
 
     /// The dirty page of a frame, if it has one.
     fn dirty(&mut self, frame: u32) -> Option<Dirty>
-        requires frame { frame < (opening self.old).frames }
-        ensures found { IsFound (state_after (opening self.old) (front self.old)) frame result }
-        ensures same { (opening self.new ≡ opening self.old) × (front self.new ≡ front self.old) }
-        ensures knows { (k : Known) → knows self.old k → knows self.new k };
+        requires ready { ready self.old }
+        requires frame { frame < frames_of self.old }
+        ensures ready { ready self.new }
+        ensures frames { frames_of self.new ≡ frames_of self.old }
+        ensures found { (o : Opening) → opens self.old o → IsFound (state_after o (front self.old)) frame result }
+        ensures looked { Looked (opens self.old) (opens self.new) (front self.old) (front self.new) (knows self.old) (knows self.new) }
+        ensures since { (base : Self) (n : ℕ) → since base n self.old → since base n self.new };
 
     /// Saves the dirty page of a frame to the slot that is not its firm one, with a sync of the pages before it if that one
     /// was written since the last.
-    fn save(&mut self, disk: &mut D, frame: u32) -> Result<(), DiskFault>
-        requires frame { frame < (opening self.old).frames }
-        requires dirty { MaySave (opening self.old) (state_after (opening self.old) (front self.old)) frame }
-        ensures opening { opening self.new ≡ opening self.old }
-        ensures saved { OnOk result (Saves (opening self.old) (front self.old) (front self.new) frame (knows self.old) (knows self.new) (D.story disk.old) (D.story disk.new)) }
-        ensures keeps { KeepsRun (opening self.old) (front self.old) (knows self.old) (D.story disk.old) (D.story disk.new) }
+    fn save(&mut self, disk: &mut D, frame: u32) -> Result<(), NotSaved>
+        requires ready { ready self.old }
+        requires frame { frame < frames_of self.old }
+        requires dirty { (o : Opening) → opens self.old o → MaySave o (state_after o (front self.old)) frame }
+        ensures ready { (result ≡ Err not_saved.DiskFault → ⊥) → ready self.new }
+        ensures frames { frames_of self.new ≡ frames_of self.old }
+        ensures opens { (o : Opening) → opens self.old o ↔ opens self.new o }
+        ensures saved { OnOk result ((o : Opening) → opens self.old o → Saves o (front self.old) (front self.new) frame (knows self.old) (knows self.new) (D.story disk.old) (D.story disk.new)) }
+        ensures stopped { result ≡ Err not_saved.RowSpent → (disk.new ≡ disk.old) × ((o : Opening) → opens self.old o → Stops o (front self.old) (front self.new) (knows self.old) (knows self.new) (D.story disk.old) (D.story disk.new)) }
+        ensures keeps { (o : Opening) → opens self.old o → KeepsRun o (front self.old) (knows self.old) (D.story disk.old) (D.story disk.new) }
+        ensures since { (base : Self) (n : ℕ) → since base n self.old → since base (n + 1) self.new }
         ensures frame { Framed 1 (D.story disk.old) (D.story disk.new) }
 
-        ensures cause { HasCause (D.faults disk.old) (D.faults disk.new) (IsErr result) };
+        ensures cause_row_spent { result ≡ Err not_saved.RowSpent → spent self.new }
+        ensures cause_disk_fault { HasCause (D.faults disk.old) (D.faults disk.new) (result ≡ Err not_saved.DiskFault) };
 
     /// Syncs the pages' area.
     fn settle(&mut self, disk: &mut D) -> Result<(), DiskFault>
-        ensures opening { opening self.new ≡ opening self.old }
-        ensures settled { OnOk result (Settles (opening self.old) (front self.old) (front self.new) (knows self.old) (knows self.new) (D.story disk.old) (D.story disk.new)) }
-        ensures keeps { KeepsRun (opening self.old) (front self.old) (knows self.old) (D.story disk.old) (D.story disk.new) }
+        requires ready { ready self.old }
+        ensures ready { OnOk result (ready self.new) }
+        ensures opens { (o : Opening) → opens self.old o ↔ opens self.new o }
+        ensures settled { OnOk result ((o : Opening) → opens self.old o → Settles o (front self.old) (front self.new) (knows self.old) (knows self.new) (D.story disk.old) (D.story disk.new)) }
+        ensures keeps { (o : Opening) → opens self.old o → KeepsRun o (front self.old) (knows self.old) (D.story disk.old) (D.story disk.new) }
+        ensures since { (base : Self) (n : ℕ) → since base n self.old → since base n self.new }
         ensures frame { Framed 1 (D.story disk.old) (D.story disk.new) }
 
         ensures cause { HasCause (D.faults disk.old) (D.faults disk.new) (IsErr result) };

@@ -1,0 +1,2 @@
+-- Read Cuts.
+pub mod Cuts
