@@ -1,0 +1,10 @@
+pub mod LevelLemmas
+pub mod PathLemmas
+pub mod FoundLemmas
+pub mod SeeLemmas
+pub mod SightLemmas
+pub mod LookLemmas
+pub mod NextLemmas
+pub mod RootLemmas
+pub mod LeafLemmas
+pub mod StepLemmas

@@ -1,0 +1,27 @@
+-- What is found of one level of a key's way.
+use Rattle.std.specs.Prelude.{◌≡◌, ◌<◌, ℕ, suc, true, false, Some, None}
+use Rattle.session_state.specs.core_state.Events as happening
+use Rattle.session_state.specs.row_words.Openings.{opening}
+use Rattle.session_state.specs.rows_trait.declared.view.View.{View}
+use Rattle.session_state.specs.rows_trait.Views.{state}
+use Rattle.tidy_rules.specs.Tidying.{is_thin, join_under, page_at}
+use Rattle.row_tidying.specs.Changes.{CanJoin}
+use Rattle.row_walks.specs.Stages.{IsNeighbour}
+use Rattle.row_walks.specs.declared.levels.Level.{Level}
+use Rattle.row_walks.specs.declared.levels.Level.TheVariants as level
+
+-- the level's page is thin, and the pages in these frames are joined then, under the one in the frame `d`
+pub record IsJoinable (own : ℕ) (v : View) (key l a b d page : ℕ) : Type 0 where
+  pub thin : is_thin (state v).core (page_at (opening v.given) (state v).core key l) ≡ true
+  pub can : CanJoin v a b d page
+  pub next : join_under own (opening v.given) (state v).core (page_at (opening v.given) (state v).core key l) (page_at (opening v.given) (state v).core key (suc l)) ≡ Some (happening.Event.Join own can.left page can.parent)
+  pub found : page_at (opening v.given) (state v).core key (suc l) ≡ Some can.parent
+  pub high : l < (opening v.given).format.levels
+
+-- by what is found
+abbrev pub IsFound : Level → (own : ℕ) → View → (key l : ℕ) → Type 0
+IsFound level.Thick own v key l = is_thin (state v).core (page_at (opening v.given) (state v).core key l) ≡ false
+IsFound level.Single own v key l =
+    (is_thin (state v).core (page_at (opening v.given) (state v).core key l) ≡ true) × (join_under own (opening v.given) (state v).core (page_at (opening v.given) (state v).core key l) (page_at (opening v.given) (state v).core key (suc l)) ≡ None)
+IsFound (level.Needs page) own v key l = IsNeighbour (opening v.given) (state v).core key l page
+IsFound (level.Joins left right parent page) own v key l = IsJoinable own v key l left right parent page
