@@ -59,8 +59,10 @@ module _ (g : Opening) (was mid : Memory) (same : IsSame g.workers was mid) wher
   answers_of xs x old now e h = record {
     few = h.few;
     refused = λ why q. subst (λ (l : Log). IsRefusedFor g (state_after g (front xs ++ x.events)) x.outcome.session (is_half_done x.outcome.session xs) l (call_behind (outcomes xs) (asked x.outcome.deed)) why) e (h.refused why q);
+    kept = h.kept;
     refuses = λ why sure r. h.refuses why sure (subst (λ (l : Log). refusal_in g (state_after g (front xs)) x.outcome.session (is_half_done x.outcome.session xs) l (call_behind (outcomes xs) (asked x.outcome.deed)) ≡ Some why) (sym e) r);
     still = λ why r. h.still why (subst (λ (l : Log). refusal_in g (state_after g (front xs)) x.outcome.session (is_half_done x.outcome.session xs) l (call_behind (outcomes xs) (asked x.outcome.deed)) ≡ Some why) (sym e) r);
+    stays = λ why sure r. h.stays why sure (subst (λ (l : Log). refusal_in g (state_after g (front xs)) x.outcome.session (is_half_done x.outcome.session xs) l (call_behind (outcomes xs) (asked x.outcome.deed)) ≡ Some why) (sym e) r);
     room = h.room;
   }
 

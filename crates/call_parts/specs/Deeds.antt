@@ -10,6 +10,7 @@ use Rattle.map_model.specs.declared.call.Refusal.TheVariants as refusal
 use Rattle.session_state.specs.core_state.Openings.{Opening}
 use Rattle.session_state.specs.core_state.Events.{Event}
 use Rattle.session_state.specs.core_state.Local.{is_sync}
+use Rattle.session_state.specs.core_state.States.{State}
 use Rattle.session_state.specs.core_state.Steps.{state_after}
 use Rattle.session_state.specs.core_calls.Deeds.{answered, asked}
 use Rattle.session_state.specs.core_calls.Fronts.{Done, front, outcomes}
@@ -26,10 +27,9 @@ use Rattle.session_state.specs.engine_trait.Calls.{is_half_done}
 use Rattle.session_state.specs.engine_trait.Limits.{limits}
 use Rattle.session_state.specs.engine_trait.Logs.{Logs}
 use Rattle.session_state.specs.engine_trait.Refusals.{IsRefusedFor, refusal_in}
-use Rattle.session_state.specs.engine_trait.Rooms.{MakesItsRoom}
 use Rattle.call_parts.specs.Areas.{Around, Beside, is_save}
 use Rattle.call_parts.specs.Memory.{IsOf, Memory}
-use Rattle.call_parts.specs.Rooms.{IsRoomFor, may_save, may_sync, most_of}
+use Rattle.call_parts.specs.Rooms.{ChangesTree, IsRoomFor, NoneGoesFor, grows, makes_sync, may_save, may_sync, most_of}
 
 -- ## The answer
 
@@ -38,28 +38,45 @@ abbrev pub is_fetch : Event → Bool
 is_fetch (Event.Fetch p pairs) = true
 is_fetch _ = false
 
--- What the tests say before a call is its answer. That there is no room for a key is sure where the rows began faithful, or no leaf was read again: else the key's
--- leaf may have other entries by then.
-abbrev pub IsSure : Opening → List Event → Refusal → Type 0
-IsSure g es refusal.TooTall = (g.faithful ≡ true) ⊎ (any is_fetch es ≡ false)
-IsSure g es refusal.NoPages = (g.faithful ≡ true) ⊎ (any is_fetch es ≡ false)
-IsSure g es why = Unit {0}
+-- That there is no room for the key of a call is sure where no tombstone of the key's leaf can go, and no log is flushed for a page, behind which some may; and where the rows
+-- began faithful, or no leaf was read again: else the key's leaf may have other entries by then.
+pub record IsSureOfRoom (g : Opening) (s : State) (c : Call) (es : List Event) : Type 0 where
+  pub none : NoneGoesFor g s c
+  pub quiet : any makes_sync es ≡ false
+  pub same : (g.faithful ≡ true) ⊎ (any is_fetch es ≡ false)
+
+-- What the tests say before a call is its answer.
+abbrev pub IsSure : Opening → State → Call → List Event → Refusal → Type 0
+IsSure g s c es refusal.TooTall = IsSureOfRoom g s c es
+IsSure g s c es refusal.NoPages = IsSureOfRoom g s c es
+IsSure g s c es why = Unit {0}
+
+-- that there is no room is told only where no tombstone can go
+abbrev pub HasNoneToGo : Opening → State → Call → Refusal → Type 0
+HasNoneToGo g s c refusal.TooTall = NoneGoesFor g s c
+HasNoneToGo g s c refusal.NoPages = NoneGoesFor g s c
+HasNoneToGo g s c why = Unit {0}
 
 -- It is this refusal, or one that comes before it: a latch is spent, or a sync for a page of the call has brought the clock to its end.
 abbrev pub IsRefusedOr : Refusal → Answer → Type 0
 IsRefusedOr why a = (a ≡ answer.Refused why) ⊎ ((a ≡ answer.Refused refusal.RowSpent) ⊎ (a ≡ answer.Refused refusal.ClockSpent))
 
 -- In the state behind all events of the call, with the log as it was before it, a refusal has its cause; it comes where the state before them has one, and then
--- the tree is as it was. A put makes room for its key, and no call else changes the tree.
+-- no page is given to the tree, and where it is sure the tree is as it was. A put makes room for its key, and no call else changes the tree.
 pub record Answers (g : Opening) (xs : List Done) (x : Done) (was : Log) : Type 0 where
   -- they are few, so in a run of fewer than 2^40 lines, and of fewer than 2^34 steps of scans and aborts behind them, no latch is ever spent
   pub few : length x.events ≤ most_of (asked x.outcome.deed)
   pub refused : (why : Refusal) → answered x.outcome.deed ≡ answer.Refused why
       → IsRefusedFor g (state_after g (front xs ++ x.events)) x.outcome.session (is_half_done x.outcome.session xs) was (call_behind (outcomes xs) (asked x.outcome.deed)) why
-  pub refuses : (why : Refusal) → IsSure g x.events why → refusal_in g (state_after g (front xs)) x.outcome.session (is_half_done x.outcome.session xs) was (call_behind (outcomes xs) (asked x.outcome.deed)) ≡ Some why
+  pub kept : (why : Refusal) → answered x.outcome.deed ≡ answer.Refused why → HasNoneToGo g (state_after g (front xs ++ x.events)) (call_behind (outcomes xs) (asked x.outcome.deed)) why
+  pub refuses : (why : Refusal) → IsSure g (state_after g (front xs)) (call_behind (outcomes xs) (asked x.outcome.deed)) x.events why
+      → refusal_in g (state_after g (front xs)) x.outcome.session (is_half_done x.outcome.session xs) was (call_behind (outcomes xs) (asked x.outcome.deed)) ≡ Some why
       → IsRefusedOr why (answered x.outcome.deed)
-  pub still : (why : Refusal) → refusal_in g (state_after g (front xs)) x.outcome.session (is_half_done x.outcome.session xs) was (call_behind (outcomes xs) (asked x.outcome.deed)) ≡ Some why → any is_structure x.events ≡ false
-  pub room : MakesItsRoom x.outcome.session g (state_after g (front xs)) (call_behind (outcomes xs) (asked x.outcome.deed)) x.events
+  pub still : (why : Refusal) → refusal_in g (state_after g (front xs)) x.outcome.session (is_half_done x.outcome.session xs) was (call_behind (outcomes xs) (asked x.outcome.deed)) ≡ Some why → any grows x.events ≡ false
+  pub stays : (why : Refusal) → IsSure g (state_after g (front xs)) (call_behind (outcomes xs) (asked x.outcome.deed)) x.events why
+      → refusal_in g (state_after g (front xs)) x.outcome.session (is_half_done x.outcome.session xs) was (call_behind (outcomes xs) (asked x.outcome.deed)) ≡ Some why
+      → any is_structure x.events ≡ false
+  pub room : ChangesTree x.outcome.session g (state_after g (front xs)) (call_behind (outcomes xs) (asked x.outcome.deed)) x.events
 
 -- ## The disk
 

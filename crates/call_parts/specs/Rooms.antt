@@ -9,7 +9,9 @@ use Rattle.session_state.specs.core_state.Events.{Event, Mode}
 use Rattle.session_state.specs.core_state.Steps.{state_after}
 use Rattle.session_state.specs.core_calls.Fronts.{Done, front, outcomes}
 use Rattle.session_state.specs.core_calls.Steps.{call_behind, is_structure}
-use Rattle.session_state.specs.engine_trait.Rooms.{MakesRoom, needs_sync}
+use Rattle.session_state.specs.core_state.States.{State}
+use Rattle.session_state.specs.engine_trait.Rooms.{needs_sync}
+use Rattle.session_state.specs.tidy_rules.Rooms.{MakesRoom, NoneGoes}
 use Rattle.call_parts.specs.Steps.{moves_page}
 
 -- ## Which events
@@ -34,9 +36,10 @@ takes_row own row Mode.Alone (Event.Lock w i Mode.Alone) = (w == own) && (i == r
 takes_row own row Mode.Shared (Event.Lock w i Mode.Shared) = (w == own) && (i == row)
 takes_row own row mode _ = false
 
--- a row is given up as it stood, or session `own` gives the tree a page
+-- a row is given up as it stood, or session `own` takes tombstones out of a leaf or gives the tree a page
 abbrev pub gives_room : (own : ℕ) → Event → Bool
 gives_room own (Event.Miss w) = true
+gives_room own (Event.Purge w p keys) = w == own
 gives_room own (Event.Split w l r q i) = w == own
 gives_room own (Event.Lift w c) = w == own
 gives_room own _ = false
@@ -70,7 +73,23 @@ abbrev pub AreReady : (syncs : Bool) → List Event → Type 0
 AreReady true es = all makes_sync es ≡ true
 AreReady false es = es ≡ []
 
+-- a page is given to the tree
+abbrev pub grows : Event → Bool
+grows (Event.Split w l r q i) = true
+grows (Event.Lift w c) = true
+grows _ = false
+
 -- ## By call
+
+-- a put of session `own` makes room for its key, and every other call leaves the tree as it is
+abbrev pub ChangesTree : (own : ℕ) → Opening → State → Call → List Event → Type 0
+ChangesTree own g s (call.Put key value) es = MakesRoom own g s key es
+ChangesTree own g s _ es = any is_structure es ≡ false
+
+-- no tombstone of the leaf of the key that a put asks for can go
+abbrev pub NoneGoesFor : Opening → State → Call → Type 0
+NoneGoesFor g s (call.Put key value) = NoneGoes g s key
+NoneGoesFor g s c = Unit {0}
 
 -- Behind these outcomes, by these events a put took its key's row and made room for the key, a get and a del took their rows, a scan took rows and passed gaps, an
 -- abort put changes back, all of which may move pages; a sync and a begin flushed logs for a sync; and any other call did nothing.

@@ -30,7 +30,7 @@ use Rattle.paged_desks.specs.engine_calls.Refused.{refused_by}
 use Rattle.paged_desks.specs.engine_trait.Calls.{due_call, is_half_done}
 use Rattle.paged_desks.specs.engine_trait.Limits.{limits}
 use Rattle.paged_desks.specs.engine_trait.Refusals.{refusal_in}
-use Rattle.paged_desks.specs.engine_trait.Rooms.{MakesItsRoom, needs_sync}
+use Rattle.paged_desks.specs.engine_trait.Rooms.{needs_sync}
 use Rattle.lean_disk.specs.Story.{IsLawful, Story}
 use Rattle.paged_desks.specs.page_pool.Counts.{EveryFrame}
 use Rattle.paged_desks.specs.row_words.Moments.{events_of}
@@ -47,11 +47,11 @@ use Rattle.paged_desks.specs.worker_log.Logs.{Log}
 use Rattle.paged_desks.proofs.call_parts.EndLemmas.{most_least}
 use Rattle.paged_desks.proofs.call_parts.RunLemmas.{behind_more, core_is}
 use Rattle.paged_desks.proofs.call_parts.StepLemmas.{every_step}
-use Rattle.paged_desks.specs.call_parts.Deeds.{Answers, Fails}
+use Rattle.paged_desks.specs.call_parts.Deeds.{Answers, Fails, HasNoneToGo}
 use Rattle.paged_desks.specs.call_parts.Parts.{Part}
-use Rattle.paged_desks.specs.call_parts.Rooms.{IsRoomFor, looks, may_save}
+use Rattle.paged_desks.specs.call_parts.Rooms.{ChangesTree, IsRoomFor, looks, may_save}
 use Rattle.paged_desks.proofs.Doing.{hot_few}
-use Rattle.paged_desks.proofs.EndingLemmas.{Grounds, begins, does_tied, end_laws, half_own, line_call, refused_tied}
+use Rattle.paged_desks.proofs.EndingLemmas.{Grounds, begins, does_tied, end_laws, grows_none, half_own, line_call, refused_tied}
 use Rattle.paged_desks.proofs.HalfLates.{half_late}
 use Rattle.paged_desks.specs.Calls.{AreHalf, DoesTied, StandsNot, Tied}
 use Rattle.paged_desks.specs.Machines.{IsReady, memory, view_of}
@@ -154,9 +154,11 @@ module _ (l : Grounds) (answers : EveryAnswer) (coming : EveryComing) (frames : 
       (record {
         few = omega arith;
         is_for = inl (subst (λ (d : Call). refusal_in g (state_after g (front xs ++ [])) own (is_half_done own xs) log d ≡ Some refusal.NoTransaction) (sym asks) (ap (λ ys. refusal_in g (state_after g ys) own (is_half_done own xs) log call.Abort) (append-nil (front xs)) ∙ none));
-        refuses = λ q e. inl (some_is refusal.NoTransaction q (sym none ∙ subst (λ (d : Call). refusal_in g at own (is_half_done own xs) log d ≡ Some q) asks e));
+        kept = tt;
+        refuses = λ q sure e. inl (some_is refusal.NoTransaction q (sym none ∙ subst (λ (d : Call). refusal_in g at own (is_half_done own xs) log d ≡ Some q) asks e));
         still = λ q e. refl;
-        room = subst (λ (d : Call). MakesItsRoom own g at d []) (sym asks) refl;
+        stays = λ q sure e. refl;
+        room = subst (λ (d : Call). ChangesTree own g at d []) (sym asks) refl;
       })
       (λ w lo hi. refl)
     where
@@ -245,9 +247,11 @@ module _ (l : Grounds) (answers : EveryAnswer) (coming : EveryComing) (frames : 
       how = record {
         few = let a = few in let b = most_least c in omega arith;
         refused = λ why e. inr (inl (sym (refused_is refusal.RowSpent why e)));
+        kept = λ why e. subst (HasNoneToGo g (state_after g (front xs ++ fs)) (call_behind (outcomes xs) c)) (refused_is refusal.RowSpent why e) tt;
         refuses = λ why sure e. inr (inl refl);
-        still = λ _ _. facts.structure;
-        room = subst (λ d. MakesItsRoom own g at d fs) (sym asks) facts.structure;
+        still = λ _ _. grows_none fs facts.structure;
+        stays = λ _ _ _. facts.structure;
+        room = subst (λ d. ChangesTree own g at d fs) (sym asks) facts.structure;
       }
         where
           refused_is : (p q : Refusal) → answer.Refused p ≡ answer.Refused q → p ≡ q

@@ -30,7 +30,6 @@ use Rattle.paged_desks.specs.engine_calls.Parts.{behind_first}
 use Rattle.paged_desks.specs.engine_trait.Calls.{is_half_done}
 use Rattle.paged_desks.specs.engine_trait.Limits.{limits}
 use Rattle.paged_desks.specs.engine_trait.Refusals.{refusal_in}
-use Rattle.paged_desks.specs.engine_trait.Rooms.{MakesItsRoom}
 use Rattle.lean_disk.specs.Story.{IsLawful, Story}
 use Rattle.paged_desks.specs.log_record.declared.record.Body.TheVariants as body
 use Rattle.paged_desks.specs.log_record.declared.record.Record.{Record}
@@ -62,11 +61,12 @@ use Rattle.paged_desks.proofs.call_parts.RunLemmas.{behind_more, core_is}
 use Rattle.paged_desks.proofs.call_parts.SightLemmas.{every_enter, every_sight}
 use Rattle.paged_desks.proofs.call_parts.StepLemmas.{every_step}
 use Rattle.paged_desks.specs.call_parts.Deeds.{Answers}
+use Rattle.paged_desks.specs.call_parts.Rooms.{ChangesTree}
 use Rattle.paged_desks.specs.call_parts.Memory.{Memory, with_own}
 use Rattle.paged_desks.specs.call_parts.Parts.{Part}
 use Rattle.paged_desks.specs.call_parts.Steps.{SeesBetween, Stages}
 use Rattle.paged_desks.proofs.AsideLemmas.{memory_aside, other_desk}
-use Rattle.paged_desks.proofs.EndingLemmas.{Grounds, does_tied, half_own}
+use Rattle.paged_desks.proofs.EndingLemmas.{Grounds, does_tied, grows_none, half_own}
 use Rattle.paged_desks.specs.Calls.{AreHalf, DoesTied, IsAside, Tied}
 use Rattle.paged_desks.specs.Machines.{IsReady, memory, view_of}
 use Rattle.paged_desks.specs.declared.machine.PagedMachine.{PagedMachine}
@@ -286,9 +286,11 @@ module _ (l : Grounds) (answers : EveryAnswer) (coming : EveryComing) (entries :
   how = record {
     few = let p = few in let q = most_least c in omega arith;
     refused = λ why q. absurd (cc);
+    kept = λ why q. absurd (cc);
     refuses = λ why sure q. absurd (not_refused why (at.worker mine).is_open (runs.open_is l answers coming frames story lawful m ready c g xs many tied halves due ∙ opened) (subst (λ (d : Call). refusal_in g at mine (is_half_done mine xs) log d ≡ Some why) asks q));
-    still = λ _ _. structure;
-    room = subst (λ (d : Call). MakesItsRoom mine g at d (fs ++ ending_events)) (sym asks) structure;
+    still = λ _ _. grows_none (fs ++ ending_events) structure;
+    stays = λ _ _ _. structure;
+    room = subst (λ (d : Call). ChangesTree mine g at d (fs ++ ending_events)) (sym asks) structure;
   }
 
   own_k : (desk_of (here n.machine) n.machine.desks.items mine).session.is_half_aborted ≡ n.machine.work.session.is_half_aborted

@@ -39,7 +39,6 @@ use Rattle.paged_desks.specs.engine_calls.Refused.{TakesRows}
 use Rattle.paged_desks.specs.engine_trait.Calls.{call_behind, is_half_done}
 use Rattle.paged_desks.specs.engine_trait.Limits.{limits}
 use Rattle.paged_desks.specs.engine_trait.Refusals.{IsRefusedFor, change_refusal, in_transaction, lock_refusal, met_refusal, refusal_in}
-use Rattle.paged_desks.specs.engine_trait.Rooms.{MakesItsRoom}
 use Rattle.paged_desks.specs.image_model.Entries.{Contents, word_in}
 use Rattle.paged_desks.specs.key_locks.declared.mode.Mode.TheVariants.{Alone}
 use Rattle.paged_desks.specs.key_locks.Rows.{event_mode}
@@ -72,15 +71,15 @@ use Rattle.paged_desks.proofs.call_parts.MemoryLemmas.{every_memory}
 use Rattle.paged_desks.proofs.call_parts.OwnLemmas.{every_own}
 use Rattle.paged_desks.proofs.call_parts.RunLemmas.{core_is}
 use Rattle.paged_desks.specs.call_parts.Areas.{is_save}
-use Rattle.paged_desks.specs.call_parts.Deeds.{Answers, Fails}
+use Rattle.paged_desks.specs.call_parts.Deeds.{Answers, Fails, HasNoneToGo}
 use Rattle.paged_desks.specs.call_parts.Memory.{IsSame, with_own}
 use Rattle.paged_desks.specs.call_parts.Parts.{Failed, Part}
-use Rattle.paged_desks.specs.call_parts.Rooms.{AreRoom, IsRoomFor, is_paging as pages_come, looks, may_save}
+use Rattle.paged_desks.specs.call_parts.Rooms.{AreRoom, ChangesTree, IsRoomFor, is_paging as pages_come, looks, may_save}
 use Rattle.paged_desks.specs.call_parts.Steps.{Stages}
 use Rattle.paged_desks.specs.engine_trait.Rooms.{needs_sync}
-use Rattle.row_changes.specs.Puts.{IsChanged}
-use Rattle.row_changes.specs.Reads.{HasRead}
-use Rattle.row_changes.specs.Takes.{NotTaken}
+use Rattle.row_room.specs.row_changes.Puts.{IsChanged}
+use Rattle.row_room.specs.row_changes.Reads.{HasRead}
+use Rattle.row_room.specs.row_changes.Takes.{NotTaken}
 use Rattle.paged_desks.specs.Machines.{IsReady, memory, view_of}
 use Rattle.paged_desks.specs.Pages.{ArePaging, is_paging}
 use Rattle.paged_desks.specs.Parts.{most_a_way}
@@ -94,7 +93,7 @@ use Rattle.paged_calls.specs.Tests.{change_test, is_going}
 use Rattle.paged_desks.proofs.AsideLemmas.{halves_aside, memory_aside}
 use Rattle.paged_calls.proofs.ChangeTests.{free_of, gate, gate_more, gate_none, gate_of, hindered_of, long_of, no_abort, refusal_is, room_in, test_is, tests_in}
 use Rattle.paged_calls.proofs.Conflicts.{lock_free, lock_refused}
-use Rattle.paged_desks.proofs.EndingLemmas.{IsOr, does_tied, end_laws, half_own, refused_tied}
+use Rattle.paged_desks.proofs.EndingLemmas.{IsOr, does_tied, end_laws, grows_none, half_own, refused_tied}
 use Rattle.paged_calls.proofs.EventLemmas.{locked_room, room_of}
 use Rattle.paged_calls.proofs.GoingLemmas.{goes, not_going}
 use Rattle.paged_calls.proofs.KeyLemmas as keys
@@ -193,13 +192,14 @@ module _ (l : Grounds) (answers : EveryAnswer) (coming : EveryComing) {D : Type 
   module _ (n : PagedMachine D) (part : Part x.workers [] v (view_of n) (memory m) (memory n) (story m.machine.work.disk) (story n.machine.work.disk)) (logged : HasLogs n.machine) (as_many : AreAsMany m.machine n.machine)
       (same : (w : ℕ) → 0 < w → w ≤ x.workers → (desk_of (here n.machine) n.machine.desks.items w).session.is_half_aborted ≡ (desk_of (here m.machine) m.machine.desks.items w).session.is_half_aborted) where
     refused_now : (why : Refusal) → TakesRow why own (g.row_of key) happening.Mode.Alone [] → IsCause limits g (front xs ++ []) at (is_half (marks_by own (outcomes xs))) own c why
-        → IsRefusedFor g at own is_half_aborted log c why → ((q : Refusal) → refusal_in g at own is_half_aborted log c ≡ Some q → IsOr why q)
+        → ((s : State) (d : Call) → HasNoneToGo g s d why) → IsRefusedFor g at own is_half_aborted log c why → ((q : Refusal) → refusal_in g at own is_half_aborted log c ≡ Some q → IsOr why q)
         → DoesTied g x.group xs own c (answer.Refused why) (memory m) n (story m.machine.work.disk) (story n.machine.work.disk)
     refused_now = keys.refused_now l answers coming story lawful m ready key Alone c of_key g xs workers tied halves line n part logged as_many same
 
     record Early (why : Refusal) : Type 0 where
       cause : IsCause limits g (front xs ++ []) at (is_half (marks_by own (outcomes xs))) own c why
       tries : TakesRow why own (g.row_of key) happening.Mode.Alone []
+      kept : (s : State) (d : Call) → HasNoneToGo g s d why
 
     early : (why : Refusal) → change_test x log ≡ Some (unserved.Refused why) → Early why
     early why e = go (is_going x) (leb 64 (length x.undo)) (leb (limit log) (used log)) (leb (2 ^ 62) x.clock.clock) refl refl refl refl (refused_was (gate_of x log None) why (sym (test_is x log ready.works) ∙ e))
@@ -209,23 +209,23 @@ module _ (l : Grounds) (answers : EveryAnswer) (coming : EveryComing) {D : Type 
         shut (inr closed) = inl (of_0.is_open ∙ closed)
 
         go : (a b d f : Bool) → is_going x ≡ a → leb 64 (length x.undo) ≡ b → leb (limit log) (used log) ≡ d → leb (2 ^ 62) x.clock.clock ≡ f → gate a b d f most None ≡ Some why → Early why
-        go false b d f p q r u e = subst Early (some_is _ why e) (record { cause = shut (not_going x p); tries = refl })
-        go true true d f p q r u e = subst Early (some_is _ why e) (record { cause = long_of c key of_key g at own (let a = leb-true 64 (length x.undo) q in let k = many_of (at.worker own).changes x.undo of_0.undo in let o = b0.opens.changes in omega arith); tries = refl })
-        go true false true f p q r u e = subst Early (some_is _ why e) (record { cause = refl; tries = refl })
-        go true false false true p q r u e = subst Early (some_is _ why e) (record { cause = let a = leb-true (2 ^ 62) x.clock.clock u in let k = of_0.clock in omega arith; tries = inl refl })
+        go false b d f p q r u e = subst Early (some_is _ why e) (record { cause = shut (not_going x p); tries = refl; kept = λ _ _. tt })
+        go true true d f p q r u e = subst Early (some_is _ why e) (record { cause = long_of c key of_key g at own (let a = leb-true 64 (length x.undo) q in let k = many_of (at.worker own).changes x.undo of_0.undo in let o = b0.opens.changes in omega arith); tries = refl; kept = λ _ _. tt })
+        go true false true f p q r u e = subst Early (some_is _ why e) (record { cause = refl; tries = refl; kept = λ _ _. tt })
+        go true false false true p q r u e = subst Early (some_is _ why e) (record { cause = let a = leb-true (2 ^ 62) x.clock.clock u in let k = of_0.clock in omega arith; tries = inl refl; kept = λ _ _. tt })
         go true false false false p q r u e = absurd (none_is why e)
 
     -- by a test
     pub tested : (why : Refusal) → change_test x log ≡ Some (unserved.Refused why) → DoesTied g x.group xs own c (answer.Refused why) (memory m) n (story m.machine.work.disk) (story n.machine.work.disk)
-    tested why e = refused_now why (early why e).tries (early why e).cause (inl now) (λ q r. inl (some_is why q (sym now ∙ r)))
+    tested why e = refused_now why (early why e).tries (early why e).cause (early why e).kept (inl now) (λ q r. inl (some_is why q (sym now ∙ r)))
       where
         now : refusal_in g at own is_half_aborted log c ≡ Some why
         now = tests_0 ∙ gate_more (is_going x) (leb 64 (length x.undo)) (leb (limit log) (used log)) (leb (2 ^ 62) x.clock.clock) most why (last_in at) (refused_was (gate_of x log None) why (sym (test_is x log ready.works) ∙ e))
 
     -- since its row is not to be had
     pub not_taken : change_test x log ≡ None → (why : Refusal) → NotTaken why v (view_of n) own (key % x.held.count) Alone → DoesTied g x.group xs own c (answer.Refused why) (memory m) n (story m.machine.work.disk) (story n.machine.work.disk)
-    not_taken none refusal.RowSpent s = refused_now refusal.RowSpent (inl refl) (spent_end g xs [] (view_of n) (behind_as g xs [] v (view_of n) s.given s.seen b0) s.many) (inr (inl refl)) (λ q r. inr (inl refl))
-    not_taken none (refusal.Conflict h) s = refused_now (refusal.Conflict h) refl (hindered_of c key of_key g at own h hinders) (inl now) (λ q r. inl (some_is (refusal.Conflict h) q (sym now ∙ r)))
+    not_taken none refusal.RowSpent s = refused_now refusal.RowSpent (inl refl) (spent_end g xs [] (view_of n) (behind_as g xs [] v (view_of n) s.given s.seen b0) s.many) (λ _ _. tt) (inr (inl refl)) (λ q r. inr (inl refl))
+    not_taken none (refusal.Conflict h) s = refused_now (refusal.Conflict h) refl (hindered_of c key of_key g at own h hinders) (λ _ _. tt) (inl now) (λ q r. inl (some_is (refusal.Conflict h) q (sym now ∙ r)))
       where
         hinders : Hinders (at.row (g.row_of key)) own happening.Mode.Alone h
         hinders = key_hindered l.reached l.needs g xs [] z v x key b0 holds.rows (view_of n) Alone h s
@@ -343,7 +343,7 @@ module _ (l : Grounds) (answers : EveryAnswer) (coming : EveryComing) {D : Type 
           (keys.as_many l answers coming story lawful m ready key Alone c of_key g xs workers tied halves line u t n come) answers own c refusal.ClockSpent refl low high
           (keys.is_refusal l answers coming story lawful m ready key Alone c of_key g xs workers tied halves line refusal.ClockSpent (lock ∷ moves) (so_far.logged g xs [] b0).met (subst (TakesRows own) (sym kept) (refl, tt))
           (subst (λ ys. (ys ≡ []) ⊎ (ys ≡ lock_too ∷ [])) (sym kept) (inr (ap (λ i. happening.Event.Lock own i happening.Mode.Alone ∷ []) (sym row_is)))) no_structure cause due)
-          (keys.shown l answers coming story lawful m ready key Alone c of_key g xs workers tied halves line refusal.ClockSpent (lock ∷ moves) (let a = few in omega arith) (inl refused) (λ q r. inr (inr refl)) no_structure)
+          (keys.shown l answers coming story lawful m ready key Alone c of_key g xs workers tied halves line refusal.ClockSpent (lock ∷ moves) (let a = few in omega arith) (λ _ _. tt) (inl refused) (λ q r. inr (inr refl)) no_structure)
           half_all
         where
           kept : keep is_step (lock ∷ moves) ≡ lock ∷ []
@@ -432,9 +432,11 @@ module _ (l : Grounds) (answers : EveryAnswer) (coming : EveryComing) {D : Type 
             how = record {
               few = absent_few;
               refused = λ why q. absurd (no_refusal None why q);
+              kept = λ why q. absurd (no_refusal None why q);
               refuses = λ why sure q. absurd (unrefused why (ap (refusal_in g at own is_half_aborted log) (sym asked_too) ∙ q));
-              still = λ _ _. absent_structure;
-              room = subst (λ d. MakesItsRoom own g at d (first ++ read ∷ [])) (sym asked_too) (keys.room_none g xs own c key happening.Mode.Alone of_key at (first ++ read ∷ []) absent_structure);
+              still = λ _ _. grows_none (first ++ read ∷ []) absent_structure;
+              stays = λ _ _ _. absent_structure;
+              room = subst (λ d. ChangesTree own g at d (first ++ read ∷ [])) (sym asked_too) (keys.room_none g xs own c key happening.Mode.Alone of_key at (first ++ read ∷ []) absent_structure);
             }
 
       -- ## It was changed
@@ -512,9 +514,11 @@ module _ (l : Grounds) (answers : EveryAnswer) (coming : EveryComing) {D : Type 
             how = record {
               few = let p = change_few in let q = most_least (asked d) in omega arith;
               refused = λ why q. absurd (no_refusal why q);
+              kept = λ why q. absurd (no_refusal why q);
               refuses = λ why sure q. absurd (unrefused why (ap (refusal_in g at own is_half_aborted log) (sym asked_too) ∙ q));
-              still = λ _ _. change_structure;
-              room = subst (λ e. MakesItsRoom own g at e (first ++ change ∷ [])) (sym asked_too) (keys.room_none g xs own c key happening.Mode.Alone of_key at (first ++ change ∷ []) change_structure);
+              still = λ _ _. grows_none (first ++ change ∷ []) change_structure;
+              stays = λ _ _ _. change_structure;
+              room = subst (λ e. ChangesTree own g at e (first ++ change ∷ [])) (sym asked_too) (keys.room_none g xs own c key happening.Mode.Alone of_key at (first ++ change ∷ []) change_structure);
             }
 
       -- ## The log's device failed

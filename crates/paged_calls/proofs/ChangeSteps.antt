@@ -6,10 +6,10 @@ use Rattle.paged_desks.specs.engine_trait.declared.unserved.Unanswered.TheVarian
 use Rattle.paged_desks.specs.engine_trait.declared.unserved.Unserved.TheVariants as unserved
 use Rattle.paged_desks.specs.btree_descent.declared.descent.TheConstants.{TOMBSTONE}
 use Rattle.paged_desks.specs.page_pool.Pools.{EveryStanding}
-use Rattle.row_changes.specs.Dels.{Dels}
-use Rattle.row_changes.specs.Puts.{works_behind}
-use Rattle.row_changes.specs.declared.ways.Unmade.{Unmade}
-use Rattle.row_changes.specs.declared.ways.Unmade.TheVariants as unmade
+use Rattle.row_room.specs.row_changes.Dels.{Dels}
+use Rattle.row_room.specs.row_changes.Puts.{works_behind}
+use Rattle.row_room.specs.row_changes.declared.ways.Unmade.{Unmade}
+use Rattle.row_room.specs.row_changes.declared.ways.Unmade.TheVariants as unmade
 use Rattle.paged_desks.specs.row_words.declared.event.Event.TheVariants as told
 use Rattle.paged_desks.specs.session_desks.Parts.{SeatFits, shape}
 use Rattle.paged_desks.proofs.session_state.OtherLemmas.{is_own, no_steps, one_step}

@@ -20,14 +20,14 @@ use Rattle.paged_desks.specs.worker_log.Logs.{Log, limit, used}
 use Rattle.paged_desks.specs.call_parts.Memory.{Memory}
 use Rattle.paged_desks.specs.call_parts.Parts.{Part}
 use Rattle.paged_desks.specs.key_locks.declared.mode.Mode.TheVariants.{Alone}
-use Rattle.row_changes.proofs.TakeLemmas.{with_count}
-use Rattle.row_changes.specs.Dels.{Dels}
-use Rattle.row_changes.specs.Puts.{IsChanged, works_behind}
-use Rattle.row_changes.specs.Reads.{HasRead}
-use Rattle.row_changes.specs.Ways.{HasMetCold}
-use Rattle.row_changes.specs.declared.ways.Cold.{Cold}
-use Rattle.row_changes.specs.declared.ways.Unmade.{Unmade}
-use Rattle.row_changes.specs.declared.ways.Unmade.TheVariants as unmade
+use Rattle.row_room.proofs.row_changes.TakeLemmas.{with_count}
+use Rattle.row_room.specs.row_changes.Dels.{Dels}
+use Rattle.row_room.specs.row_changes.Puts.{IsChanged, works_behind}
+use Rattle.row_room.specs.row_changes.Reads.{HasRead}
+use Rattle.row_room.specs.row_changes.Ways.{HasMetCold}
+use Rattle.row_room.specs.row_changes.declared.ways.Cold.{Cold}
+use Rattle.row_room.specs.row_changes.declared.ways.Unmade.{Unmade}
+use Rattle.row_room.specs.row_changes.declared.ways.Unmade.TheVariants as unmade
 use Rattle.paged_desks.specs.Machines.{IsReady, memory, view_of}
 use Rattle.paged_desks.specs.Pages.{goes_on}
 use Rattle.paged_desks.specs.Parts.{HasFailed, HasGone}

@@ -9,8 +9,8 @@ use Rattle.paged_desks.specs.engine_trait.declared.unserved.Unserved.TheVariants
 use Rattle.paged_desks.specs.engine_trait.Refusals.{clock_refusal}
 use Rattle.paged_desks.specs.key_locks.declared.mode.Mode.{Mode}
 use Rattle.lean_disk.specs.Story.{Story}
-use Rattle.row_changes.proofs.StepLemmas.{clock_at_end}
-use Rattle.row_changes.specs.Takes.{NotTaken}
+use Rattle.row_room.proofs.row_changes.StepLemmas.{clock_at_end}
+use Rattle.row_room.specs.row_changes.Takes.{NotTaken}
 use Rattle.paged_desks.specs.rows_trait.declared.view.View.{View}
 use Rattle.paged_desks.specs.declared.machine.PagedMachine.{PagedMachine}
 use Rattle.paged_desks.specs.Calls.{EndsWork, works_behind}

@@ -37,9 +37,9 @@ use Rattle.paged_desks.proofs.session_state.ServingLemmas.{refused_not}
 use Rattle.paged_desks.specs.session_state.Staging.{KeepsLog}
 use Rattle.paged_desks.specs.session_state.declared.session.Session.{Session}
 use Rattle.paged_desks.specs.worker_log.Logs.{Log}
-use Rattle.row_changes.proofs.StepLemmas.{clock_at_end}
-use Rattle.row_changes.specs.Puts.{IsChanged}
-use Rattle.row_changes.specs.Reads.{HasRead}
+use Rattle.row_room.proofs.row_changes.StepLemmas.{clock_at_end}
+use Rattle.row_room.specs.row_changes.Puts.{IsChanged}
+use Rattle.row_room.specs.row_changes.Reads.{HasRead}
 use Rattle.paged_desks.specs.Machines.{IsReady, memory, view_of}
 use Rattle.paged_desks.specs.declared.machine.PagedMachine.{PagedMachine}
 use Rattle.paged_desks.specs.Calls.{AreHalf, CallDoes, DoesTied, OnLine, Tied, works_behind}

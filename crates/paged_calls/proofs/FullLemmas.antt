@@ -17,7 +17,7 @@ use Rattle.paged_desks.specs.engine_trait.Refusals.{is_full_for, lock_refusal, m
 use Rattle.paged_desks.specs.image_model.Entries.{Kind}
 use Rattle.page_model.proofs.Laws.{every_tree}
 use Rattle.page_model.specs.Check.{some_below}
-use Rattle.page_model.specs.Needs.{lift_record, split_record}
+use Rattle.page_model.specs.Needs.{lift_record, purge_record, split_record}
 use Rattle.page_model.specs.Nodes.{Node, holds}
 use Rattle.page_model.specs.Records as records
 use Rattle.page_model.specs.Redo.{has_key}
@@ -25,7 +25,6 @@ use Rattle.page_model.specs.Tree.{IsTree}
 use Rattle.paged_desks.specs.row_words.declared.event.Event.{Event}
 use Rattle.paged_desks.specs.row_words.declared.event.Event.TheVariants as told
 use Rattle.paged_desks.specs.row_words.Moments.{event_of, events_of}
-use Rattle.paged_desks.specs.call_parts.Deeds.{is_fetch}
 use Rattle.paged_desks.specs.call_parts.Rooms.{AreRoom, gives_room, is_paging as pages_come, takes_row}
 use Rattle.paged_calls.specs.Growths.{AreMaking, is_making}
 use Rattle.paged_calls.proofs.Conflicts.{lock_free}
@@ -57,9 +56,9 @@ pub all_more : (f : happening.Event → Bool) (es fs : List happening.Event) →
 all_more f [] fs a b = b
 all_more f (e ∷ es) fs a b = let p = and_parts (f e) (all f es) a in and_from (f e) (all f (es ++ fs)) p.0 (all_more f es fs p.1 b)
 
-pub fetch_first : (es fs : List happening.Event) → any is_fetch (es ++ fs) ≡ false → any is_fetch es ≡ false
-fetch_first [] fs e = refl
-fetch_first (x ∷ es) fs e = neither (is_fetch x) (any is_fetch es) (first_false (is_fetch x) (any is_fetch (es ++ fs)) e) (fetch_first es fs (second_false (is_fetch x) (any is_fetch (es ++ fs)) e))
+pub any_first : (f : happening.Event → Bool) (es fs : List happening.Event) → any f (es ++ fs) ≡ false → any f es ≡ false
+any_first f [] fs e = refl
+any_first f (x ∷ es) fs e = neither (f x) (any f es) (first_false (f x) (any f (es ++ fs)) e) (any_first f es fs (second_false (f x) (any f (es ++ fs)) e))
 
 -- what is so of one by which room is made
 record Making (own row : ℕ) (e : Event) : Type 0 where
@@ -67,6 +66,7 @@ record Making (own row : ℕ) (e : Event) : Type 0 where
   room : (takes_row own row happening.Mode.Alone (event_of e) || (gives_room own (event_of e) || pages_come (event_of e))) ≡ true
 
 making_one : (own row : ℕ) (e : Event) → is_making own e ≡ true → Making own row e
+making_one own row (told.Purge w p keys) k = record { step = refl; room = or_left (w == own) false k }
 making_one own row (told.Split w l r q i) k = record { step = refl; room = or_left (w == own) false k }
 making_one own row (told.Lift w c) k = record { step = refl; room = or_left (w == own) false k }
 making_one own row (told.Flush w n) k = record { step = refl; room = refl }
@@ -222,6 +222,7 @@ moves_stay s kind w ps made own = record {
 }
 
 one_stays : (g : Opening) (own : ℕ) (s : State) (e : Event) → is_making own e ≡ true → Stays own s (happens g s (event_of e))
+one_stays g own s (told.Purge w p keys) k = moves_stay s Kind.Purge w (p ∷ []) (purge_record (gsns_of s) p keys) own
 one_stays g own s (told.Split w l r q i) k = moves_stay s Kind.Split w (l ∷ r ∷ q ∷ []) (split_record (nodes_of s) (gsns_of s) l r q i) own
 one_stays g own s (told.Lift w c) k = moves_stay s Kind.Lift w (0 ∷ c ∷ []) (lift_record (nodes_of s) (gsns_of s) c) own
 one_stays g own s (told.Sync n) k = record { row = refl; clock = omega arith }

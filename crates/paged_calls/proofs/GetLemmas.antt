@@ -3,6 +3,7 @@ use Rattle.std.proofs.Common.{◌≡◌, ◌∙◌, ◌⊎◌, inl, inr, ◌≤�
 use Rattle.std.proofs.lemmas.List.{length-append}
 use Rattle.map_model.specs.Lists.{any}
 use Rattle.map_model.specs.declared.call.Answer.TheVariants as answer
+use Rattle.map_model.specs.declared.call.Call.{Call}
 use Rattle.map_model.specs.declared.call.Call.TheVariants as call
 use Rattle.map_model.specs.declared.call.Refusal.{Refusal}
 use Rattle.map_model.specs.declared.call.Refusal.TheVariants as refusal
@@ -27,7 +28,6 @@ use Rattle.paged_desks.specs.engine_calls.Puts.{IsRead, is_alone, read_by, takin
 use Rattle.paged_desks.specs.engine_trait.Calls.{call_behind, is_half_done}
 use Rattle.paged_desks.specs.engine_trait.Limits.{limits}
 use Rattle.paged_desks.specs.engine_trait.Refusals.{IsRefusedFor, lock_refusal, refusal_in}
-use Rattle.paged_desks.specs.engine_trait.Rooms.{MakesItsRoom}
 use Rattle.paged_desks.specs.key_locks.declared.mode.Mode.TheVariants.{Shared}
 use Rattle.paged_desks.specs.key_locks.Rows.{event_mode}
 use Rattle.lean_disk.specs.Story.{IsLawful, Story}
@@ -46,10 +46,11 @@ use Rattle.paged_desks.specs.session_state.Ties.{Behind}
 use Rattle.paged_desks.specs.session_state.declared.session.Session.{Session}
 use Rattle.paged_desks.specs.worker_log.Logs.{Log}
 use Rattle.paged_desks.proofs.call_parts.RunLemmas.{core_is}
-use Rattle.paged_desks.specs.call_parts.Deeds.{Answers}
+use Rattle.paged_desks.specs.call_parts.Deeds.{Answers, HasNoneToGo}
+use Rattle.paged_desks.specs.call_parts.Rooms.{ChangesTree}
 use Rattle.paged_desks.specs.call_parts.Parts.{Part}
-use Rattle.row_changes.specs.Reads.{HasRead}
-use Rattle.row_changes.specs.Takes.{NotTaken}
+use Rattle.row_room.specs.row_changes.Reads.{HasRead}
+use Rattle.row_room.specs.row_changes.Takes.{NotTaken}
 use Rattle.paged_desks.specs.Machines.{IsReady, memory, view_of}
 use Rattle.paged_desks.specs.Parts.{most_a_way}
 use Rattle.paged_desks.specs.Pages.{goes_on}
@@ -60,7 +61,7 @@ use Rattle.paged_desks.specs.Calls.{AreHalf, CallDoes, DoesTied, IsBeside, OnLin
 use Rattle.paged_calls.specs.Steps.{HasCome, HasNotTaken, HasReadWarm, HasTaken, ReadsWarm}
 use Rattle.paged_calls.specs.Tests.{is_going}
 use Rattle.paged_calls.proofs.Conflicts.{lock_refused}
-use Rattle.paged_desks.proofs.EndingLemmas.{IsOr, does_tied, half_own}
+use Rattle.paged_desks.proofs.EndingLemmas.{IsOr, does_tied, grows_none, half_own}
 use Rattle.paged_calls.proofs.GoingLemmas.{goes, not_going, tests_as}
 use Rattle.paged_calls.proofs.KeyLemmas as keys
 use Rattle.paged_desks.proofs.EndingLemmas.{Grounds}
@@ -114,13 +115,13 @@ module _ (l : Grounds) (answers : EveryAnswer) (coming : EveryComing) {D : Type 
   module _ (n : PagedMachine D) (part : Part x.workers [] v (view_of n) (memory m) (memory n) (story m.machine.work.disk) (story n.machine.work.disk)) (logged : HasLogs n.machine) (as_many : AreAsMany m.machine n.machine)
       (same : (w : ℕ) → 0 < w → w ≤ x.workers → (desk_of (here n.machine) n.machine.desks.items w).session.is_half_aborted ≡ (desk_of (here m.machine) m.machine.desks.items w).session.is_half_aborted) where
     refused_now : (why : Refusal) → TakesRow why own (g.row_of key) happening.Mode.Shared [] → IsCause limits g (front xs ++ []) at (is_half (marks_by own (outcomes xs))) own (call.Get key) why
-        → IsRefusedFor g at own (is_half_done own xs) log (call.Get key) why → ((q : Refusal) → refusal_in g at own (is_half_done own xs) log (call.Get key) ≡ Some q → IsOr why q)
+        → ((s : State) (d : Call) → HasNoneToGo g s d why) → IsRefusedFor g at own (is_half_done own xs) log (call.Get key) why → ((q : Refusal) → refusal_in g at own (is_half_done own xs) log (call.Get key) ≡ Some q → IsOr why q)
         → DoesTied g x.group xs own (call.Get key) (answer.Refused why) (memory m) n (story m.machine.work.disk) (story n.machine.work.disk)
     refused_now = keys.refused_now l answers coming story lawful m ready key Shared (call.Get key) refl g xs workers tied halves line n part logged as_many same
 
     -- no transaction goes on
     pub not_begun : is_going x ≡ false → DoesTied g x.group xs own (call.Get key) (answer.Refused refusal.NoTransaction) (memory m) n (story m.machine.work.disk) (story n.machine.work.disk)
-    not_begun shut = refused_now refusal.NoTransaction refl (cause (not_going x shut)) (inl none) (λ q r. inl (some_is refusal.NoTransaction q (sym none ∙ r)))
+    not_begun shut = refused_now refusal.NoTransaction refl (cause (not_going x shut)) (λ _ _. tt) (inl none) (λ q r. inl (some_is refusal.NoTransaction q (sym none ∙ r)))
       where
         none : refusal_in g at own (is_half_done own xs) log (call.Get key) ≡ Some refusal.NoTransaction
         none = tests_as at (is_half_done own xs) x open_is half_is (lock_refusal g at own key happening.Mode.Shared None) ∙ ap (λ b. cond b (lock_refusal g at own key happening.Mode.Shared None) (Some refusal.NoTransaction)) shut
@@ -131,8 +132,8 @@ module _ (l : Grounds) (answers : EveryAnswer) (coming : EveryComing) {D : Type 
 
     -- the row is not to be had
     pub not_taken : x.is_open ≡ true → x.is_half_aborted ≡ false → (why : Refusal) → NotTaken why v (view_of n) own (key % x.held.count) Shared → DoesTied g x.group xs own (call.Get key) (answer.Refused why) (memory m) n (story m.machine.work.disk) (story n.machine.work.disk)
-    not_taken is_open whole refusal.RowSpent s = refused_now refusal.RowSpent (inl refl) (spent_end g xs [] (view_of n) (behind_as g xs [] v (view_of n) s.given s.seen b0) s.many) (inr (inl refl)) (λ q r. inr (inl refl))
-    not_taken is_open whole (refusal.Conflict h) s = refused_now (refusal.Conflict h) refl hinders (inl now) (λ q r. inl (some_is (refusal.Conflict h) q (sym now ∙ r)))
+    not_taken is_open whole refusal.RowSpent s = refused_now refusal.RowSpent (inl refl) (spent_end g xs [] (view_of n) (behind_as g xs [] v (view_of n) s.given s.seen b0) s.many) (λ _ _. tt) (inr (inl refl)) (λ q r. inr (inl refl))
+    not_taken is_open whole (refusal.Conflict h) s = refused_now (refusal.Conflict h) refl hinders (λ _ _. tt) (inl now) (λ q r. inl (some_is (refusal.Conflict h) q (sym now ∙ r)))
       where
         hinders : Hinders (at.row (g.row_of key)) own happening.Mode.Shared h
         hinders = key_hindered l.reached l.needs g xs [] z v x key b0 holds.rows (view_of n) Shared h s
@@ -241,9 +242,11 @@ module _ (l : Grounds) (answers : EveryAnswer) (coming : EveryComing) {D : Type 
         how = record {
           few = few_all;
           refused = λ why q. absurd (cc);
+          kept = λ why q. absurd (cc);
           refuses = λ why sure q. absurd (none_is why (sym none ∙ (ap (refusal_in g at own (is_half_done own xs) log) (sym asks) ∙ q)));
-          still = λ _ _. structure_all;
-          room = subst (λ d. MakesItsRoom own g at d (first ++ last ∷ [])) (sym asks) structure_all;
+          still = λ _ _. grows_none (first ++ last ∷ []) structure_all;
+          stays = λ _ _ _. structure_all;
+          room = subst (λ d. ChangesTree own g at d (first ++ last ∷ [])) (sym asks) structure_all;
         }
 
         half_read : (w : ℕ) → 0 < w → w ≤ x.workers → (desk_of (here k.machine) k.machine.desks.items w).session.is_half_aborted ≡ (desk_of (here m.machine) m.machine.desks.items w).session.is_half_aborted

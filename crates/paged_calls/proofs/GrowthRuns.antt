@@ -40,7 +40,7 @@ use Rattle.paged_desks.specs.engine_calls.Refused.{TakesRows, refused_by}
 use Rattle.paged_desks.specs.engine_trait.Calls.{call_behind, is_half_done}
 use Rattle.paged_desks.specs.engine_trait.Limits.{limits}
 use Rattle.paged_desks.specs.engine_trait.Refusals.{IsRefusedFor, change_refusal, in_transaction, is_full_for, lock_refusal, met_refusal, refusal_in, room_refusal}
-use Rattle.paged_desks.specs.engine_trait.Rooms.{MakesItsRoom, MakesRoom, needs_sync}
+use Rattle.paged_desks.specs.engine_trait.Rooms.{needs_sync}
 use Rattle.paged_desks.specs.image_model.Entries.{Contents, word_in}
 use Rattle.paged_desks.specs.key_locks.declared.mode.Mode.TheVariants.{Alone}
 use Rattle.paged_desks.specs.key_locks.Rows.{event_mode}
@@ -64,6 +64,7 @@ use Rattle.paged_desks.proofs.session_state.Moments.{events_more}
 use Rattle.paged_desks.specs.session_state.Holds.{Holds, IsOf, IsSameSession}
 use Rattle.paged_desks.specs.session_state.Staging.{KeepsLog}
 use Rattle.paged_desks.specs.session_state.Ties.{Behind}
+use Rattle.paged_desks.specs.session_state.tidy_rules.Rooms.{MakesRoom, NoneGoes}
 use Rattle.paged_desks.specs.session_state.declared.session.Session.{Session}
 use Rattle.paged_desks.specs.worker_log.Logs.{Log, limit, used}
 use Rattle.paged_desks.proofs.call_parts.MemoryLemmas.{every_memory}
@@ -71,13 +72,13 @@ use Rattle.paged_desks.proofs.call_parts.OwnLemmas.{every_own}
 use Rattle.paged_desks.proofs.call_parts.RunLemmas.{behind_more, core_is}
 use Rattle.paged_desks.proofs.call_parts.SightLemmas.{every_enter}
 use Rattle.paged_desks.specs.call_parts.Areas.{is_save}
-use Rattle.paged_desks.specs.call_parts.Deeds.{Answers, Fails, IsSure, is_fetch}
+use Rattle.paged_desks.specs.call_parts.Deeds.{Answers, Fails, HasNoneToGo, IsSure, IsSureOfRoom, is_fetch}
 use Rattle.paged_desks.specs.call_parts.Memory.{IsSame, with_own}
 use Rattle.paged_desks.specs.call_parts.Parts.{Failed, Part}
-use Rattle.paged_desks.specs.call_parts.Rooms.{AreRoom, IsRoomFor, looks, may_save, takes_row, gives_room, is_paging as pages_come}
+use Rattle.paged_desks.specs.call_parts.Rooms.{AreRoom, ChangesTree, IsRoomFor, gives_room, grows, is_paging as pages_come, looks, makes_sync, may_save, takes_row}
 use Rattle.paged_desks.specs.call_parts.Steps.{Stages}
-use Rattle.row_changes.specs.Paths.{IsUnfit}
-use Rattle.row_changes.specs.Puts.{IsChanged}
+use Rattle.row_room.specs.row_changes.Paths.{IsUnfit}
+use Rattle.row_room.specs.row_changes.Puts.{IsChanged}
 use Rattle.paged_desks.specs.Calls.{AreHalf, DoesTied, IsAside, StandsNot, Tied}
 use Rattle.paged_desks.specs.Machines.{IsReady, memory, view_of}
 use Rattle.paged_desks.specs.Parts.{HasFailed, IsSpent, StandsNowhere}
@@ -90,12 +91,13 @@ use Rattle.paged_calls.specs.Tests.{change_test}
 use Rattle.paged_calls.proofs.ChangeRuns as runs
 use Rattle.paged_calls.proofs.ChangeTests.{IsFree, free_of, gate, refusal_is, room_in, tests_in}
 use Rattle.paged_calls.proofs.EventLemmas.{length_events, locked_room, room_of, structure_of}
-use Rattle.paged_calls.proofs.FullLemmas.{IsTaken, all_more, all_three, fetch_first, making_room, making_steps, not_full, room_kind, short_is, tall_is, taken_alone, taken_passes, taken_stays}
+use Rattle.paged_calls.proofs.FullLemmas.{IsTaken, all_more, all_three, any_first, making_room, making_steps, not_full, room_kind, short_is, tall_is, taken_alone, taken_passes, taken_stays}
 use Rattle.paged_calls.proofs.GoingLemmas.{goes}
 use Rattle.paged_desks.proofs.HalfLates.{half_late}
 use Rattle.paged_calls.proofs.KeyLemmas as keys
-use Rattle.paged_calls.proofs.LikeLemmas.{like_same, like_then, run_like, run_same}
-use Rattle.paged_calls.proofs.MadeLemmas.{core_paging, makes_join, makes_none, resides}
+use Rattle.paged_calls.proofs.LikeLemmas.{like_same, like_then, run_came, run_same}
+use Rattle.paged_calls.proofs.MadeLemmas.{makes_join, makes_none, resides}
+use Rattle.paged_calls.proofs.NoneLemmas.{none_as, none_on, none_stays, settled_behind}
 use Rattle.paged_calls.proofs.PieceLemmas.{joins_at}
 use Rattle.paged_calls.proofs.TakingLemmas.{late_end, none_is, some_is}
 use Rattle.paged_calls.proofs.WayLemmas.{full_as, full_on, has_below, refusal_as, room_like, way_back}
@@ -223,6 +225,21 @@ module _ (l : Grounds) (residence : EveryResidence) (answers : EveryAnswer) (com
         go true full = way_back g at held key (like_same at held page_at) way at (like_same at at (λ p. refl)) full
         go false full = refl
 
+    -- no other test refuses it than that of room
+    sure_room : (q : Refusal) → refusal_in g at own is_half_aborted log c ≡ Some q → (es : List happening.Event) → IsSure g at c es q → IsSureOfRoom g at c es
+    sure_room q e es sure = go (is_full_for g at key) refl (sym room_asked ∙ e)
+      where
+        go : (b : Bool) → is_full_for g at key ≡ b → cond b (room_refusal g at key) None ≡ Some q → IsSureOfRoom g at c es
+        go false full p = absurd (none_is q p)
+        go true full p = elim (room_kind g at key q p) [ inl k ↦ subst (IsSure g at c es) k sure | inr k ↦ subst (IsSure g at c es) k sure ]
+
+    sure_as : (q : Refusal) → refusal_in g at own is_half_aborted log c ≡ Some q → (es : List happening.Event) → IsSureOfRoom g at c es → IsSure g at c es q
+    sure_as q e es k = go (is_full_for g at key) refl (sym room_asked ∙ e)
+      where
+        go : (b : Bool) → is_full_for g at key ≡ b → cond b (room_refusal g at key) None ≡ Some q → IsSure g at c es q
+        go false full p = absurd (none_is q p)
+        go true full p = elim (room_kind g at key q p) [ inl r ↦ subst (IsSure g at c es) (sym r) k | inr r ↦ subst (IsSure g at c es) (sym r) k ]
+
     -- ## Pages came, and room was made
 
     module _ (amount : ℕ) (n : PagedMachine D) (d : HasMade story key amount u n) (few : length d.events ≤ 2 ^ 17 + 2 ^ 15) where
@@ -277,9 +294,18 @@ module _ (l : Grounds) (residence : EveryResidence) (answers : EveryAnswer) (com
       half_all : (w : ℕ) → 0 < w → w ≤ x.workers → (desk_of (here n.machine) n.machine.desks.items w).session.is_half_aborted ≡ (desk_of (here m.machine) m.machine.desks.items w).session.is_half_aborted
       half_all w lo hi = d.halves w lo (let e = workers_is in omega arith) ∙ taken_half w
 
-      -- the tree is as it was, where a test refuses the put
-      still : (q : Refusal) → refusal_in g at own is_half_aborted log c ≡ Some q → any is_structure (lock ∷ moves) ≡ false
+      -- no page is given to the tree, where a test refuses the put
+      still : (q : Refusal) → refusal_in g at own is_half_aborted log c ≡ Some q → any grows (lock ∷ moves) ≡ false
       still q e = elim room.way [ inl same ↦ same | inr way ↦ absurd (way_passes way q e) ]
+
+      -- and where that is sure the tree is as it was: pages came, and that is all
+      sure_came : (q : Refusal) → IsSure g at c (lock ∷ moves) q → refusal_in g at own is_half_aborted log c ≡ Some q → all pages_come moves ≡ true
+      sure_came q sure e = let k = sure_room q e (lock ∷ moves) sure in
+          none_stays own key g d.events held (resides residence g xs (lock ∷ [])) making met room.makes (still q e) k.quiet k.same
+          (none_on g at held (settled_behind g at own row (may g at lock)) key (λ p. ap (λ (i : Contents). i.node) (page_at p)) k.none)
+
+      stays : (q : Refusal) → IsSure g at c (lock ∷ moves) q → refusal_in g at own is_half_aborted log c ≡ Some q → any is_structure (lock ∷ moves) ≡ false
+      stays q sure e = structure_of moves (sure_came q sure e)
 
       abbrev there : State
       there = behind_first g xs (lock ∷ moves)
@@ -313,9 +339,9 @@ module _ (l : Grounds) (residence : EveryResidence) (answers : EveryAnswer) (com
 
         -- for this reason
         refused : (why : Refusal) → is_behind_row why ≡ true → TakesRow why own (g.row_of key) happening.Mode.Alone (lock_at (g.row_of key) ∷ []) → IsCause limits g (front xs ++ (lock ∷ moves)) there (is_half (marks_by own (outcomes xs))) own c why
-            → IsRefusedFor g there own is_half_aborted log c why → ((q : Refusal) → refusal_in g at own is_half_aborted log c ≡ Some q → IsOr why q) → RefusedLogs limits g xs own c why (lock ∷ moves)
+            → HasNoneToGo g there c why → IsRefusedFor g there own is_half_aborted log c why → ((q : Refusal) → IsSure g at c (lock ∷ moves) q → refusal_in g at own is_half_aborted log c ≡ Some q → IsOr why q) → RefusedLogs limits g xs own c why (lock ∷ moves)
             → DoesTied g x.group xs own c (answer.Refused why) (memory m) n (story m.machine.work.disk) (story n.machine.work.disk)
-        refused why late tries cause is_for due logs =
+        refused why late tries cause none_goes is_for due logs =
             refused_tied l m n (story m.machine.work.disk) (story n.machine.work.disk) (lawful m.machine.work.disk) g xs workers tied halves (told.Lock own row (event_mode Alone) ∷ d.events) so_far now.logged as_many answers own c why refl low high
             (record {
               comes = (coming xs (refused_by own c why (lock ∷ moves)).outcome).new line tt;
@@ -330,9 +356,11 @@ module _ (l : Grounds) (residence : EveryResidence) (answers : EveryAnswer) (com
             (record {
               few = few_all;
               is_for = subst (λ e. IsRefusedFor g (state_after g (front xs ++ (lock ∷ moves))) own is_half_aborted log e why) (sym asks) (subst (λ s. IsRefusedFor g s own is_half_aborted log c why) end_is is_for);
-              refuses = λ q e. due q (ap (refusal_in g at own is_half_aborted log) (sym asks) ∙ e);
+              kept = subst (λ e. HasNoneToGo g (state_after g (front xs ++ (lock ∷ moves))) e why) (sym asks) (subst (λ s. HasNoneToGo g s c why) end_is none_goes);
+              refuses = λ q sure e. due q (subst (λ k. IsSure g at k (lock ∷ moves) q) asks sure) (ap (refusal_in g at own is_half_aborted log) (sym asks) ∙ e);
               still = λ q e. still q (ap (refusal_in g at own is_half_aborted log) (sym asks) ∙ e);
-              room = subst (λ e. MakesItsRoom own g at e (lock ∷ moves)) (sym asks) makes;
+              stays = λ q sure e. stays q (subst (λ k. IsSure g at k (lock ∷ moves) q) asks sure) (ap (refusal_in g at own is_half_aborted log) (sym asks) ∙ e);
+              room = subst (λ e. ChangesTree own g at e (lock ∷ moves)) (sym asks) makes;
             })
             half_all
 
@@ -349,7 +377,7 @@ module _ (l : Grounds) (residence : EveryResidence) (answers : EveryAnswer) (com
             omega arith
 
         pub put_spent : IsSpent u n → DoesTied g x.group xs own c (answer.Refused refusal.RowSpent) (memory m) n (story m.machine.work.disk) (story n.machine.work.disk)
-        put_spent s = refused refusal.RowSpent refl (inr refl) (late (tied.ties own).told s) (inr (inl refl)) (λ q e. inr (inl refl)) (pressed refusal.RowSpent tight)
+        put_spent s = refused refusal.RowSpent refl (inr refl) (late (tied.ties own).told s) tt (inr (inl refl)) (λ q sure e. inr (inl refl)) (pressed refusal.RowSpent tight)
 
         -- what else is tested there
         module _ (f : IsGoing n) where
@@ -361,11 +389,11 @@ module _ (l : Grounds) (residence : EveryResidence) (answers : EveryAnswer) (com
 
           -- the clock has come to its end
           pub put_stopped : 2 ^ 62 ≤ y.clock.clock → DoesTied g x.group xs own c (answer.Refused refusal.ClockSpent) (memory m) n (story m.machine.work.disk) (story n.machine.work.disk)
-          put_stopped spent = refused refusal.ClockSpent refl (inr refl) (let a = of_y.clock in let b = spent in omega arith) (inl (tests_there ∙ ap (λ b. cond b (Some refusal.ClockSpent) (last_in there)) (le-leb (2 ^ 62) y.clock.clock spent)))
-              (λ q e. inr (inr refl)) (pressed refusal.ClockSpent tight)
+          put_stopped spent = refused refusal.ClockSpent refl (inr refl) (let a = of_y.clock in let b = spent in omega arith) tt (inl (tests_there ∙ ap (λ b. cond b (Some refusal.ClockSpent) (last_in there)) (le-leb (2 ^ 62) y.clock.clock spent)))
+              (λ q sure e. inr (inr refl)) (pressed refusal.ClockSpent tight)
 
-          -- the leaf is full, and there can be no room
-          module _ (leaf : ℕ) (k : IsUnfit (view_of n) key leaf) (there_small : y.clock.clock < 2 ^ 62) where
+          -- the leaf is full, none of its tombstones can go, and there can be no room
+          module _ (leaf : ℕ) (k : IsUnfit (view_of n) key leaf) (there_small : y.clock.clock < 2 ^ 62) (none_goes : NoneGoes (opening (view_of n).given) (state (view_of n)).core key) where
             without : has_key key ((state (view_of n)).core.page leaf).node ≡ false
             without = ap is_some k.none
 
@@ -379,6 +407,9 @@ module _ (l : Grounds) (residence : EveryResidence) (answers : EveryAnswer) (com
             room_is : (why : Refusal) → room_refusal (opening (view_of n).given) (state (view_of n)).core key ≡ Some why → room_refusal g there key ≡ Some why
             room_is why e = ap (λ s. room_refusal g s key) (sym core_there) ∙ (sym (refusal_as (opening (view_of n).given) g format_is (state (view_of n)).core key) ∙ e)
 
+            none_there : NoneGoes g there key
+            none_there = subst (λ (s : State). NoneGoes g s key) core_there (none_as (opening (view_of n).given) g format_is (sym b2.opens.locks) (sym b2.opens.workers) (state (view_of n)).core key none_goes)
+
             taken_key : IsTaken own (g.row_of key) there
             taken_key = subst (λ i. IsTaken own i there) (sym row_is) taken_there
 
@@ -388,24 +419,24 @@ module _ (l : Grounds) (residence : EveryResidence) (answers : EveryAnswer) (com
                 ∙ (ap (λ b. cond b (room_refusal g there key) None) full_is ∙ room_is why e)))
 
             -- a test that refused it at first found the same
-            same_due : (why : Refusal) → room_refusal (opening (view_of n).given) (state (view_of n)).core key ≡ Some why → (q : Refusal) → refusal_in g at own is_half_aborted log c ≡ Some q → IsOr why q
-            same_due why e q r = inl (go (is_full_for g at key) refl (sym room_asked ∙ r))
+            same_due : (why : Refusal) → room_refusal (opening (view_of n).given) (state (view_of n)).core key ≡ Some why → (q : Refusal) → IsSure g at c (lock ∷ moves) q → refusal_in g at own is_half_aborted log c ≡ Some q → IsOr why q
+            same_due why e q sure r = inl (go (is_full_for g at key) refl (sym room_asked ∙ r))
               where
-                like : any is_structure moves ≡ false → AreLike at there
-                like same = like_then at held there (like_same at held page_at) (run_like g d.events held (resides residence g xs (lock ∷ [])) (core_paging own d.events making same))
+                like : AreLike at there
+                like = like_then at held there (like_same at held page_at) (run_came g d.events held (resides residence g xs (lock ∷ [])) (sure_came q sure r))
 
                 go : (b : Bool) → is_full_for g at key ≡ b → cond b (room_refusal g at key) None ≡ Some q → why ≡ q
-                go true full p = some_is why q (sym (room_is why e) ∙ (room_like g at there key (like (still q r)) full full_is ∙ p))
+                go true full p = some_is why q (sym (room_is why e) ∙ (room_like g at there key like full full_is ∙ p))
                 go false full p = absurd (none_is q p)
 
             pub put_tall : room_refusal (opening (view_of n).given) (state (view_of n)).core key ≡ Some refusal.TooTall → DoesTied g x.group xs own c (answer.Refused refusal.TooTall) (memory m) n (story m.machine.work.disk) (story n.machine.work.disk)
             put_tall e =
                 let r = tall_is g there key (room_is refusal.TooTall e) in
-                refused refusal.TooTall refl refl (record { leaf = is_full; all = r.0; level = r.1 }) (inl (crowded_for refusal.TooTall e)) (same_due refusal.TooTall e) (pressed refusal.TooTall tight)
+                refused refusal.TooTall refl refl (record { leaf = is_full; all = r.0; level = r.1 }) none_there (inl (crowded_for refusal.TooTall e)) (same_due refusal.TooTall e) (pressed refusal.TooTall tight)
 
             pub put_short : room_refusal (opening (view_of n).given) (state (view_of n)).core key ≡ Some refusal.NoPages → DoesTied g x.group xs own c (answer.Refused refusal.NoPages) (memory m) n (story m.machine.work.disk) (story n.machine.work.disk)
             put_short e =
-                refused refusal.NoPages refl refl (record { leaf = is_full; few = short_is g there key (room_is refusal.NoPages e) }) (inl (crowded_for refusal.NoPages e)) (same_due refusal.NoPages e) (pressed refusal.NoPages tight)
+                refused refusal.NoPages refl refl (record { leaf = is_full; few = short_is g there key (room_is refusal.NoPages e) }) none_there (inl (crowded_for refusal.NoPages e)) (same_due refusal.NoPages e) (pressed refusal.NoPages tight)
 
       -- ## Its disk fails
 
@@ -542,8 +573,22 @@ module _ (l : Grounds) (residence : EveryResidence) (answers : EveryAnswer) (com
         change_makes : MakesRoom own g at key (first ++ change ∷ [])
         change_makes = makes_join own g key at first (change ∷ []) (subst (MakesRoom own g at key) first_is makes) (tt, tt)
 
-        change_still : (q : Refusal) → refusal_in g at own is_half_aborted log c ≡ Some q → any is_structure (first ++ change ∷ []) ≡ false
-        change_still q e = any_append is_structure first (change ∷ []) (subst (λ ys. any is_structure ys ≡ false) first_is (still q e)) refl
+        change_still : (q : Refusal) → refusal_in g at own is_half_aborted log c ≡ Some q → any grows (first ++ change ∷ []) ≡ false
+        change_still q e = any_append grows first (change ∷ []) (subst (λ ys. any grows ys ≡ false) first_is (still q e)) refl
+
+        -- the events before the change are as sure
+        sure_first : (q : Refusal) → refusal_in g at own is_half_aborted log c ≡ Some q → IsSure g at c (first ++ change ∷ []) q → IsSureOfRoom g at c (lock ∷ moves)
+        sure_first q e sure = let k = sure_room q e (first ++ change ∷ []) sure in record {
+          none = k.none;
+          quiet = any_first makes_sync moves (change ∷ []) k.quiet;
+          same = elim k.same [ inl y ↦ inl y | inr unread ↦ inr (any_first is_fetch moves (change ∷ []) unread) ];
+        }
+
+        change_came : (q : Refusal) → IsSure g at c (first ++ change ∷ []) q → refusal_in g at own is_half_aborted log c ≡ Some q → all pages_come moves ≡ true
+        change_came q sure e = sure_came q (sure_as q e (lock ∷ moves) (sure_first q e sure)) e
+
+        change_stays : (q : Refusal) → IsSure g at c (first ++ change ∷ []) q → refusal_in g at own is_half_aborted log c ≡ Some q → any is_structure (first ++ change ∷ []) ≡ false
+        change_stays q sure e = any_append is_structure first (change ∷ []) (structure_of moves (change_came q sure e)) refl
 
         change_half : (w : ℕ) → 0 < w → w ≤ x.workers → (desk_of (here k.machine) k.machine.desks.items w).session.is_half_aborted ≡ (desk_of (here m.machine) m.machine.desks.items w).session.is_half_aborted
         change_half w lo hi = halves_aside story n k aside same now half_same w lo (let q = workers_here in omega arith) ∙ half_all w lo hi
@@ -554,23 +599,15 @@ module _ (l : Grounds) (residence : EveryResidence) (answers : EveryAnswer) (com
             ∙ not_full (opening (view_of n).given) (state (view_of n)).core key own a.page value (now.keeps.sound (view_of n).seen).tree a.met)
 
         -- where no leaf was read again, nor was it at first
-        unrefused : (q : Refusal) → IsSure g (first ++ change ∷ []) q → refusal_in g at own is_half_aborted log c ≡ Some q → ⊥
+        unrefused : (q : Refusal) → IsSure g at c (first ++ change ∷ []) q → refusal_in g at own is_half_aborted log c ≡ Some q → ⊥
         unrefused q sure e = go (is_full_for g at key) refl (sym room_asked ∙ e)
           where
-            narrow : (g.faithful ≡ true) ⊎ (any is_fetch (first ++ change ∷ []) ≡ false) → (g.faithful ≡ true) ⊎ (any is_fetch moves ≡ false)
-            narrow (inl y) = inl y
-            narrow (inr unread) = inr (fetch_first moves (change ∷ []) unread)
-
-            sure_moves : room_refusal g at key ≡ Some q → (g.faithful ≡ true) ⊎ (any is_fetch moves ≡ false)
-            sure_moves r = elim (room_kind g at key q r) [ inl e ↦ narrow (subst (IsSure g (first ++ change ∷ [])) e sure) | inr e ↦ narrow (subst (IsSure g (first ++ change ∷ [])) e sure) ]
+            pages_same : (i : ℕ) → there.page i ≡ at.page i
+            pages_same i = run_same g d.events held (resides residence g xs (lock ∷ [])) (change_came q sure e) (sure_first q e sure).same i ∙ page_at i
 
             go : (b : Bool) → is_full_for g at key ≡ b → cond b (room_refusal g at key) None ≡ Some q → ⊥
             go false full p = none_is q p
-            go true full p =
-                true≢false (sym full ∙ (sym (full_on g at there pages_same key) ∙ leaf_there))
-              where
-                pages_same : (i : ℕ) → there.page i ≡ at.page i
-                pages_same i = run_same g d.events held (resides residence g xs (lock ∷ [])) (core_paging own d.events making (still q e)) (sure_moves p) i ∙ page_at i
+            go true full p = true≢false (sym full ∙ (sym (full_on g at there pages_same key) ∙ leaf_there))
 
         pub put_done : HasLogs k.machine → DoesTied g x.group xs own c (answer.Was before) (memory m) k (story m.machine.work.disk) (story k.machine.work.disk)
         put_done logged = does_tied l m k (story m.machine.work.disk) (story k.machine.work.disk) (lawful m.machine.work.disk) g xs workers tied halves (told.Lock own row (event_mode Alone) ∷ (d.events ++ seen_change ∷ [])) change_whole logged
@@ -584,7 +621,9 @@ module _ (l : Grounds) (residence : EveryResidence) (answers : EveryAnswer) (com
             how = record {
               few = change_few;
               refused = λ q e. absurd (no_refusal q e);
-              refuses = λ q sure e. absurd (unrefused q sure (ap (refusal_in g at own is_half_aborted log) (sym asks) ∙ e));
+              kept = λ q e. absurd (no_refusal q e);
+              refuses = λ q sure e. absurd (unrefused q (subst (λ k. IsSure g at k (first ++ change ∷ []) q) asks sure) (ap (refusal_in g at own is_half_aborted log) (sym asks) ∙ e));
               still = λ q e. change_still q (ap (refusal_in g at own is_half_aborted log) (sym asks) ∙ e);
-              room = subst (λ e. MakesItsRoom own g at e (first ++ change ∷ [])) (sym asks) change_makes;
+              stays = λ q sure e. change_stays q (subst (λ k. IsSure g at k (first ++ change ∷ []) q) asks sure) (ap (refusal_in g at own is_half_aborted log) (sym asks) ∙ e);
+              room = subst (λ e. ChangesTree own g at e (first ++ change ∷ [])) (sym asks) change_makes;
             }

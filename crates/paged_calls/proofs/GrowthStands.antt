@@ -1,8 +1,9 @@
 -- A machine stands while the session whose turn it is changes the tree, and its log has the record; and that is a part of a call.
-use Rattle.std.proofs.Common.{◌≡◌, ◌∙◌, ◌≤◌, ◌<◌, ◌==◌, ◌||◌, ◌&&◌, inl, inr, ℕ, suc, true, false, List, [], ◌∷◌, None, ap, refl, sym, subst, arith}
+use Rattle.std.proofs.Common.{◌≡◌, ◌∙◌, ◌⊎◌, ◌≤◌, ◌<◌, ◌==◌, ◌||◌, ◌&&◌, ◌++◌, inl, inr, ℕ, suc, Bool, true, false, List, [], ◌∷◌, length, None, ap, refl, sym, subst, arith, append_assoc}
 use Rattle.std.proofs.lemmas.Bool.{and_from, and_parts, cond-false, eq-eqb}
+use Rattle.std.proofs.lemmas.List.{length-append}
 use Rattle.map_model.specs.Lists.{all, any}
-use Rattle.btree_smo.specs.Outcomes.{AreMisses}
+use Rattle.row_room.specs.btree_smo.Outcomes.{AreMisses}
 use Rattle.paged_desks.specs.core_calls.Fronts.{Done}
 use Rattle.paged_desks.proofs.core_calls.WhereLemmas.{syncs_none}
 use Rattle.paged_desks.specs.core_calls.LogEvents.{IsTight, SyncsWhere, is_log}
@@ -13,30 +14,33 @@ use Rattle.paged_desks.specs.core_state.Openings.{Opening}
 use Rattle.paged_desks.specs.core_state.States.{Place, State, is_hot, nodes_of, gsns_of}
 use Rattle.paged_desks.specs.core_state.Lists.{count_below}
 use Rattle.paged_desks.specs.core_state.Steps as core
-use Rattle.paged_desks.specs.core_state.Steps.{AllMet, at_pages, page_entry}
+use Rattle.paged_desks.specs.core_state.Steps.{AllMet, at_pages, happens, page_entry}
 use Rattle.paged_desks.specs.disk_image.Records.{entry_of}
 use Rattle.paged_desks.specs.disk_runs.Quiet.{is_quiet}
+use Rattle.paged_desks.proofs.engine_calls.MarkLemmas.{any_append, met_join}
 use Rattle.paged_desks.specs.engine_calls.Parts.{behind_first}
-use Rattle.paged_desks.specs.engine_trait.Refusals.{is_full_for, room_refusal}
-use Rattle.paged_desks.specs.engine_trait.Rooms.{IsNextRoom}
+use Rattle.paged_desks.specs.engine_trait.Refusals.{room_refusal}
+use Rattle.paged_desks.specs.session_state.tidy_rules.Rooms.{IsNextRoom, MakesRoom}
 use Rattle.paged_desks.specs.image_model.Entries.{Entry, Kind, touches, written}
 use Rattle.lean_disk.specs.Story.{IsLawful, Story}
-use Rattle.page_model.specs.Needs.{lift_record, split_record}
+use Rattle.page_model.specs.Needs.{lift_record, purge_record, split_record}
 use Rattle.paged_desks.specs.page_pool.Counts.{hot_pages}
 use Rattle.paged_desks.specs.page_pool.Pools.{EveryStanding}
-use Rattle.row_growth.specs.Rooms.{IsGrown, IsGrowth, IsSpentBehind}
+use Rattle.row_room.specs.Rooms.{IsKept, IsRoomBy, IsRoomed, TakesPage}
+use Rattle.row_room.specs.row_tidying.Outcomes.{IsSpentWithin}
 use Rattle.paged_desks.specs.row_words.declared.event.Event.{Event}
 use Rattle.paged_desks.specs.row_words.declared.event.Event.TheVariants as told
 use Rattle.paged_desks.specs.row_words.Moments.{Moment, event_of, events_of}
 use Rattle.paged_desks.specs.row_words.Openings.{opening}
+use Rattle.paged_desks.specs.rows_trait.declared.view.View.{View}
 use Rattle.paged_desks.specs.rows_trait.Views.{state}
 use Rattle.paged_desks.proofs.session_desks.DeskLemmas.{desk_own}
 use Rattle.paged_desks.proofs.session_desks.SeatLemmas.{holds_of, turn_high, turn_low}
 use Rattle.paged_desks.specs.session_desks.Parts.{SeatFits, here, shape}
 use Rattle.paged_desks.specs.session_desks.declared.desk.Desk.{Desk}
-use Rattle.paged_desks.proofs.session_state.Moments.{seen_state}
+use Rattle.paged_desks.proofs.session_state.Moments.{events_more, seen_state}
 use Rattle.paged_desks.specs.session_state.Holds.{Holds, IsSameSession}
-use Rattle.paged_desks.specs.session_state.Others.{EveryOther, is_of}
+use Rattle.paged_desks.specs.session_state.Others.{EveryOther, Steps, is_of}
 use Rattle.paged_desks.specs.session_state.Ties.{Behind}
 use Rattle.paged_desks.specs.session_state.declared.work.Work.{Work}
 use Rattle.paged_desks.specs.worker_log.Logs.{Log}
@@ -45,18 +49,19 @@ use Rattle.paged_desks.proofs.call_parts.OwnLemmas.{every_own}
 use Rattle.paged_desks.proofs.call_parts.RunLemmas.{core_is, run_core}
 use Rattle.paged_desks.specs.call_parts.Memory.{with_own}
 use Rattle.paged_desks.specs.call_parts.Parts.{Part}
-use Rattle.paged_desks.specs.call_parts.Steps.{Stages, is_entered}
+use Rattle.paged_desks.specs.call_parts.Rooms.{grows}
+use Rattle.paged_desks.specs.call_parts.Steps.{Sees, Stages, is_entered}
 use Rattle.paged_desks.specs.Calls.{IsAside, IsBeside}
 use Rattle.paged_desks.specs.Machines.{IsReady, memory, view_of}
 use Rattle.paged_desks.specs.Pages.{hot_in}
 use Rattle.paged_desks.specs.declared.machine.PagedMachine.{PagedMachine}
 use Rattle.paged_desks.proofs.AsideLemmas.{halves_aside, memory_aside}
-use Rattle.paged_desks.proofs.EndingLemmas.{Grounds}
+use Rattle.paged_desks.proofs.EndingLemmas.{Grounds, grows_none}
 use Rattle.paged_desks.proofs.StandLemmas.{halves_are, ready_on}
-use Rattle.paged_calls.specs.Growths.{HasMade, IsRoom, is_making}
+use Rattle.paged_calls.specs.Growths.{HasMade, HasWay, IsRoom, is_making}
 use Rattle.paged_calls.proofs.ChangeSteps.{beside_of}
-use Rattle.paged_calls.proofs.MadeLemmas.{makes_none}
-use Rattle.paged_calls.proofs.PieceLemmas.{as_beside, steps_at}
+use Rattle.paged_calls.proofs.MadeLemmas.{all_append, makes_join, makes_none}
+use Rattle.paged_calls.proofs.PieceLemmas.{as_beside, joins_at, steps_at}
 use Rattle.paged_calls.proofs.RecordStands.{Enters, clock_met, other_page, ready_entered}
 use Rattle.paged_calls.proofs.WayLemmas.{next_as, refusal_as, way_of}
 
@@ -136,120 +141,73 @@ lift_of own c g s met = record {
         let b = and_parts (is_hot (s.place c)) true a.1 in
         (λ j. other_page s 0 p a.0 cold j || ((c == p) || false)) ∙ (λ j. other_page s c p b.0 cold j || false)
 
-growth_of : (own : ℕ) (g : Opening) (s : State) (e : Event) → IsGrowth own e → may g s (event_of e) ≡ true → IsOf own g s e
+purge_of : (own q : ℕ) (keys : List ℕ) (g : Opening) (s : State) → may g s (happening.Event.Purge own q keys) ≡ true → IsOf own g s (told.Purge own q keys)
+purge_of own q keys g s met = record {
+  entry = x;
+  enters = record {
+    of_own = eq-eqb own own refl;
+    entries = refl;
+    kind = refl;
+    log = refl;
+    number = one_more (s.worker own).clock (at_pages s own (s.worker own) (q ∷ [])).clock (clock_met s own (s.worker own) (q ∷ []));
+    queue = refl;
+    epoch = refl;
+    place = refl;
+    saved = refl;
+    flushed = refl;
+    inside = refl;
+    page = λ p cold. cond-false (touches p x) (written x p (s.page p)) (s.page p) (λ j. other_page s q p hot cold j || false);
+  };
+}
+  where
+    x : Entry
+    x = page_entry Kind.Purge s own (at_pages s own (s.worker own) (q ∷ [])) (q ∷ []) (purge_record (gsns_of s) q keys)
+
+    hot : is_hot (s.place q) ≡ true
+    hot = (and_parts (is_hot (s.place q)) true (pages_hot g s (happening.Event.Purge own q keys) (q ∷ []) met)).0
+
+growth_of : (own : ℕ) (g : Opening) (s : State) (e : Event) → IsRoomBy own e → may g s (event_of e) ≡ true → IsOf own g s e
+growth_of own g s (told.Purge w p keys) k met = subst (λ n. IsOf n g s (told.Purge w p keys)) k (purge_of w p keys g s met)
 growth_of own g s (told.Split w l r q i) k met = subst (λ n. IsOf n g s (told.Split w l r q i)) k (split_of w l r q i g s met)
 growth_of own g s (told.Lift w c) k met = subst (λ n. IsOf n g s (told.Lift w c)) k (lift_of w c g s met)
 growth_of own g s _ k met = absurd k
 
 -- ## What kind of event it is
 
-making_growth : (own : ℕ) (e : Event) → IsGrowth own e → is_making own e ≡ true
+making_growth : (own : ℕ) (e : Event) → IsRoomBy own e → is_making own e ≡ true
+making_growth own (told.Purge w p keys) k = eq-eqb w own k
 making_growth own (told.Split w l r q i) k = eq-eqb w own k
 making_growth own (told.Lift w c) k = eq-eqb w own k
 making_growth own _ k = absurd k
 
-entered_growth : (own : ℕ) (e : Event) → IsGrowth own e → is_entered own (event_of e) ≡ true
+entered_growth : (own : ℕ) (e : Event) → IsRoomBy own e → is_entered own (event_of e) ≡ true
+entered_growth own (told.Purge w p keys) k = eq-eqb w own k
 entered_growth own (told.Split w l r q i) k = eq-eqb w own k
 entered_growth own (told.Lift w c) k = eq-eqb w own k
 entered_growth own _ k = absurd k
 
-no_sync : (own : ℕ) (e : Event) → IsGrowth own e → (P : State → Type 0) (g : Opening) (s : State) → SyncsWhere P g s false (event_of e ∷ [])
-no_sync own (told.Split w l r q i) k P g s = tt
-no_sync own (told.Lift w c) k P g s = tt
-no_sync own _ k P g s = absurd k
+no_log : (own : ℕ) (e : Event) → IsRoomBy own e → is_log (event_of e) ≡ false
+no_log own (told.Purge w p keys) k = refl
+no_log own (told.Split w l r q i) k = refl
+no_log own (told.Lift w c) k = refl
+no_log own _ k = absurd k
 
-full_growth : (own : ℕ) (e : Event) → IsGrowth own e → (g : Opening) (s : State) (key : ℕ) → IsNextRoom own g s key (event_of e) → is_full_for g s key ≡ true
-full_growth own (told.Split w l r q i) k g s key n = n.1
-full_growth own (told.Lift w c) k g s key n = n.1
-full_growth own _ k g s key n = absurd k
+-- where a page was given to the tree there was a way
+growth_way : (own : ℕ) (e : Event) → IsRoomBy own e → (g : Opening) (s : State) (key : ℕ) → IsNextRoom own g s key (event_of e) → (before now : List ℕ) → TakesPage e before now (room_refusal g s key ≡ None) → (grows (event_of e) ≡ false) ⊎ HasWay g s key
+growth_way own (told.Purge w p keys) k g s key n before now t = inl refl
+growth_way own (told.Split w l r q i) k g s key n before now t = inr (way_of g s key n.1.1 t.1)
+growth_way own (told.Lift w c) k g s key n before now t = inr (way_of g s key n.1.1 t.1)
+growth_way own _ k g s key n before now t = absurd k
+
+-- of what comes of the free pages this alone hangs on the state
+takes_as : (e : Event) (before now : List ℕ) (P Q : Type 0) → (P → Q) → TakesPage e before now P → TakesPage e before now Q
+takes_as (told.Purge w p keys) before now P Q f t = t
+takes_as _ before now P Q f t = (t.0, f t.1)
 
 same_head : (a b : Entry) (ps : List Entry) → a ∷ ps ≡ b ∷ ps → a ≡ b
 same_head a b ps q = cc
 
--- ## A machine behind it
-
-module _ (l : Grounds) {D : Type 0} (story : D → Story) (m n : PagedMachine D) (a : IsAside m n) (same : IsSameSession m.machine.work.session n.machine.work.session) (ready : IsReady story m) (key : ℕ)
-    (c : IsGrown key (view_of m) (view_of n) m.machine.work.session n.machine.work.session m.machine.work.log n.machine.work.log (story m.machine.work.disk) (story n.machine.work.disk)) where
-  abbrev own : ℕ
-  own = m.machine.work.session.own
-
-  abbrev many : ℕ
-  many = m.machine.work.session.workers
-
-  abbrev s : State
-  s = (state (view_of m)).core
-
-  abbrev g : Opening
-  g = opening (view_of m).given
-
-  f : IsOf own g s c.event
-  f = growth_of own g s c.event c.growth c.met
-
-  number : c.entry.gsn ≡ f.entry.number
-  number = ap (λ (x : Entry). x.number) (sym (same_head f.entry (entry_of own c.entry) s.entries (sym f.enters.entries ∙ c.entry_is)))
-
-  pub ready_grown : EveryOther → EveryStanding → SeatFits n.machine → n.machine.work.session.works ≡ true → Holds (shape n.machine) (view_of n) n.machine.work.session n.machine.work.log → IsReady story n
-  ready_grown law standing fits works holds = ready_entered story m n a same ready law standing c.event f.entry c.given c.seen c.met f.enters c.entry number c.after c.keeps fits works holds
-
-  -- ## As a part of a call
-
-  low : 0 < own
-  low = turn_low (shape m.machine) (view_of m) (here m.machine) m.machine.desks.items ready.sound.desks
-
-  high : own ≤ many
-  high = turn_high (shape m.machine) (view_of m) (here m.machine) m.machine.desks.items ready.sound.desks
-
-  log_is : (memory m).log own ≡ m.machine.work.log
-  log_is = ap (λ (d : Desk). d.log) (desk_own (here m.machine) m.machine.desks.items own refl)
-
-  workers_in : g.workers ≡ many
-  workers_in = (holds_of (shape m.machine) (view_of m) (here m.machine) m.machine.desks.items ready.sound.desks).rows.workers
-
-  part : Part many (c.event ∷ []) (view_of m) (view_of n) (memory m) (memory n) (story m.machine.work.disk) (story n.machine.work.disk)
-  part = (every_memory (story m.machine.work.disk) (story n.machine.work.disk) many (view_of m) (view_of n) (memory m) (with_own own n.machine.work.log (memory m)) (memory m) (memory n) workers_in (record { log = λ w lo hi. refl; master = refl; slots = refl })
-      (memory_aside story m n a same ready)).part (c.event ∷ [])
-      ((every_own l.reached l.needs (story m.machine.work.disk) (story n.machine.work.disk) many own (view_of m) (view_of n) (memory m) n.machine.work.log low high workers_in).stage c.event
-      (subst (λ (q : Log). Stages own c.event (view_of m) (view_of n) q n.machine.work.log (story m.machine.work.disk) (story n.machine.work.disk)) (sym log_is) (record {
-        sees = record { given = c.given; seen = c.seen; met = (c.met, tt) };
-        entry = c.entry;
-        enters = record { of_own = entered_growth own c.event c.growth; entry_is = c.entry_is };
-        after = c.after;
-        stands = c.stands;
-        keeps = c.keeps;
-      })))
-
-  hot_same : hot_in n ≡ hot_in m
-  hot_same = (λ i. hot_pages (opening (c.given i)) (state (view_of n)).core) ∙ ap (λ (place : ℕ → Place). count_below g.format.pages (λ p. is_hot (place p))) c.stays
-
-  room : (h : Opening) (xs : List Done) (first : List happening.Event) → Behind h xs first (view_of m) → IsRoom own key h (behind_first h xs first) (event_of c.event ∷ [])
-  room h xs first b = record { makes = (next, tt); way = inr (way_of h (behind_first h xs first) key (full_growth own c.event c.growth h (behind_first h xs first) key next) fits) }
-    where
-      format_is : g.format ≡ h.format
-      format_is = sym b.opens.format
-
-      core_at : s ≡ behind_first h xs first
-      core_at = core_is l.reached l.needs h xs first (view_of m) b
-
-      next : IsNextRoom own h (behind_first h xs first) key (event_of c.event)
-      next = subst (λ (t : State). IsNextRoom own h t key (event_of c.event)) core_at (next_as g h format_is s key own (event_of c.event) c.next)
-
-      fits : room_refusal h (behind_first h xs first) key ≡ None
-      fits = ap (λ (t : State). room_refusal h t key) (sym core_at) ∙ (sym (refusal_as g h format_is s key) ∙ c.fits)
-
-  pub made_grown : n.machine.work.session.is_half_aborted ≡ m.machine.work.session.is_half_aborted → HasMade story key 1 m n
-  made_grown half = record {
-    events = c.event ∷ [];
-    making = and_from (is_making own c.event) true (making_growth own c.event c.growth) refl;
-    few = let e = hot_same in omega arith;
-    part = part;
-    tight = λ h xs first b. no_sync own c.event c.growth (λ t. IsTight h t key) h (behind_first h xs first);
-    room = room;
-    same = (same.1, same.2);
-    turn = same.0;
-    halves = λ w lo hi. halves_aside story m n a same ready half w lo hi;
-  }
-
--- ## A row that is spent
+-- ## Misses
 
 miss_making : (own : ℕ) (es : List Event) → AreMisses es → all (is_making own) es ≡ true
 miss_making _ [] k = refl
@@ -286,8 +244,194 @@ miss_own _ [] k = refl
 miss_own own (told.Miss w ∷ es) k = miss_own own es k
 miss_own _ (_ ∷ es) k = absurd k
 
+-- nothing was seen but those, at most so many
+pub record IsMissed (most : ℕ) (v w : View) : Type 0 where
+  pub misses : List Event
+  pub are_misses : AreMisses misses
+  pub few : length misses ≤ most
+  pub given : w.given ≡ v.given
+  pub seen : w.seen ≡ v.seen ++ misses
+
+pub missed_kept : (key : ℕ) (v w : View) → IsKept key v w → IsMissed 61 v w
+missed_kept key v w k = record { misses = k.misses; are_misses = k.are_misses; few = k.few; given = k.given; seen = k.seen }
+
+pub missed_spent : (most : ℕ) (v w : View) → IsSpentWithin most v w → IsMissed most v w
+missed_spent most v w k = record { misses = k.misses; are_misses = k.are_misses; few = k.few; given = k.given; seen = k.seen }
+
+-- so it stands at the same state
+missed_state : (v w : View) (es : List Event) → AreMisses es → w.given ≡ v.given → w.seen ≡ v.seen ++ es → (state w).core ≡ (state v).core
+missed_state v w es k given seen = ap (λ (x : Moment). x.core) (seen_state v w es given seen) ∙ (run_core v.given (state v) es ∙ miss_run (opening v.given) (state v).core es k)
+
+pub missed_core : (most : ℕ) (v w : View) → IsMissed most v w → (state w).core ≡ (state v).core
+missed_core most v w q = missed_state v w q.misses q.are_misses q.given q.seen
+
+sees_misses : (v w : View) (es : List Event) → AreMisses es → w.given ≡ v.given → w.seen ≡ v.seen ++ es → Sees es v w
+sees_misses v w es k given seen = record { given = given; seen = seen; met = miss_met (opening v.given) (state v).core es k }
+
+-- ## Room that was made, with misses before it and behind it
+
+module _ (own key : ℕ) (g : Opening) (s : State) (first later : List Event) (are_first : AreMisses first) (are_later : AreMisses later) (e : Event) where
+  abbrev all_of : List Event
+  all_of = first ++ e ∷ later
+
+  all_is : events_of all_of ≡ events_of first ++ event_of e ∷ events_of later
+  all_is = events_more first (e ∷ later)
+
+  with_misses : (f : happening.Event → Bool) → any f (events_of first) ≡ false → any f (events_of later) ≡ false → f (event_of e) ≡ false → any f (events_of all_of) ≡ false
+  with_misses f a b c = ap (λ es. any f es) all_is ∙ any_append f (events_of first) (event_of e ∷ events_of later) a ((λ i. c i || any f (events_of later)) ∙ b)
+
+  makes_all : IsNextRoom own g s key (event_of e) → MakesRoom own g s key (events_of all_of)
+  makes_all next = subst (λ es. MakesRoom own g s key es) (sym all_is) (makes_join own g key s (events_of first) (event_of e ∷ events_of later) (makes_none own g key s (events_of first) (miss_structure first are_first))
+      (subst (λ (t : State). MakesRoom own g t key (event_of e ∷ events_of later)) (sym (miss_run g s first are_first)) (next, makes_none own g key (core.step g s (event_of e)) (events_of later) (miss_structure later are_later))))
+
+  room_all : IsNextRoom own g s key (event_of e) → (grows (event_of e) ≡ false) ⊎ HasWay g s key → IsRoom own key g s (events_of all_of)
+  room_all next way = record {
+    makes = makes_all next;
+    way = elim way [
+      | inl none ↦ inl (with_misses grows (grows_none (events_of first) (miss_structure first are_first)) (grows_none (events_of later) (miss_structure later are_later)) none)
+      | inr there ↦ inr there
+    ];
+  }
+
+  met_all : may g s (event_of e) ≡ true → AllMet g s (events_of all_of)
+  met_all met = subst (AllMet g s) (sym all_is) (met_join g s (events_of first) (event_of e ∷ events_of later) (miss_met g s first are_first)
+      (subst (λ (t : State). AllMet g t (event_of e ∷ events_of later)) (sym (miss_run g s first are_first)) (met, miss_met g (core.step g s (event_of e)) later are_later)))
+
+  own_all : is_of own e ≡ true → all (is_of own) all_of ≡ true
+  own_all is = all_append (is_of own) first (e ∷ later) (miss_own own first are_first) (and_from (is_of own e) (all (is_of own) later) is (miss_own own later are_later))
+
+  making_all : is_making own e ≡ true → all (is_making own) all_of ≡ true
+  making_all is = all_append (is_making own) first (e ∷ later) (miss_making own first are_first) (and_from (is_making own e) (all (is_making own) later) is (miss_making own later are_later))
+
+  tight_all : (P : State → Type 0) → is_log (event_of e) ≡ false → SyncsWhere P g s false (events_of all_of)
+  tight_all P none = syncs_none P g (events_of all_of) s (with_misses is_log (miss_log first are_first) (miss_log later are_later) none)
+
+-- ## A machine behind it
+
+module _ (l : Grounds) {D : Type 0} (story : D → Story) (m n : PagedMachine D) (a : IsAside m n) (same : IsSameSession m.machine.work.session n.machine.work.session) (ready : IsReady story m) (key : ℕ)
+    (c : IsRoomed key (view_of m) (view_of n) m.machine.work.session n.machine.work.session m.machine.work.log n.machine.work.log (story m.machine.work.disk) (story n.machine.work.disk)) where
+  abbrev own : ℕ
+  own = m.machine.work.session.own
+
+  abbrev many : ℕ
+  many = m.machine.work.session.workers
+
+  abbrev v : View
+  v = view_of m
+
+  abbrev s : State
+  s = (state v).core
+
+  abbrev g : Opening
+  g = opening v.given
+
+  abbrev events : List Event
+  events = c.first ++ c.event ∷ c.later
+
+  f : IsOf own g s c.event
+  f = growth_of own g s c.event c.by c.met
+
+  number : c.entry.gsn ≡ f.entry.number
+  number = ap (λ (x : Entry). x.number) (sym (same_head f.entry (entry_of own c.entry) s.entries (sym f.enters.entries ∙ c.entry_is)))
+
+  steps : Steps own v (view_of n)
+  steps = record { events = events; given = c.given; seen = c.seen; are_own = own_all own key g s c.first c.later c.are_first c.are_later c.event f.enters.of_own; met = met_all own key g s c.first c.later c.are_first c.are_later c.event c.met }
+
+  pub ready_grown : EveryOther → EveryStanding → SeatFits n.machine → n.machine.work.session.works ≡ true → Holds (shape n.machine) (view_of n) n.machine.work.session n.machine.work.log → IsReady story n
+  ready_grown law standing fits works holds = ready_entered story m n a same ready law standing c.event f.entry c.given steps c.happened f.enters c.entry number c.after c.keeps fits works holds
+
+  -- ## As a part of a call
+
+  low : 0 < own
+  low = turn_low (shape m.machine) (view_of m) (here m.machine) m.machine.desks.items ready.sound.desks
+
+  high : own ≤ many
+  high = turn_high (shape m.machine) (view_of m) (here m.machine) m.machine.desks.items ready.sound.desks
+
+  log_is : (memory m).log own ≡ m.machine.work.log
+  log_is = ap (λ (d : Desk). d.log) (desk_own (here m.machine) m.machine.desks.items own refl)
+
+  workers_in : g.workers ≡ many
+  workers_in = (holds_of (shape m.machine) (view_of m) (here m.machine) m.machine.desks.items ready.sound.desks).rows.workers
+
+  -- behind the first misses, and behind the event
+  abbrev v1 : View
+  v1 = record v { seen = v.seen ++ c.first }
+
+  abbrev v2 : View
+  v2 = record v { seen = (v.seen ++ c.first) ++ c.event ∷ [] }
+
+  core_1 : (state v1).core ≡ s
+  core_1 = missed_state v v1 c.first c.are_first refl refl
+
+  met_1 : may g (state v1).core (event_of c.event) ≡ true
+  met_1 = ap (λ (t : State). may g t (event_of c.event)) core_1 ∙ c.met
+
+  entered_1 : (happens g (state v1).core (event_of c.event)).entries ≡ entry_of own c.entry ∷ (state v1).core.entries
+  entered_1 = subst (λ (t : State). (happens g t (event_of c.event)).entries ≡ entry_of own c.entry ∷ t.entries) (sym core_1) c.entry_is
+
+  module _ (lawful : (d : D) → IsLawful (story d)) where
+    before : Part many c.first v v1 (memory m) (memory m) (story m.machine.work.disk) (story m.machine.work.disk)
+    before = (steps_at l story lawful m.machine.work.disk many v v1 (memory m)).rest c.first (sees_misses v v1 c.first c.are_first refl refl) (miss_quiet c.first c.are_first)
+
+    staged : Part many (c.event ∷ []) v1 v2 (memory m) (memory n) (story m.machine.work.disk) (story n.machine.work.disk)
+    staged = (every_memory (story m.machine.work.disk) (story n.machine.work.disk) many v1 v2 (memory m) (with_own own n.machine.work.log (memory m)) (memory m) (memory n) workers_in (record { log = λ w lo hi. refl; master = refl; slots = refl })
+        (memory_aside story m n a same ready)).part (c.event ∷ [])
+        ((every_own l.reached l.needs (story m.machine.work.disk) (story n.machine.work.disk) many own v1 v2 (memory m) n.machine.work.log low high workers_in).stage c.event
+        (subst (λ (q : Log). Stages own c.event v1 v2 q n.machine.work.log (story m.machine.work.disk) (story n.machine.work.disk)) (sym log_is) (record {
+          sees = record { given = refl; seen = refl; met = (met_1, tt) };
+          entry = c.entry;
+          enters = record { of_own = entered_growth own c.event c.by; entry_is = entered_1 };
+          after = c.after;
+          stands = c.stands;
+          keeps = c.keeps;
+        })))
+
+    seen_2 : (view_of n).seen ≡ v2.seen ++ c.later
+    seen_2 = c.seen ∙ (sym (append_assoc v.seen c.first (c.event ∷ c.later)) ∙ sym (append_assoc (v.seen ++ c.first) (c.event ∷ []) c.later))
+
+    behind : Part many c.later v2 (view_of n) (memory n) (memory n) (story n.machine.work.disk) (story n.machine.work.disk)
+    behind = (steps_at l story lawful n.machine.work.disk many v2 (view_of n) (memory n)).rest c.later (sees_misses v2 (view_of n) c.later c.are_later c.given seen_2) (miss_quiet c.later c.are_later)
+
+    part : Part many events v (view_of n) (memory m) (memory n) (story m.machine.work.disk) (story n.machine.work.disk)
+    part = (joins_at l story lawful m.machine.work.disk m.machine.work.disk n.machine.work.disk many c.first v v1 (view_of n) (memory m) (memory m) (memory n)).join (c.event ∷ c.later) before
+        ((joins_at l story lawful m.machine.work.disk n.machine.work.disk n.machine.work.disk many (c.event ∷ []) v1 v2 (view_of n) (memory m) (memory n) (memory n)).join c.later staged behind)
+
+  hot_same : hot_in n ≡ hot_in m
+  hot_same = (λ i. hot_pages (opening (c.given i)) (state (view_of n)).core) ∙ ap (λ (place : ℕ → Place). count_below g.format.pages (λ p. is_hot (place p))) c.stays
+
+  room : (h : Opening) (xs : List Done) (first : List happening.Event) → Behind h xs first (view_of m) → IsRoom own key h (behind_first h xs first) (events_of events)
+  room h xs first b = room_all own key h (behind_first h xs first) c.first c.later c.are_first c.are_later c.event next
+      (growth_way own c.event c.by h (behind_first h xs first) key next m.machine.work.session.free n.machine.work.session.free
+      (takes_as c.event m.machine.work.session.free n.machine.work.session.free (room_refusal g s key ≡ None) (room_refusal h (behind_first h xs first) key ≡ None) fits c.free))
+    where
+      format_is : g.format ≡ h.format
+      format_is = sym b.opens.format
+
+      core_at : s ≡ behind_first h xs first
+      core_at = core_is l.reached l.needs h xs first (view_of m) b
+
+      next : IsNextRoom own h (behind_first h xs first) key (event_of c.event)
+      next = subst (λ (t : State). IsNextRoom own h t key (event_of c.event)) core_at (next_as g h format_is s key (sym b.opens.locks) (sym b.opens.workers) own (event_of c.event) c.next)
+
+      fits : room_refusal g s key ≡ None → room_refusal h (behind_first h xs first) key ≡ None
+      fits e = ap (λ (t : State). room_refusal h t key) (sym core_at) ∙ (sym (refusal_as g h format_is s key) ∙ e)
+
+  pub made_grown : ((d : D) → IsLawful (story d)) → n.machine.work.session.is_half_aborted ≡ m.machine.work.session.is_half_aborted → HasMade story key 62 m n
+  made_grown lawful half = record {
+    events = events;
+    making = making_all own key g s c.first c.later c.are_first c.are_later c.event (making_growth own c.event c.by);
+    few = let e = hot_same in let k = c.few in let j = length-append c.first (c.event ∷ c.later) in omega arith;
+    part = part lawful;
+    tight = λ h xs first b. tight_all own key h (behind_first h xs first) c.first c.later c.are_first c.are_later c.event (λ t. IsTight h t key) (no_log own c.event c.by);
+    room = room;
+    same = (same.1, same.2);
+    turn = same.0;
+    halves = λ w lo hi. halves_aside story m n a same ready half w lo hi;
+  }
+
 -- rows were given up as they stood
-module _ (l : Grounds) {D : Type 0} (story : D → Story) (lawful : (d : D) → IsLawful (story d)) (m n : PagedMachine D) (a : IsAside m n) (key : ℕ) (q : IsSpentBehind (view_of m) (view_of n)) (e : n.machine.work ≡ m.machine.work) where
+module _ (l : Grounds) {D : Type 0} (story : D → Story) (lawful : (d : D) → IsLawful (story d)) (m n : PagedMachine D) (a : IsAside m n) (key most : ℕ) (q : IsMissed most (view_of m) (view_of n)) (e : n.machine.work ≡ m.machine.work) where
   b : IsBeside m n
   b = beside_of m n a (ap (λ (k : Work D). k.log) e) (ap (λ (k : Work D). k.disk) e)
 
@@ -295,7 +439,7 @@ module _ (l : Grounds) {D : Type 0} (story : D → Story) (lawful : (d : D) → 
   own_is = ap (λ (k : Work D). k.session.own) e
 
   core_same : (state (view_of n)).core ≡ (state (view_of m)).core
-  core_same = ap (λ (x : Moment). x.core) (seen_state (view_of m) (view_of n) q.misses q.given q.seen) ∙ (run_core (view_of m).given (state (view_of m)) q.misses ∙ miss_run (opening (view_of m).given) (state (view_of m)).core q.misses q.are_misses)
+  core_same = missed_core most (view_of m) (view_of n) q
 
   hot_still : hot_in n ≡ hot_in m
   hot_still i = hot_pages (opening (q.given i)) (core_same i)
@@ -306,7 +450,7 @@ module _ (l : Grounds) {D : Type 0} (story : D → Story) (lawful : (d : D) → 
       fits (ap (λ (k : Work D). k.session.works) e ∙ ready.works) (own_is, ap (λ (k : Work D). k.session.workers) e, ap (λ (k : Work D). k.session.group) e)
       (record { events = q.misses; given = q.given; seen = q.seen; are_own = miss_own m.machine.work.session.own q.misses q.are_misses; met = miss_met (opening (view_of m).given) (state (view_of m)).core q.misses q.are_misses }) holds
 
-  pub made_missed : HasMade story key 8 m n
+  pub made_missed : HasMade story key most m n
   made_missed = record {
     events = q.misses;
     making = miss_making m.machine.work.session.own q.misses q.are_misses;
@@ -315,7 +459,7 @@ module _ (l : Grounds) {D : Type 0} (story : D → Story) (lawful : (d : D) → 
         ((steps_at l story lawful m.machine.work.disk m.machine.work.session.workers (view_of m) (view_of n) (memory m)).rest q.misses
         (record { given = q.given; seen = q.seen; met = miss_met (opening (view_of m).given) (state (view_of m)).core q.misses q.are_misses }) (miss_quiet q.misses q.are_misses));
     tight = λ h xs first c. syncs_none (λ t. IsTight h t key) h (events_of q.misses) (behind_first h xs first) (miss_log q.misses q.are_misses);
-    room = λ h xs first c. record { makes = makes_none m.machine.work.session.own h key (behind_first h xs first) (events_of q.misses) (miss_structure q.misses q.are_misses); way = inl (miss_structure q.misses q.are_misses) };
+    room = λ h xs first c. record { makes = makes_none m.machine.work.session.own h key (behind_first h xs first) (events_of q.misses) (miss_structure q.misses q.are_misses); way = inl (grows_none (events_of q.misses) (miss_structure q.misses q.are_misses)) };
     same = (ap (λ (k : Work D). k.session.workers) e, ap (λ (k : Work D). k.session.group) e);
     turn = own_is;
     halves = λ w lo hi. halves_are story m n b own_is (ap (λ (k : Work D). k.session.is_half_aborted) e) w;

@@ -28,7 +28,6 @@ use Rattle.paged_desks.specs.engine_calls.Refused.{IsRefusal, TakesRows, refused
 use Rattle.paged_desks.specs.engine_trait.Calls.{call_behind, is_half_done}
 use Rattle.paged_desks.specs.engine_trait.Limits.{limits}
 use Rattle.paged_desks.specs.engine_trait.Refusals.{IsRefusedFor, refusal_in}
-use Rattle.paged_desks.specs.engine_trait.Rooms.{IsNextRoom, MakesItsRoom, MakesRoom}
 use Rattle.paged_desks.specs.key_locks.declared.mode.Mode.{Mode}
 use Rattle.paged_desks.specs.key_locks.Rows.{event_mode}
 use Rattle.lean_disk.specs.Story.{IsLawful, Story}
@@ -43,20 +42,21 @@ use Rattle.paged_desks.specs.session_desks.Parts.{AreAsMany, HasLogs, here, shap
 use Rattle.paged_desks.specs.session_desks.declared.desk.Desk.{Desk}
 use Rattle.paged_desks.specs.session_state.Holds.{Holds}
 use Rattle.paged_desks.specs.session_state.Ties.{Behind}
+use Rattle.paged_desks.specs.session_state.tidy_rules.Rooms.{IsNextRoom, MakesRoom}
 use Rattle.paged_desks.specs.session_state.declared.session.Session.{Session}
 use Rattle.paged_desks.specs.worker_log.Logs.{Log}
 use Rattle.paged_desks.proofs.call_parts.EndLemmas.{most_least}
 use Rattle.paged_desks.proofs.call_parts.RunLemmas.{behind_more, core_is}
-use Rattle.paged_desks.specs.call_parts.Deeds.{Fails}
+use Rattle.paged_desks.specs.call_parts.Deeds.{Fails, HasNoneToGo}
 use Rattle.paged_desks.specs.call_parts.Memory.{Memory}
 use Rattle.paged_desks.specs.call_parts.Parts.{Failed, Part}
-use Rattle.paged_desks.specs.call_parts.Rooms.{AreRoom, IsRoomFor, looks}
+use Rattle.paged_desks.specs.call_parts.Rooms.{AreRoom, ChangesTree, IsRoomFor, looks}
 use Rattle.paged_desks.specs.Machines.{IsReady, memory, view_of}
 use Rattle.paged_desks.specs.Parts.{IsSpent, StandsNowhere, most_a_way}
 use Rattle.paged_desks.specs.declared.machine.PagedMachine.{PagedMachine}
 use Rattle.paged_desks.specs.Calls.{AreHalf, DoesTied, StandsNot, Tied}
 use Rattle.paged_calls.specs.Steps.{FailsWarm, HasCome, HasTaken}
-use Rattle.paged_desks.proofs.EndingLemmas.{IsAnswerTo, IsOr, begins, fails_by, line_call, refused_tied}
+use Rattle.paged_desks.proofs.EndingLemmas.{IsAnswerTo, IsOr, begins, fails_by, grows_none, line_call, refused_tied}
 use Rattle.paged_calls.proofs.EventLemmas.{length_events, locked_room, paging_steps, paging_structure, room_of, structure_of}
 use Rattle.paged_desks.proofs.HalfLates.{half_late}
 use Rattle.paged_desks.proofs.EndingLemmas.{Grounds}
@@ -136,7 +136,7 @@ module _ (g : Opening) (xs : List Done) (own : ℕ) where
   makes_none s key (e ∷ es) h = (next_room s key e (first_false (is_structure e) (any is_structure es) h), makes_none (step g s e) key es (second_false (is_structure e) (any is_structure es) h))
 
   -- the tree is as it was
-  pub room_none : (c : Call) (key : ℕ) (mode : happening.Mode) → IsOfKey c key mode → (s : State) (es : List happening.Event) → any is_structure es ≡ false → MakesItsRoom own g s c es
+  pub room_none : (c : Call) (key : ℕ) (mode : happening.Mode) → IsOfKey c key mode → (s : State) (es : List happening.Event) → any is_structure es ≡ false → ChangesTree own g s c es
   room_none (call.Get k) key mode e s es h = h
   room_none (call.Put k value) key mode e s es h = makes_none s k es h
   room_none (call.Del k) key mode e s es h = h
@@ -210,14 +210,16 @@ module _ (l : Grounds) (answers : EveryAnswer) (coming : EveryComing) {D : Type 
 
   -- ## It is refused
 
-  pub shown : (why : Refusal) (es : List happening.Event) → length es ≤ 2 ^ 18 → IsRefusedFor g (state_after g (front xs ++ es)) own (is_half_done own xs) log c why → ((q : Refusal) → refusal_in g at own (is_half_done own xs) log c ≡ Some q → IsOr why q)
+  pub shown : (why : Refusal) (es : List happening.Event) → length es ≤ 2 ^ 18 → ((s : State) (d : Call) → HasNoneToGo g s d why) → IsRefusedFor g (state_after g (front xs ++ es)) own (is_half_done own xs) log c why → ((q : Refusal) → refusal_in g at own (is_half_done own xs) log c ≡ Some q → IsOr why q)
       → any is_structure es ≡ false → IsAnswerTo g xs own c why es log
-  shown why es few is_for refuses structure = record {
+  shown why es few kept is_for refuses structure = record {
     few = let a = few in let b = most_least c in omega arith;
     is_for = subst (λ d. IsRefusedFor g (state_after g (front xs ++ es)) own (is_half_done own xs) log d why) (sym asks) is_for;
-    refuses = λ q e. refuses q (ap (refusal_in g at own (is_half_done own xs) log) (sym asks) ∙ e);
-    still = λ q e. structure;
-    room = subst (λ d. MakesItsRoom own g at d es) (sym asks) (room_none g xs own c key how_held of_key at es structure);
+    kept = kept (state_after g (front xs ++ es)) (call_behind (outcomes xs) c);
+    refuses = λ q sure e. refuses q (ap (refusal_in g at own (is_half_done own xs) log) (sym asks) ∙ e);
+    still = λ q e. grows_none es structure;
+    stays = λ q sure e. structure;
+    room = subst (λ d. ChangesTree own g at d es) (sym asks) (room_none g xs own c key how_held of_key at es structure);
   }
 
   pub is_refusal : (why : Refusal) (es : List happening.Event) → AllMet g at es → TakesRows own (keep is_step es) → TakesRow why own (g.row_of key) how_held (keep is_step es) → any is_structure es ≡ false
@@ -237,12 +239,12 @@ module _ (l : Grounds) (answers : EveryAnswer) (coming : EveryComing) {D : Type 
   module _ (n : PagedMachine D) (part : Part x.workers [] v (view_of n) (memory m) (memory n) (story m.machine.work.disk) (story n.machine.work.disk)) (logged : HasLogs n.machine) (as_many : AreAsMany m.machine n.machine)
       (same : (w : ℕ) → 0 < w → w ≤ x.workers → (desk_of (here n.machine) n.machine.desks.items w).session.is_half_aborted ≡ (desk_of (here m.machine) m.machine.desks.items w).session.is_half_aborted) where
     pub refused_now : (why : Refusal) → TakesRow why own (g.row_of key) how_held [] → IsCause limits g (front xs ++ []) at (is_half (marks_by own (outcomes xs))) own c why
-        → IsRefusedFor g at own (is_half_done own xs) log c why → ((q : Refusal) → refusal_in g at own (is_half_done own xs) log c ≡ Some q → IsOr why q)
+        → ((s : State) (d : Call) → HasNoneToGo g s d why) → IsRefusedFor g at own (is_half_done own xs) log c why → ((q : Refusal) → refusal_in g at own (is_half_done own xs) log c ≡ Some q → IsOr why q)
         → DoesTied g x.group xs own c (answer.Refused why) (memory m) n (story m.machine.work.disk) (story n.machine.work.disk)
-    refused_now why tries cause is_for refuses =
+    refused_now why tries cause kept is_for refuses =
         refused_tied l m n (story m.machine.work.disk) (story n.machine.work.disk) (lawful m.machine.work.disk) g xs workers tied halves [] part logged as_many answers own c why refl low high
         (is_refusal why [] tt tt tries refl cause (due_none g xs own c key how_held of_key why))
-        (shown why [] (omega arith) (subst (λ ys. IsRefusedFor g (state_after g ys) own (is_half_done own xs) log c why) (sym (append-nil (front xs))) is_for) refuses refl)
+        (shown why [] (omega arith) kept (subst (λ ys. IsRefusedFor g (state_after g ys) own (is_half_done own xs) log c why) (sym (append-nil (front xs))) is_for) refuses refl)
         same
 
   -- ## Behind its row
@@ -321,7 +323,7 @@ module _ (l : Grounds) (answers : EveryAnswer) (coming : EveryComing) {D : Type 
           refused_tied l m n (story m.machine.work.disk) (story n.machine.work.disk) (lawful m.machine.work.disk) g xs workers tied halves (told.Lock own row (event_mode mode) ∷ come.events) so_far logged as_many answers own c refusal.RowSpent refl low high
           (is_refusal refusal.RowSpent (lock ∷ moves) (so_far.logged g xs [] b0).met (subst (TakesRows own) (sym kept) (refl, tt))
           (subst (λ ys. (ys ≡ []) ⊎ (ys ≡ happening.Event.Lock own (g.row_of key) how_held ∷ [])) (sym kept) (inr (ap (λ i. happening.Event.Lock own i how_held ∷ []) (sym row_is)))) no_structure (late (tied.ties own).told s) (due_spent g xs own c key how_held of_key asks (lock ∷ moves) tight))
-          (shown refusal.RowSpent (lock ∷ moves) (let a = few in omega arith) (inr (inl refl)) (λ q r. inr (inl refl)) no_structure)
+          (shown refusal.RowSpent (lock ∷ moves) (let a = few in omega arith) (λ _ _. tt) (inr (inl refl)) (λ q r. inr (inl refl)) no_structure)
           half_all
         where
           kept : keep is_step (lock ∷ moves) ≡ lock ∷ []

@@ -17,6 +17,7 @@ pub mod ChangeWarms
 pub mod DelLemmas
 pub mod DelCalls
 pub mod LikeLemmas
+pub mod NoneLemmas
 pub mod WayLemmas
 pub mod MadeLemmas
 pub mod FullLemmas

@@ -17,7 +17,6 @@ use Rattle.paged_desks.specs.core_state.Steps as core
 use Rattle.paged_desks.specs.core_state.Steps.{AllMet}
 use Rattle.paged_desks.proofs.engine_calls.MarkLemmas.{any_append}
 use Rattle.paged_desks.specs.engine_calls.Parts.{behind_first}
-use Rattle.paged_desks.specs.engine_trait.Rooms.{IsNextRoom, MakesRoom}
 use Rattle.lean_disk.specs.Story.{IsLawful, Story}
 use Rattle.paged_desks.specs.page_pool.Counts.{hot_pages}
 use Rattle.paged_desks.specs.row_words.declared.event.Event.{Event}
@@ -27,20 +26,21 @@ use Rattle.paged_desks.specs.row_words.Openings.{opening}
 use Rattle.paged_desks.specs.rows_trait.Views.{after_all}
 use Rattle.paged_desks.proofs.session_state.Moments.{events_more}
 use Rattle.paged_desks.specs.session_state.Ties.{Behind}
+use Rattle.paged_desks.specs.session_state.tidy_rules.Rooms.{IsNextRoom, MakesRoom}
 use Rattle.paged_desks.specs.session_state.declared.session.Session.{Session}
 use Rattle.paged_desks.proofs.call_parts.RunLemmas.{behind_more, first_more, front_is}
 use Rattle.paged_desks.specs.call_parts.Parts.{Part}
-use Rattle.paged_desks.specs.call_parts.Rooms.{is_paging as pages_come}
+use Rattle.paged_desks.specs.call_parts.Rooms.{grows, is_paging as pages_come}
 use Rattle.paged_desks.specs.Machines.{memory, view_of}
 use Rattle.paged_desks.specs.Pages.{ArePaging, hot_in, is_paging}
 use Rattle.paged_desks.specs.Parts.{HasGone}
 use Rattle.paged_desks.specs.declared.machine.PagedMachine.{PagedMachine}
-use Rattle.paged_desks.proofs.EndingLemmas.{Grounds}
+use Rattle.paged_desks.proofs.EndingLemmas.{Grounds, grows_none}
 use Rattle.paged_desks.proofs.StandLemmas.{halves_are}
 use Rattle.paged_calls.specs.Growths.{AreLike, AreMaking, HasMade, HasWay, IsRoom, is_making}
 use Rattle.paged_calls.specs.Steps.{IsStill}
 use Rattle.paged_calls.proofs.EventLemmas.{paging_structure}
-use Rattle.paged_calls.proofs.LikeLemmas.{run_like}
+use Rattle.paged_calls.proofs.LikeLemmas.{changes_entries, run_like}
 use Rattle.paged_calls.proofs.PieceLemmas.{joins_at, none_part}
 use Rattle.paged_calls.proofs.WayLemmas.{way_back}
 
@@ -54,12 +54,13 @@ second_false : (p q : Bool) → (p || q) ≡ false → q ≡ false
 second_false true q e = absurd (true≢false e)
 second_false false q e = e
 
-all_append : (f : Event → Bool) (es fs : List Event) → all f es ≡ true → all f fs ≡ true → all f (es ++ fs) ≡ true
+pub all_append : (f : Event → Bool) (es fs : List Event) → all f es ≡ true → all f fs ≡ true → all f (es ++ fs) ≡ true
 all_append f [] fs a b = b
 all_append f (e ∷ es) fs a b = let p = and_parts (f e) (all f es) a in and_from (f e) (all f (es ++ fs)) p.0 (all_append f es fs p.1 b)
 
 -- pages that come
 making_one : (own : ℕ) (e : Event) → is_paging e ≡ true → is_making own e ≡ true
+making_one own (told.Purge w p keys) k = absurd (true≢false (sym k))
 making_one own (told.Split w l r q i) k = absurd (true≢false (sym k))
 making_one own (told.Lift w c) k = absurd (true≢false (sym k))
 making_one own _ k = k
@@ -70,6 +71,7 @@ making_paging own (e ∷ es) k = and_from (is_making own e) (all (is_making own)
 
 -- where the tree is as it was, the others are those
 core_one : (own : ℕ) (e : Event) → is_making own e ≡ true → is_structure (event_of e) ≡ false → pages_come (event_of e) ≡ true
+core_one own (told.Purge w p keys) k none = absurd (true≢false none)
 core_one own (told.Split w l r q i) k none = absurd (true≢false none)
 core_one own (told.Lift w c) k none = absurd (true≢false none)
 core_one own (told.Flush w n) k none = refl
@@ -90,6 +92,30 @@ core_paging own (e ∷ es) k none =
     let a = and_parts (is_making own e) (all (is_making own) es) k in
     and_from (pages_come (event_of e)) (all pages_come (events_of es)) (core_one own e a.0 (first_false (is_structure (event_of e)) (any is_structure (events_of es)) none))
     (core_paging own es a.1 (second_false (is_structure (event_of e)) (any is_structure (events_of es)) none))
+
+-- where no page was given to it, they change entries alone
+entries_one : (own : ℕ) (e : Event) → is_making own e ≡ true → grows (event_of e) ≡ false → changes_entries (event_of e) ≡ true
+entries_one own (told.Purge w p keys) k none = refl
+entries_one own (told.Split w l r q i) k none = absurd (true≢false none)
+entries_one own (told.Lift w c) k none = absurd (true≢false none)
+entries_one own (told.Flush w n) k none = refl
+entries_one own (told.Sync n) k none = refl
+entries_one own (told.Fetch p pairs) k none = refl
+entries_one own (told.Load p f) k none = refl
+entries_one own (told.Cool p) k none = refl
+entries_one own (told.Rescue p) k none = refl
+entries_one own (told.Save p) k none = refl
+entries_one own (told.Evict p) k none = refl
+entries_one own told.Tick k none = refl
+entries_one own (told.Miss w) k none = refl
+entries_one own _ k none = absurd (true≢false (sym k))
+
+pub made_entries : (own : ℕ) (es : List Event) → AreMaking own es → any grows (events_of es) ≡ false → all changes_entries (events_of es) ≡ true
+made_entries own [] k none = refl
+made_entries own (e ∷ es) k none =
+    let a = and_parts (is_making own e) (all (is_making own) es) k in
+    and_from (changes_entries (event_of e)) (all changes_entries (events_of es)) (entries_one own e a.0 (first_false (grows (event_of e)) (any grows (events_of es)) none))
+    (made_entries own es a.1 (second_false (grows (event_of e)) (any grows (events_of es)) none))
 
 -- ## Room
 
@@ -112,12 +138,12 @@ module _ (own : ℕ) (g : Opening) (key : ℕ) where
   makes_join s (e ∷ es) fs a b = (a.0, makes_join (core.step g s e) es fs a.1 b)
 
   -- one behind the other
-  pub room_join : (s : State) (es fs : List happening.Event) → (any is_structure es ≡ false → AreLike s (core.run g s es)) → IsRoom own key g s es → IsRoom own key g (core.run g s es) fs → IsRoom own key g s (es ++ fs)
+  pub room_join : (s : State) (es fs : List happening.Event) → (any grows es ≡ false → AreLike s (core.run g s es)) → IsRoom own key g s es → IsRoom own key g (core.run g s es) fs → IsRoom own key g s (es ++ fs)
   room_join s es fs like a b = record { makes = makes_join s es fs a.makes b.makes; way = go a.way b.way }
     where
-      go : (any is_structure es ≡ false) ⊎ HasWay g s key → (any is_structure fs ≡ false) ⊎ HasWay g (core.run g s es) key → (any is_structure (es ++ fs) ≡ false) ⊎ HasWay g s key
+      go : (any grows es ≡ false) ⊎ HasWay g s key → (any grows fs ≡ false) ⊎ HasWay g (core.run g s es) key → (any grows (es ++ fs) ≡ false) ⊎ HasWay g s key
       go (inr w) d = inr w
-      go (inl none) (inl rest) = inl (any_append is_structure es fs none rest)
+      go (inl none) (inl rest) = inl (any_append grows es fs none rest)
       go (inl none) (inr w) = inr (way_back g s (core.run g s es) key (like none) w)
 
 -- in a run places are in order
@@ -156,7 +182,7 @@ module _ (l : Grounds) (residence : EveryResidence) {D : Type 0} (story : D → 
     few = g.paged.few;
     part = g.part;
     tight = g.paged.tight;
-    room = λ h xs first b. record { makes = makes_none m.machine.work.session.own h key (behind_first h xs first) (events_of g.paged.events) none; way = inl none };
+    room = λ h xs first b. record { makes = makes_none m.machine.work.session.own h key (behind_first h xs first) (events_of g.paged.events) none; way = inl (grows_none (events_of g.paged.events) none) };
     same = g.paged.same;
     turn = g.paged.turn;
     halves = λ w lo hi. ap (λ (x : Session). x.is_half_aborted) (g.paged.sessions w lo hi).session;
@@ -198,7 +224,7 @@ module _ (l : Grounds) (residence : EveryResidence) {D : Type 0} (story : D → 
       room : IsRoom own key g (behind_first g xs first) (events_of (d.events ++ e.events))
       room = subst (λ ys. IsRoom own key g (behind_first g xs first) ys) (sym all_events)
           (room_join own g key (behind_first g xs first) (events_of d.events) (events_of e.events)
-          (λ none. run_like g d.events (behind_first g xs first) (resides residence g xs first) (core_paging own d.events d.making none)) (d.room g xs first s)
+          (λ none. run_like g d.events (behind_first g xs first) (resides residence g xs first) (made_entries own d.events d.making none)) (d.room g xs first s)
           (subst (λ (t : State). IsRoom own key g t (events_of e.events)) run_is (subst (λ w. IsRoom w key g (behind_first g xs (first ++ events_of d.events)) (events_of e.events)) d.turn (e.room g xs (first ++ events_of d.events) there))))
 
     pub made_then : HasMade story key (a + b) m n

@@ -27,7 +27,7 @@ use Rattle.paged_desks.specs.call_parts.Memory.{Memory}
 use Rattle.paged_desks.specs.call_parts.Parts.{Failed, Part}
 use Rattle.paged_desks.specs.Machines.{memory, view_of}
 use Rattle.paged_desks.specs.declared.machine.PagedMachine.{PagedMachine}
-use Rattle.row_changes.specs.Reads.{HasRead}
+use Rattle.row_room.specs.row_changes.Reads.{HasRead}
 use Rattle.paged_calls.specs.Steps.{HasTaken}
 use Rattle.paged_desks.specs.Calls.{IsBeside}
 use Rattle.paged_desks.proofs.EndingLemmas.{Grounds}

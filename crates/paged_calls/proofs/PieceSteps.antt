@@ -5,9 +5,9 @@ use Rattle.paged_desks.specs.key_locks.Rows.{event_mode}
 use Rattle.lean_disk.specs.Story.{Story}
 use Rattle.map_model.specs.declared.call.Refusal.{Refusal}
 use Rattle.map_model.specs.declared.call.Refusal.TheVariants as refusal
-use Rattle.row_changes.specs.Reads.{Reads}
-use Rattle.row_changes.specs.Takes.{NotTaken, Takes}
-use Rattle.row_changes.specs.declared.ways.Cold.{Cold}
+use Rattle.row_room.specs.row_changes.Reads.{Reads}
+use Rattle.row_room.specs.row_changes.Takes.{NotTaken, Takes}
+use Rattle.row_room.specs.row_changes.declared.ways.Cold.{Cold}
 use Rattle.paged_desks.specs.row_words.declared.event.Event.TheVariants as told
 use Rattle.paged_desks.specs.session_desks.Parts.{SeatFits, shape}
 use Rattle.paged_desks.proofs.session_state.OtherLemmas.{is_own, no_steps, one_step}

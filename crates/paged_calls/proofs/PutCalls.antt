@@ -7,9 +7,9 @@ use Rattle.paged_desks.specs.engine_trait.declared.unserved.Unserved.{Unserved}
 use Rattle.paged_desks.specs.engine_trait.declared.unserved.Unserved.TheVariants as unserved
 use Rattle.lean_disk.specs.Faults.{HasCause}
 use Rattle.lean_disk.specs.Story.{Story}
-use Rattle.row_changes.specs.declared.ways.Unmade.{Unmade}
-use Rattle.row_changes.specs.declared.ways.Unmade.TheVariants as unmade
-use Rattle.row_growth.specs.declared.steps.Stepped.{Stepped}
+use Rattle.row_room.specs.row_changes.declared.ways.Unmade.{Unmade}
+use Rattle.row_room.specs.row_changes.declared.ways.Unmade.TheVariants as unmade
+use Rattle.row_room.specs.declared.steps.Stepped.{Stepped}
 use Rattle.paged_desks.specs.Calls.{EndsWork}
 use Rattle.paged_desks.specs.declared.machine.PagedMachine.{PagedMachine}
 use Rattle.paged_calls.specs.Calls.{IsEarly}

@@ -22,8 +22,8 @@ use Rattle.paged_desks.specs.engine_trait.Refusals.{clock_refusal}
 use Rattle.paged_desks.specs.key_locks.declared.mode.Mode.TheVariants.{Alone}
 use Rattle.lean_disk.specs.Story.{IsLawful, Story}
 use Rattle.paged_desks.specs.page_pool.Counts.{EveryFrame}
-use Rattle.row_changes.proofs.StepLemmas.{clock_at_end}
-use Rattle.row_changes.specs.Puts.{IsChanged}
+use Rattle.row_room.proofs.row_changes.StepLemmas.{clock_at_end}
+use Rattle.row_room.specs.row_changes.Puts.{IsChanged}
 use Rattle.paged_desks.specs.row_words.Moments.{events_of}
 use Rattle.paged_desks.proofs.session_desks.DeskLemmas.{desk_own}
 use Rattle.paged_desks.specs.session_desks.Parts.{here}
@@ -118,9 +118,9 @@ module _ (l : Grounds) (residence : EveryResidence) (answers : EveryAnswer) (com
         put_did (Err (unserved.Refused refusal.ClockSpent)) now d g xs workers tied halves line =
             grown.put_stopped l residence answers coming story lawful m ready key value g xs workers tied halves line (in_memory None none) u t taken small most_a_put n d.made (few_made n d.made) (now refl) d.going d.spent
         put_did (Err (unserved.Refused refusal.TooTall)) now d g xs workers tied halves line =
-            grown.put_tall l residence answers coming story lawful m ready key value g xs workers tied halves line (in_memory None none) u t taken small most_a_put n d.made (few_made n d.made) (now refl) d.going d.leaf d.unfit d.small d.cause
+            grown.put_tall l residence answers coming story lawful m ready key value g xs workers tied halves line (in_memory None none) u t taken small most_a_put n d.made (few_made n d.made) (now refl) d.going d.leaf d.unfit d.small d.none d.cause
         put_did (Err (unserved.Refused refusal.NoPages)) now d g xs workers tied halves line =
-            grown.put_short l residence answers coming story lawful m ready key value g xs workers tied halves line (in_memory None none) u t taken small most_a_put n d.made (few_made n d.made) (now refl) d.going d.leaf d.unfit d.small d.cause
+            grown.put_short l residence answers coming story lawful m ready key value g xs workers tied halves line (in_memory None none) u t taken small most_a_put n d.made (few_made n d.made) (now refl) d.going d.leaf d.unfit d.small d.none d.cause
         put_did (Err (unserved.Unanswered unanswered.DiskFault)) now (inl f) g xs workers tied halves line =
             grown.put_fails_staging l residence answers coming story lawful m ready key value g xs workers tied halves line (in_memory None none) u t taken small most_a_put f.between f.made (few_made f.between f.made) n
             (subst (λ k. KeepsLog k f.between.machine.work.log (story f.between.machine.work.disk) (story n.machine.work.disk)) own_is f.keeps)

@@ -2,6 +2,7 @@
 use Rattle.std.proofs.Common.{◌≡◌, ◌∙◌, ◌⊎◌, inl, inr, ◌≤◌, ◌<◌, ◌+◌, ◌*◌, ◌^◌, ◌%◌, ◌-◌, ◌++◌, ◌==◌, ◌&&◌, cond, ℕ, suc, true, false, List, [], ◌∷◌, Option, Some, None, Result, Ok, Err, length, ap, refl, sym, subst, arith, true≢false}
 use Rattle.std.proofs.lemmas.Bool.{and_from, and_parts, eq-eqb}
 use Rattle.map_model.specs.Lists.{Has}
+use Rattle.map_model.specs.declared.call.Refusal.{Refusal}
 use Rattle.map_model.specs.declared.call.Refusal.TheVariants as refusal
 use Rattle.paged_desks.specs.engine_trait.declared.unserved.Unanswered.TheVariants as unanswered
 use Rattle.paged_desks.specs.engine_trait.declared.unserved.Unserved.{Unserved}
@@ -11,22 +12,26 @@ use Rattle.paged_desks.specs.core_calls.Room.{EveryRoom, free_list, is_full_at, 
 use Rattle.paged_desks.specs.core_paging.Paging.{EveryResidence, Residence}
 use Rattle.paged_desks.specs.core_state.Needs.{is_held_by}
 use Rattle.paged_desks.specs.core_state.Openings.{Opening}
-use Rattle.paged_desks.specs.core_state.States.{State}
+use Rattle.paged_desks.specs.core_state.States.{State, nodes_of}
 use Rattle.paged_desks.specs.core_state.Steps as core
 use Rattle.lean_disk.specs.Story.{IsLawful, Story}
+use Rattle.page_model.specs.Nodes as nodes
 use Rattle.page_model.specs.Nodes.{covers, is_leaf}
+use Rattle.page_model.specs.Pairs.{find}
 use Rattle.paged_desks.specs.page_pool.Pools.{EveryStanding}
-use Rattle.row_changes.proofs.TakesLemmas.{takes_most}
-use Rattle.row_changes.specs.Paths.{IsUnfit}
-use Rattle.row_changes.specs.Puts.{IsChanged, MayChange, works_behind}
-use Rattle.row_changes.specs.Ways.{IsLost}
-use Rattle.row_changes.specs.declared.ways.Unmade.{Unmade}
-use Rattle.row_changes.specs.declared.ways.Unmade.TheVariants as unmade
-use Rattle.row_growth.specs.Outcomes.{Steps}
-use Rattle.row_growth.specs.Rooms.{frame_among}
-use Rattle.row_growth.specs.declared.room.Placed.{Placed}
-use Rattle.row_growth.specs.declared.steps.Stepped.{Stepped}
-use Rattle.row_growth.specs.declared.steps.Stepped.TheVariants as stepped
+use Rattle.row_room.proofs.row_changes.TakesLemmas.{takes_most}
+use Rattle.row_room.specs.row_changes.Paths.{IsUnfit}
+use Rattle.row_room.specs.row_changes.Puts.{IsChanged, MayChange, works_behind}
+use Rattle.row_room.specs.row_changes.Ways.{IsLost}
+use Rattle.row_room.specs.row_changes.declared.ways.Unmade.{Unmade}
+use Rattle.row_room.specs.row_changes.declared.ways.Unmade.TheVariants as unmade
+use Rattle.row_room.specs.Outcomes.{Steps}
+use Rattle.row_room.specs.Outcomes.{Crowded}
+use Rattle.row_room.specs.Rooms as rooms
+use Rattle.row_room.specs.row_growth.Rooms.{frame_among}
+use Rattle.row_room.specs.row_growth.declared.room.Placed.{Placed}
+use Rattle.row_room.specs.declared.steps.Stepped.{Stepped}
+use Rattle.row_room.specs.declared.steps.Stepped.TheVariants as stepped
 use Rattle.paged_desks.specs.paged_rows.Paged.{IsWarm}
 use Rattle.paged_desks.proofs.row_words.SealedLemmas.{run_append}
 use Rattle.paged_desks.specs.row_words.declared.event.Event.{Event}
@@ -34,6 +39,7 @@ use Rattle.paged_desks.specs.row_words.declared.given.Given.{Given}
 use Rattle.paged_desks.specs.row_words.Moments.{Moment, events_of}
 use Rattle.paged_desks.specs.row_words.Sealed.{begun}
 use Rattle.paged_desks.specs.row_words.Openings.{opening}
+use Rattle.paged_desks.specs.rows_trait.declared.view.View.{View}
 use Rattle.paged_desks.specs.rows_trait.Views.{after_all, state}
 use Rattle.paged_desks.proofs.session_desks.SeatLemmas.{holds_of}
 use Rattle.paged_desks.specs.session_desks.Parts.{SeatFits, here, shape}
@@ -45,6 +51,7 @@ use Rattle.paged_desks.specs.session_state.Holds.{Holds, IsSameSession}
 use Rattle.paged_desks.specs.session_state.Others.{EveryOther}
 use Rattle.paged_desks.specs.session_state.Staging.{KeepsLog}
 use Rattle.paged_desks.specs.session_state.Undo.{HasRoomToStage}
+use Rattle.paged_desks.specs.session_state.tidy_rules.Rooms.{NoneGoes}
 use Rattle.paged_desks.specs.engine_trait.Refusals.{room_refusal}
 use Rattle.paged_desks.specs.session_state.declared.session.Session.{Session}
 use Rattle.paged_desks.specs.session_state.declared.work.Work.{Work}
@@ -61,7 +68,7 @@ use Rattle.paged_desks.specs.declared.warming.Unwarmed.{Unwarmed}
 use Rattle.paged_desks.specs.declared.warming.Unwarmed.TheVariants as stopped
 use Rattle.paged_calls.specs.Changes.{MayStill}
 use Rattle.paged_calls.specs.Growths.{AreLike, HasMade, IsGoing, MayPut}
-use Rattle.paged_calls.specs.Rounds.{GoesOnWarm, HasPut, IsWanted, Rounds, most_a_round, round_of}
+use Rattle.paged_calls.specs.Rounds.{GoesOnWarm, HasPut, IsPutCrowded, IsWanted, Rounds, most_a_round, most_behind_wish, round_of}
 use Rattle.paged_calls.specs.Steps.{IsStill}
 use Rattle.paged_calls.specs.declared.growing.Round.{Round}
 use Rattle.paged_calls.specs.declared.growing.Round.TheVariants as round
@@ -69,8 +76,8 @@ use Rattle.paged_calls.proofs.ChangeStands.{ready_changed}
 use Rattle.paged_calls.proofs.ChangeSteps.{beside_of}
 use Rattle.paged_calls.proofs.ChangeWarms.{still_cold, still_self}
 use Rattle.paged_calls.proofs.EventLemmas.{paging_structure}
-use Rattle.paged_calls.proofs.GrowthStands.{made_grown, made_missed, ready_grown, ready_missed}
-use Rattle.paged_calls.proofs.LikeLemmas.{run_like}
+use Rattle.paged_calls.proofs.GrowthStands.{IsMissed, made_grown, made_missed, missed_core, missed_kept, missed_spent, ready_grown, ready_missed}
+use Rattle.paged_calls.proofs.LikeLemmas.{run_came}
 use Rattle.paged_calls.proofs.MadeLemmas.{core_paging, made_gone, made_none, made_then, made_up, making_paging}
 use Rattle.paged_calls.proofs.RoomLemmas.{gone_no_fuller, rows_kept}
 use Rattle.paged_calls.proofs.WarmLemmas.{kept_own}
@@ -124,7 +131,7 @@ module _ {D : Type 0} (story : D → Story) (key most : ℕ) (m n : PagedMachine
       (ready.keeps.sound ((view_of m).seen ++ more)).residence
 
   like : AreLike s (state (view_of n)).core
-  like = subst (λ (t : State). AreLike s t) (sym core_is) (run_like g p.events s resides_on (core_paging m.machine.work.session.own p.events (making_paging m.machine.work.session.own p.events p.paging) (paging_structure p.events p.paging)))
+  like = subst (λ (t : State). AreLike s t) (sym core_is) (run_came g p.events s resides_on (core_paging m.machine.work.session.own p.events (making_paging m.machine.work.session.own p.events p.paging) (paging_structure p.events p.paging)))
 
   -- where the leaf was full, room takes no more pages
   pub takes_kept : is_full_at g s key 0 ≡ true → room_takes (opening (view_of n).given) (state (view_of n)).core key ≤ room_takes g s key
@@ -163,9 +170,31 @@ unfit_full key leaf m k =
     has_below g.format.pages leaf (λ p. covers (s.page p).node key && (((s.page p).node.level == 0) && (length (s.page p).node.pairs == g.format.room))) k.below
     (and_from (covers n key) ((n.level == 0) && (length n.pairs == g.format.room)) a.1 (and_from (n.level == 0) (length n.pairs == g.format.room) b.1 (eq-eqb (length n.pairs) g.format.room k.full)))
 
+-- where nothing was seen but misses it is so still
+module _ (key most : ℕ) (v w : View) (q : IsMissed most v w) where
+  core_there : (state w).core ≡ (state v).core
+  core_there = missed_core most v w q
+
+  pub unfit_missed : (leaf : ℕ) → IsUnfit v key leaf → IsUnfit w key leaf
+  unfit_missed leaf k = record {
+    below = subst (λ (g : Given). leaf < (opening g).format.pages) (sym q.given) k.below;
+    holds = ap (λ (s : State). nodes.holds (nodes_of s leaf) key) core_there ∙ k.holds;
+    none = ap (λ (s : State). find key (nodes_of s leaf).pairs) core_there ∙ k.none;
+    full = ap (λ (s : State). length (nodes_of s leaf).pairs) core_there ∙ k.full;
+  }
+
+  pub none_missed : NoneGoes (opening v.given) (state v).core key → NoneGoes (opening w.given) (state w).core key
+  none_missed = subst (λ (u : Given × State). NoneGoes (opening u.0) u.1 key) (λ i. (sym q.given i, sym core_there i))
+
+  pub refusal_missed : room_refusal (opening w.given) (state w).core key ≡ room_refusal (opening v.given) (state v).core key
+  refusal_missed i = room_refusal (opening (q.given i)) (core_there i) key
+
+  pub takes_missed : room_takes (opening w.given) (state w).core key ≡ room_takes (opening v.given) (state v).core key
+  takes_missed i = room_takes (opening (q.given i)) (core_there i) key
+
 -- so many events at most has one step
 abbrev pub most_a_step : ℕ
-most_a_step = 8
+most_a_step = 69
 
 -- ## One step
 
@@ -183,34 +212,45 @@ module _ (l : Grounds) (residence : EveryResidence) {D : Type 0} (story : D → 
     pub step_ready : (placed : Option Placed) (r : Result Stepped Unmade) → works_behind r ≡ true → Did placed r → IsReady story n
     step_ready placed (Ok (stepped.Done before)) w d = ready_changed story m n a same ready law standing key value before d fits works (holds works)
     step_ready placed (Ok stepped.Grown) w d = ready_grown l story m n a same ready key d.0 law standing fits works (holds works)
-    step_ready placed (Ok (stepped.Needs page)) w d = unmoved d.1 d.0.needed.given d.0.needed.seen
+    step_ready placed (Ok (stepped.Needs page)) w d = ready_missed l story lawful m n a key 61 (missed_kept key (view_of m) (view_of n) d.0.wanting.kept) d.1 law ready fits (holds works)
     step_ready placed (Err (unmade.Cold cold)) w d = unmoved d.1 d.0.given d.0.seen
-    step_ready placed (Err (unmade.Unserved (unserved.Refused refusal.TooTall))) w d = unmoved d.1 d.0.given d.0.seen
-    step_ready placed (Err (unmade.Unserved (unserved.Refused refusal.NoPages))) w d = unmoved d.1 d.0.given d.0.seen
-    step_ready placed (Err (unmade.Unserved (unserved.Refused refusal.ClockSpent))) w d = ready_grown l story m n a same ready key d.grown law standing fits works (holds works)
-    step_ready placed (Err (unmade.Unserved (unserved.Refused refusal.RowSpent))) w d = ready_missed l story lawful m n a key d.0 d.1 law ready fits (holds works)
+    step_ready placed (Err (unmade.Unserved (unserved.Refused refusal.TooTall))) w d = ready_missed l story lawful m n a key 61 (missed_kept key (view_of m) (view_of n) d.0.tight.kept) d.1 law ready fits (holds works)
+    step_ready placed (Err (unmade.Unserved (unserved.Refused refusal.NoPages))) w d = ready_missed l story lawful m n a key 61 (missed_kept key (view_of m) (view_of n) d.0.tight.kept) d.1 law ready fits (holds works)
+    step_ready placed (Err (unmade.Unserved (unserved.Refused refusal.ClockSpent))) w d = ready_grown l story m n a same ready key d.roomed law standing fits works (holds works)
+    step_ready placed (Err (unmade.Unserved (unserved.Refused refusal.RowSpent))) w d = ready_missed l story lawful m n a key 69 (missed_spent 69 (view_of m) (view_of n) d.0) d.1 law ready fits (holds works)
     step_ready placed (Err (unmade.Unserved (unserved.Unanswered unanswered.DiskFault))) w d = absurd (true≢false (sym w))
     step_ready placed (Err (unmade.Unserved _)) w d = absurd d
     step_ready placed (Err unmade.Lost) w d = absurd d
 
   -- ## As a round
 
-  still_at : (view_of n).given ≡ (view_of m).given → (view_of n).seen ≡ (view_of m).seen → n.machine.work ≡ m.machine.work → IsStill story m n
-  still_at given seen e = still_cold story m n a given seen e
-
   -- nothing was done yet
   pub made_self : HasMade story key most_a_step m m
   made_self = made_up story key 0 most_a_step m m (omega arith) (made_none l residence story lawful key m m (still_self story m))
 
-  made_at : (view_of n).given ≡ (view_of m).given → (view_of n).seen ≡ (view_of m).seen → n.machine.work ≡ m.machine.work → HasMade story key most_a_step m n
-  made_at given seen e = made_up story key 0 most_a_step m n (omega arith) (made_none l residence story lawful key m n (still_at given seen e))
+  -- nor was anything but misses
+  made_kept : rooms.IsKept key (view_of m) (view_of n) → n.machine.work ≡ m.machine.work → HasMade story key most_a_step m n
+  made_kept k e = made_up story key 61 most_a_step m n (omega arith) (made_missed l story lawful m n a key 61 (missed_kept key (view_of m) (view_of n) k) e)
+
+  -- the leaf is full, none of its tombstones can go, and there can be no room
+  crowded : (why : Refusal) → Crowded key why (view_of m) (view_of n) m.machine.work.session.clock.clock → n.machine.work ≡ m.machine.work → IsGoing m → m.machine.work.session.clock.clock < 2 ^ 62 → IsPutCrowded story key most_a_step why m n
+  crowded why d e going small =
+      let q = missed_kept key (view_of m) (view_of n) d.tight.kept in record {
+        made = made_kept d.tight.kept e;
+        going = going_same m n e going;
+        leaf = d.leaf;
+        unfit = unfit_missed key 61 (view_of m) (view_of n) q d.leaf d.unfit;
+        small = subst (λ (k : Work D). k.session.clock.clock < 2 ^ 62) (sym e) small;
+        none = none_missed key 61 (view_of m) (view_of n) q d.tight.kept.none;
+        cause = refusal_missed key 61 (view_of m) (view_of n) q ∙ d.tight.cause;
+      }
 
   pub done_round : (before : Option ℕ) → n.machine.work.session.is_half_aborted ≡ m.machine.work.session.is_half_aborted → (placed : Option Placed) → Did placed (Ok (stepped.Done before)) → HasPut story key value before most_a_step m n
   done_round before half placed d = record { between = m; made = made_self; changed = d; ready = ready; aside = a; session = same; is_half_aborted = half }
 
   pub grown_round : n.machine.work.session.is_half_aborted ≡ m.machine.work.session.is_half_aborted → IsWarm (pages m) key 0 → (placed : Option Placed) → Did placed (Ok stepped.Grown) → GoesOnWarm story key most_a_step m n
   grown_round half warm placed d = record {
-    made = made_up story key 1 most_a_step m n (omega arith) (made_grown l story m n a same ready key d.0 half);
+    made = made_up story key 62 most_a_step m n (omega arith) (made_grown l story m n a same ready key d.0 lawful half);
     may = may_again key n d.1;
     small = d.1.small;
     warm = d.0.warm warm;
@@ -218,18 +258,18 @@ module _ (l : Grounds) (residence : EveryResidence) {D : Type 0} (story : D → 
   }
 
   pub refused_round : (why : Unserved) (placed : Option Placed) → (works_behind {A = Stepped} (Err (unmade.Unserved why)) ≡ true → n.machine.work.session.is_half_aborted ≡ m.machine.work.session.is_half_aborted) → IsGoing m → m.machine.work.session.clock.clock < 2 ^ 62 → Did placed (Err (unmade.Unserved why)) → Rounds story key value most_a_step (Err why) m n
-  refused_round (unserved.Refused refusal.TooTall) placed half going small d = record { made = made_at d.0.given d.0.seen d.1; going = going_same m n d.1 going; leaf = d.0.leaf; unfit = d.0.unfit; small = subst (λ (k : Work D). k.session.clock.clock < 2 ^ 62) (sym d.1) small; cause = d.0.cause }
-  refused_round (unserved.Refused refusal.NoPages) placed half going small d = record { made = made_at d.0.given d.0.seen d.1; going = going_same m n d.1 going; leaf = d.0.leaf; unfit = d.0.unfit; small = subst (λ (k : Work D). k.session.clock.clock < 2 ^ 62) (sym d.1) small; cause = d.0.cause }
+  refused_round (unserved.Refused refusal.TooTall) placed half going small d = crowded refusal.TooTall d.0 d.1 going small
+  refused_round (unserved.Refused refusal.NoPages) placed half going small d = crowded refusal.NoPages d.0 d.1 going small
   refused_round (unserved.Refused refusal.ClockSpent) placed half going small d = record {
-    made = made_up story key 1 most_a_step m n (omega arith) (made_grown l story m n a same ready key d.grown (half refl));
+    made = made_up story key 62 most_a_step m n (omega arith) (made_grown l story m n a same ready key d.roomed lawful (half refl));
     going = record {
-      is_open = ap (λ (x : Session). x.is_open) d.grown.session ∙ going.is_open;
-      whole = ap (λ (x : Session). x.is_half_aborted) d.grown.session ∙ going.whole;
-      few = subst (λ (x : Session). length x.undo < 64) (sym d.grown.session) going.few;
+      is_open = ap (λ (x : Session). x.is_open) d.roomed.session ∙ going.is_open;
+      whole = ap (λ (x : Session). x.is_half_aborted) d.roomed.session ∙ going.whole;
+      few = subst (λ (x : Session). length x.undo < 64) (sym d.roomed.session) going.few;
     };
     spent = d.spent;
   }
-  refused_round (unserved.Refused refusal.RowSpent) placed half going small d = record { made = made_up story key 8 most_a_step m n (omega arith) (made_missed l story lawful m n a key d.0 d.1); spent = inl (inl d.0.many) }
+  refused_round (unserved.Refused refusal.RowSpent) placed half going small d = record { made = made_missed l story lawful m n a key 69 (missed_spent 69 (view_of m) (view_of n) d.0) d.1; spent = inl (inl d.0.many) }
   refused_round (unserved.Unanswered unanswered.DiskFault) placed half going small d = inl (record { between = m; made = made_self; keeps = d })
   refused_round _ placed half going small d = absurd d
 
@@ -268,8 +308,8 @@ module _ (l : Grounds) (residence : EveryResidence) {D : Type 0} (story : D → 
   rounds_then (Ok round.Grown) le e = record { made = both n e.made; may = e.may; small = e.small; warm = e.warm; takes = let x = le tt in let y = e.takes in omega arith }
   rounds_then (Err (unserved.Refused refusal.RowSpent)) le e = record { made = both n e.made; spent = spent_back e.spent }
   rounds_then (Err (unserved.Refused refusal.ClockSpent)) le e = record { made = both n e.made; going = e.going; spent = e.spent }
-  rounds_then (Err (unserved.Refused refusal.TooTall)) le e = record { made = both n e.made; going = e.going; leaf = e.leaf; unfit = e.unfit; small = e.small; cause = e.cause }
-  rounds_then (Err (unserved.Refused refusal.NoPages)) le e = record { made = both n e.made; going = e.going; leaf = e.leaf; unfit = e.unfit; small = e.small; cause = e.cause }
+  rounds_then (Err (unserved.Refused refusal.TooTall)) le e = record { made = both n e.made; going = e.going; leaf = e.leaf; unfit = e.unfit; small = e.small; none = e.none; cause = e.cause }
+  rounds_then (Err (unserved.Refused refusal.NoPages)) le e = record { made = both n e.made; going = e.going; leaf = e.leaf; unfit = e.unfit; small = e.small; none = e.none; cause = e.cause }
   rounds_then (Err (unserved.Unanswered unanswered.DiskFault)) le (inl f) = inl (record { between = f.between; made = both f.between f.made; keeps = subst (λ w. KeepsLog w f.between.machine.work.log (story f.between.machine.work.disk) (story n.machine.work.disk)) d.turn f.keeps })
   rounds_then (Err (unserved.Unanswered unanswered.DiskFault)) le (inr f) = inr (record { between = f.between; made = both f.between f.made; failed = f.failed })
   rounds_then (Err (unserved.Unanswered (unanswered.Damaged place))) le e = (record { between = e.0.between; made = both e.0.between e.0.made; failed = e.0.failed }, nowhere_back e.1)
@@ -281,8 +321,8 @@ rounds_up story key value a b m n le (Ok (round.Done before)) e = record { betwe
 rounds_up story key value a b m n le (Ok round.Grown) e = record { made = made_up story key a b m n le e.made; may = e.may; small = e.small; warm = e.warm; takes = e.takes }
 rounds_up story key value a b m n le (Err (unserved.Refused refusal.RowSpent)) e = record { made = made_up story key a b m n le e.made; spent = e.spent }
 rounds_up story key value a b m n le (Err (unserved.Refused refusal.ClockSpent)) e = record { made = made_up story key a b m n le e.made; going = e.going; spent = e.spent }
-rounds_up story key value a b m n le (Err (unserved.Refused refusal.TooTall)) e = record { made = made_up story key a b m n le e.made; going = e.going; leaf = e.leaf; unfit = e.unfit; small = e.small; cause = e.cause }
-rounds_up story key value a b m n le (Err (unserved.Refused refusal.NoPages)) e = record { made = made_up story key a b m n le e.made; going = e.going; leaf = e.leaf; unfit = e.unfit; small = e.small; cause = e.cause }
+rounds_up story key value a b m n le (Err (unserved.Refused refusal.TooTall)) e = record { made = made_up story key a b m n le e.made; going = e.going; leaf = e.leaf; unfit = e.unfit; small = e.small; none = e.none; cause = e.cause }
+rounds_up story key value a b m n le (Err (unserved.Refused refusal.NoPages)) e = record { made = made_up story key a b m n le e.made; going = e.going; leaf = e.leaf; unfit = e.unfit; small = e.small; none = e.none; cause = e.cause }
 rounds_up story key value a b m n le (Err (unserved.Unanswered unanswered.DiskFault)) (inl f) = inl (record { between = f.between; made = made_up story key a b m f.between le f.made; keeps = f.keeps })
 rounds_up story key value a b m n le (Err (unserved.Unanswered unanswered.DiskFault)) (inr f) = inr (record { between = f.between; made = made_up story key a b m f.between le f.made; failed = f.failed })
 rounds_up story key value a b m n le (Err (unserved.Unanswered (unanswered.Damaged place))) e = (record { between = e.0.between; made = made_up story key a b m e.0.between le e.0.made; failed = e.0.failed }, e.1)
@@ -365,21 +405,21 @@ none_lost story key value placed m n (unmade.Unserved why) d lost = lost
 
 -- ## Behind the coming of a page
 
-module _ (l : Grounds) (residence : EveryResidence) {D : Type 0} (story : D → Story) (lawful : (d : D) → IsLawful (story d)) (key value : ℕ) (m k : PagedMachine D) (ready : IsReady story m) (most : ℕ) (few : most + most_a_step ≤ most_a_round) (gone : HasGone story key most m k) where
+module _ (l : Grounds) (residence : EveryResidence) {D : Type 0} (story : D → Story) (lawful : (d : D) → IsLawful (story d)) (key value : ℕ) (m k : PagedMachine D) (ready : IsReady story m) (most : ℕ) (bound : ℕ) (few : most + most_a_step ≤ bound) (gone : HasGone story key most m k) where
   came : HasMade story key most m k
   came = made_gone l residence story lawful key most m k gone
 
   -- a step, where the leaf was full
-  pub into_round : (leaf : ℕ) → IsUnfit (view_of m) key leaf → (n : PagedMachine D) (r : Result Round Unserved) → Rounds story key value most_a_step r k n → Rounds story key value most_a_round r m n
-  into_round leaf unfit n r e = rounds_up story key value (most + most_a_step) most_a_round m n few r
+  pub into_round : (leaf : ℕ) → IsUnfit (view_of m) key leaf → (n : PagedMachine D) (r : Result Round Unserved) → Rounds story key value most_a_step r k n → Rounds story key value bound r m n
+  into_round leaf unfit n r e = rounds_up story key value (most + most_a_step) bound m n few r
       (rounds_then l residence story lawful key value most most_a_step m k n came r (λ _. takes_kept story key most m k ready gone.paged (unfit_full key leaf m unfit)) e)
 
   -- a clock that has come to its end
-  pub stopped_round : (bound : ℕ) → most ≤ bound → IsGoing m → 2 ^ 62 ≤ k.machine.work.session.clock.clock → Rounds story key value bound (Err (unserved.Refused refusal.ClockSpent)) m k
-  stopped_round bound up going spent = record { made = made_up story key most bound m k up came; going = going_gone story key most m k ready gone.paged going; spent = spent }
+  pub stopped_round : (up_to : ℕ) → most ≤ up_to → IsGoing m → 2 ^ 62 ≤ k.machine.work.session.clock.clock → Rounds story key value up_to (Err (unserved.Refused refusal.ClockSpent)) m k
+  stopped_round up_to up going spent = record { made = made_up story key most up_to m k up came; going = going_gone story key most m k ready gone.paged going; spent = spent }
 
 -- so few events has the coming of one page
-pub level_few : {D : Type 0} (story : D → Story) (m : PagedMachine D) → IsReady story m → most_a_level m.machine.work.session.workers + most_a_step ≤ most_a_round
+pub level_few : {D : Type 0} (story : D → Story) (m : PagedMachine D) → IsReady story m → most_a_level m.machine.work.session.workers + most_a_step ≤ most_behind_wish
 level_few story m ready = let w = (holds_of (shape m.machine) (view_of m) (here m.machine) m.machine.desks.items ready.sound.desks).rows.most in omega arith
 
 -- and that of a way
@@ -397,7 +437,7 @@ put_grown (Err why) P e = absurd e
 -- no other page is wanted behind the coming of this one
 pub stuck : {D : Type 0} (story : D → Story) (key value page frame : ℕ) (m k n : PagedMachine D) → IsWanted key page m → k.machine.work.session.free ≡ m.machine.work.session.free → (step : Stepped) (other : ℕ) → step ≡ stepped.Needs other
     → HasStepped story key value (Some (record { page = page; frame = frame })) k n (Ok step) → ⊥
-stuck story key value page frame m k n w free step other is d = not_other page frame other k.machine.work.session.free (ap first_of free ∙ w.least) e.0.needed.least e.0.needed.other
+stuck story key value page frame m k n w free step other is d = not_other page frame other k.machine.work.session.free (ap first_of free ∙ w.least) e.0.wanting.least e.0.wanting.other
   where
     e : HasStepped story key value (Some (record { page = page; frame = frame })) k n (Ok (stepped.Needs other))
     e = subst (λ (q : Stepped). HasStepped story key value (Some (record { page = page; frame = frame })) k n (Ok q)) is d
@@ -411,37 +451,40 @@ stepped_as story key value placed m n a b e d = subst (λ (q : Stepped). HasStep
 needs_of : {D : Type 0} (story : D → Story) (key value : ℕ) (placed : Option Placed) (m n : PagedMachine D) (step : Stepped) (page : ℕ) → step ≡ stepped.Needs page → HasStepped story key value placed m n (Ok step) → HasStepped story key value placed m n (Ok (stepped.Needs page))
 needs_of story key value placed m n step page is d = stepped_as story key value placed m n step (stepped.Needs page) is d
 
--- nothing was done
-pub needs_still : {D : Type 0} (story : D → Story) (key value : ℕ) (placed : Option Placed) (m n : PagedMachine D) (step : Stepped) (page : ℕ) → step ≡ stepped.Needs page → IsAside m n → HasStepped story key value placed m n (Ok step) → IsStill story m n
-needs_still story key value placed m n step page is a d = let e = needs_of story key value placed m n step page is d in still_cold story m n a e.0.needed.given e.0.needed.seen e.1
+-- nothing was done but that rows were given up as they stood
+pub needs_missed : {D : Type 0} (story : D → Story) (key value : ℕ) (placed : Option Placed) (m n : PagedMachine D) (step : Stepped) (page : ℕ) → step ≡ stepped.Needs page → HasStepped story key value placed m n (Ok step) → IsMissed 61 (view_of m) (view_of n) × (n.machine.work ≡ m.machine.work)
+needs_missed story key value placed m n step page is d = let e = needs_of story key value placed m n step page is d in (missed_kept key (view_of m) (view_of n) e.0.wanting.kept, e.1)
 
--- the leaf is full, and this page comes next
+-- the leaf is full, none of its tombstones can go, and this page comes next
 pub met_needs : {D : Type 0} (story : D → Story) (key value : ℕ) (placed : Option Placed) (m n : PagedMachine D) (step : Stepped) (page : ℕ) → step ≡ stepped.Needs page → HasStepped story key value placed m n (Ok step) → IsWanted key page n
 met_needs story key value placed m n step page is d =
-    let e = needs_of story key value placed m n step page is d in record {
+    let e = needs_of story key value placed m n step page is d in
+    let q = missed_kept key (view_of m) (view_of n) e.0.wanting.kept in record {
       leaf = e.0.leaf;
-      unfit = e.0.unfit;
-      fits = (λ i. room_refusal (opening (e.0.needed.given i)) (after_all (e.0.needed.given i) (e.0.needed.seen i)).core key) ∙ e.0.needed.fits;
-      least = ap (λ (k : Work _). first_of k.session.free) e.1 ∙ e.0.needed.least;
+      unfit = unfit_missed key 61 (view_of m) (view_of n) q e.0.leaf e.0.unfit;
+      none = none_missed key 61 (view_of m) (view_of n) q e.0.wanting.kept.none;
+      fits = refusal_missed key 61 (view_of m) (view_of n) q ∙ e.0.wanting.fits;
+      least = ap (λ (k : Work _). first_of k.session.free) e.1 ∙ e.0.wanting.least;
     }
 
 -- and it may be put there still
-pub may_same_put : {D : Type 0} (story : D → Story) (key : ℕ) (m u : PagedMachine D) → IsStill story m u → MayPut key m → MayPut key u
-may_same_put story key m u s f = record {
-  is_open = ap (λ (x : Session). x.is_open) s.session ∙ f.is_open;
-  whole = ap (λ (x : Session). x.is_half_aborted) s.session ∙ f.whole;
-  few = subst (λ (x : Session). length x.undo < 64) (sym s.session) f.few;
-  room = subst (λ (q : Log × ℕ). HasRoomToStage q.0 (suc q.1)) (λ i. (sym s.beside.log i, room_takes (opening (sym s.given i)) (after_all (sym s.given i) (sym s.seen i)).core key)) f.room;
-  row = (λ i. is_held_by ((after_all (s.given i) (s.seen i)).core.row (key % (s.session i).held.count)).holder (s.session i).own) ∙ f.row;
+pub may_same_put : {D : Type 0} (key : ℕ) (m u : PagedMachine D) → IsMissed 61 (view_of m) (view_of u) → u.machine.work ≡ m.machine.work → MayPut key m → MayPut key u
+may_same_put {D} key m u q e f = record {
+  is_open = ap (λ (k : Work D). k.session.is_open) e ∙ f.is_open;
+  whole = ap (λ (k : Work D). k.session.is_half_aborted) e ∙ f.whole;
+  few = subst (λ (k : Work D). length k.session.undo < 64) (sym e) f.few;
+  room = subst (λ (k : Log × ℕ). HasRoomToStage k.0 (suc k.1)) (λ i. ((sym e i).log, sym (takes_missed key 61 (view_of m) (view_of u) q) i)) f.room;
+  row = (λ i. is_held_by ((missed_core 61 (view_of m) (view_of u) q i).row (key % (e i).session.held.count)).holder (e i).session.own) ∙ f.row;
 }
 
-pub warm_same : {D : Type 0} (story : D → Story) (key : ℕ) (m u : PagedMachine D) → IsStill story m u → IsWarm (pages m) key 0 → IsWarm (pages u) key 0
-warm_same story key m u s w = subst (λ (q : Given × Moment). IsWarmFrom (opening q.0) q.1.core key 0) (λ i. (sym s.given i, after_all (sym s.given i) (sym s.seen i))) w
+pub warm_same : {D : Type 0} (key : ℕ) (m u : PagedMachine D) → IsMissed 61 (view_of m) (view_of u) → IsWarm (pages m) key 0 → IsWarm (pages u) key 0
+warm_same key m u q w = subst (λ (k : Given × State). IsWarmFrom (opening k.0) k.1 key 0) (λ i. (sym q.given i, sym (missed_core 61 (view_of m) (view_of u) q) i)) w
 
 -- so it goes on from there
-pub rounds_from : (l : Grounds) (residence : EveryResidence) {D : Type 0} (story : D → Story) (lawful : (d : D) → IsLawful (story d)) (key value most : ℕ) (m u n : PagedMachine D) → IsStill story m u → (r : Result Round Unserved) → Rounds story key value most r u n → Rounds story key value most r m n
-rounds_from l residence story lawful key value most m u n s r e = rounds_up story key value (0 + most) most m n (omega arith) r (rounds_then l residence story lawful key value 0 most m u n (made_none l residence story lawful key m u s) r
-    (λ _. let q : room_takes (opening (view_of u).given) (state (view_of u)).core key ≡ room_takes (opening (view_of m).given) (state (view_of m)).core key = (λ i. room_takes (opening (s.given i)) (after_all (s.given i) (s.seen i)).core key) in omega arith) e)
+pub rounds_from : (l : Grounds) (residence : EveryResidence) {D : Type 0} (story : D → Story) (lawful : (d : D) → IsLawful (story d)) (key value : ℕ) (m u n : PagedMachine D) → IsAside m u → IsMissed 61 (view_of m) (view_of u) × (u.machine.work ≡ m.machine.work) → (r : Result Round Unserved)
+    → Rounds story key value most_behind_wish r u n → Rounds story key value most_a_round r m n
+rounds_from l residence story lawful key value m u n a q r e = rounds_up story key value (61 + most_behind_wish) most_a_round m n (omega arith) r
+    (rounds_then l residence story lawful key value 61 most_behind_wish m u n (made_missed l story lawful m u a key 61 q.0 q.1) r (λ _. let t = takes_missed key 61 (view_of m) (view_of u) q.0 in omega arith) e)
 
 -- a round that came out so
 pub round_as : {D : Type 0} (story : D → Story) (key value most : ℕ) (m n : PagedMachine D) (a b : Round) → a ≡ b → Rounds story key value most (Ok a) m n → Rounds story key value most (Ok b) m n

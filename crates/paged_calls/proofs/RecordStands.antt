@@ -23,7 +23,6 @@ use Rattle.paged_desks.specs.page_pool.Pools.{EveryStanding}
 use Rattle.paged_desks.proofs.page_provider.Kept.{kept_same}
 use Rattle.paged_desks.specs.page_provider.Mirrored.{IsMirrored}
 use Rattle.paged_desks.specs.page_provider.Providers.{IsKept, Keeps, Provider, pool}
-use Rattle.row_changes.proofs.SeenLemmas.{seen_core}
 use Rattle.paged_desks.specs.row_words.declared.event.Event.{Event}
 use Rattle.paged_desks.specs.row_words.declared.event.Event.TheVariants as told
 use Rattle.paged_desks.specs.row_words.declared.given.Given.{Given}
@@ -39,10 +38,10 @@ use Rattle.paged_desks.specs.session_desks.Parts.{HasLogs, IsSound, SeatFits, he
 use Rattle.paged_desks.specs.session_desks.Syncs.{HasOpening}
 use Rattle.paged_desks.specs.session_desks.declared.desk.Desk.{Desk}
 use Rattle.paged_desks.proofs.session_state.Moments.{acts}
-use Rattle.paged_desks.proofs.session_state.OtherLemmas.{is_own, one_step}
+use Rattle.paged_desks.proofs.session_state.OtherLemmas.{is_own}
 use Rattle.paged_desks.proofs.session_state.StageLemmas.{staged_flushed}
 use Rattle.paged_desks.specs.session_state.Holds.{Holds, IsSameSession}
-use Rattle.paged_desks.specs.session_state.Others.{EveryOther, is_of}
+use Rattle.paged_desks.specs.session_state.Others.{EveryOther, Steps, is_of}
 use Rattle.paged_desks.specs.session_state.Staging.{KeepsLog}
 use Rattle.paged_desks.specs.worker_log.Calls.{After}
 use Rattle.paged_desks.specs.worker_log.Logs.{Log}
@@ -111,12 +110,9 @@ change_enters own page key word g s met = record {
 
 -- ## The state
 
-module _ (v w : View) (own : ℕ) (e : Event) (r : Entry) (given : w.given ≡ v.given) (seen : w.seen ≡ v.seen ++ e ∷ []) (met : may (opening v.given) (state v).core (event_of e) ≡ true) (k : Enters own (opening v.given) (state v).core e r) where
+module _ (v w : View) (own : ℕ) (e : Event) (r : Entry) (given : w.given ≡ v.given) (core_is : (state w).core ≡ happens (opening v.given) (state v).core (event_of e)) (k : Enters own (opening v.given) (state v).core e r) where
   abbrev s : State
   s = (state v).core
-
-  core_is : (state w).core ≡ happens (opening v.given) s (event_of e)
-  core_is = seen_core v w e given seen met
 
   place_is : (state w).core.place ≡ s.place
   place_is = ap (λ (x : State). x.place) core_is ∙ k.place
@@ -227,7 +223,7 @@ module _ {D : Type 0} (story : D → Story) (m n : PagedMachine D) (a : IsAside 
   high = turn_high (shape m.machine) (view_of m) (here m.machine) m.machine.desks.items ready.sound.desks
 
   -- it entered a record
-  module _ (law : EveryOther) (standing : EveryStanding) (e : Event) (r : Entry) (given : (view_of n).given ≡ (view_of m).given) (seen : (view_of n).seen ≡ (view_of m).seen ++ e ∷ []) (met : may (opening (view_of m).given) (state (view_of m)).core (event_of e) ≡ true)
+  module _ (law : EveryOther) (standing : EveryStanding) (e : Event) (r : Entry) (given : (view_of n).given ≡ (view_of m).given) (steps : Steps own (view_of m) (view_of n)) (happened : (state (view_of n)).core ≡ happens (opening (view_of m).given) (state (view_of m)).core (event_of e))
       (k : Enters own (opening (view_of m).given) (state (view_of m)).core e r) (entry : Record) (number : entry.gsn ≡ r.number) (after : After entry m.machine.work.log n.machine.work.log) (keeps : KeepsLog own m.machine.work.log (story m.machine.work.disk) (story n.machine.work.disk)) (fits : SeatFits n.machine)
       (works : n.machine.work.session.works ≡ true) (holds : Holds (shape n.machine) (view_of n) n.machine.work.session n.machine.work.log) where
     was_holds : Holds (shape m.machine) (view_of m) m.machine.work.session m.machine.work.log
@@ -237,7 +233,7 @@ module _ {D : Type 0} (story : D → Story) (m n : PagedMachine D) (a : IsAside 
     sound = subst (λ (q : Master). IsMachine n.machine.rows.frames n.machine.rows.locks n.machine.rows.workers n.machine.rows.words.items n.machine.seat.view (here n.machine) n.machine.desks.items n.machine.latches q) (sym a.master)
         (subst (λ (ds : List Desk). IsMachine n.machine.rows.frames n.machine.rows.locks n.machine.rows.workers n.machine.rows.words.items n.machine.seat.view (here n.machine) ds n.machine.latches m.machine.master) (sym items)
         (machine_behind law m.machine.rows.frames m.machine.rows.locks m.machine.rows.workers n.machine.rows.frames n.machine.rows.locks n.machine.rows.workers m.machine.rows.words.items n.machine.rows.words.items m.machine.seat.view n.machine.seat.view (here m.machine) (here n.machine) m.machine.desks.items
-        m.machine.latches n.machine.latches m.machine.master ready.sound a.shape fits works same (one_step own (view_of m) (view_of n) e given seen k.of_own met) holds a.latches))
+        m.machine.latches n.machine.latches m.machine.master ready.sound a.shape fits works same steps holds a.latches))
 
     logged : HasLogs n.machine
     logged i lo hi = go (cases_eq i own)
@@ -253,9 +249,9 @@ module _ {D : Type 0} (story : D → Story) (m n : PagedMachine D) (a : IsAside 
 
         go : (i ≡ own) ⊎ (i ≡ own → ⊥) → IsLogged (state (view_of n)).core i (logs n.machine i)
         go (inl q) = subst (λ (j : ℕ). IsLogged (state (view_of n)).core j (logs n.machine j)) (sym q) (subst (λ (d : Desk). IsLogged (state (view_of n)).core own d.log) (sym (own_desk story m n a same ready))
-            (own_on (view_of m) (view_of n) own e r given seen met k entry number m.machine.work.log n.machine.work.log after numbers own_log))
+            (own_on (view_of m) (view_of n) own e r given happened k entry number m.machine.work.log n.machine.work.log after numbers own_log))
         go (inr other) = subst (λ (d : Desk). IsLogged (state (view_of n)).core i d.log) (sym (other_desk story m n a same ready i lo hi_too other))
-            (other_on (view_of m) (view_of n) own e r given seen met k entry number m.machine.work.log n.machine.work.log after i other (logs m.machine i) (ready.logged i lo hi_too))
+            (other_on (view_of m) (view_of n) own e r given happened k entry number m.machine.work.log n.machine.work.log after i other (logs m.machine i) (ready.logged i lo hi_too))
 
     pub ready_entered : IsReady story n
     ready_entered = record {
@@ -263,12 +259,12 @@ module _ {D : Type 0} (story : D → Story) (m n : PagedMachine D) (a : IsAside 
       works = works;
       logged = logged;
       opens = subst HasOpening (sym given) ready.opens;
-      keeps = subst (λ (q : Shape × Provider). Keeps q.0 (view_of n) q.1) (λ i. (sym a.shape i, sym a.pager i)) (keeps_on (view_of m) (view_of n) own e r given seen met k standing (shape m.machine) was_holds.alone m.pager ready.keeps);
+      keeps = subst (λ (q : Shape × Provider). Keeps q.0 (view_of n) q.1) (λ i. (sym a.shape i, sym a.pager i)) (keeps_on (view_of m) (view_of n) own e r given happened k standing (shape m.machine) was_holds.alone m.pager ready.keeps);
       well = ap (λ (q : Provider). q.broken) a.pager ∙ ready.well;
       fed = λ faithful. let f = ready.fed (ap (λ (q : Given). q.faithful) (sym given) ∙ faithful) in record {
         tells = subst (λ b. IsTrue b) (sym (keeps.frame.tells 1)) f.tells;
         mirrored = subst (λ (q : Provider). IsMirrored (view_of n) q (story n.machine.work.disk)) (sym a.pager)
-            (mirrored_on (view_of m) (view_of n) own e r given seen met k m.pager (story m.machine.work.disk) (story n.machine.work.disk) low keeps.frame f.mirrored);
+            (mirrored_on (view_of m) (view_of n) own e r given happened k m.pager (story m.machine.work.disk) (story n.machine.work.disk) low keeps.frame f.mirrored);
       };
       slots = let h = ready.slots in record {
         slots = ap (λ (q : Provider). q.slots) a.pager ∙ (h.slots ∙ ap (λ (q : Provider). q.slots) (sym a.pager));
@@ -277,5 +273,5 @@ module _ {D : Type 0} (story : D → Story) (m n : PagedMachine D) (a : IsAside 
       };
       frames = subst (λ (q : Provider). 32 ≤ q.frames) (sym a.pager) ready.frames;
       few = subst (λ (q : Provider). q.frames ≤ 2 ^ 16) (sym a.pager) ready.few;
-      outside = outside_on (view_of m) (view_of n) own e r given seen met k ready.outside;
+      outside = outside_on (view_of m) (view_of n) own e r given happened k ready.outside;
     }

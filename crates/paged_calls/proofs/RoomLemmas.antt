@@ -9,8 +9,8 @@ use Rattle.paged_desks.specs.core_state.Steps as core
 use Rattle.paged_desks.specs.core_state.Steps.{happens}
 use Rattle.paged_desks.specs.engine_trait.Logs.{Logs, LogsOne}
 use Rattle.lean_disk.specs.Story.{Story}
-use Rattle.row_changes.proofs.TakesLemmas.{takes_most}
-use Rattle.row_changes.specs.Puts.{MayChange}
+use Rattle.row_room.proofs.row_changes.TakesLemmas.{takes_most}
+use Rattle.row_room.specs.row_changes.Puts.{MayChange}
 use Rattle.paged_desks.specs.row_words.declared.event.Event.{Event}
 use Rattle.paged_desks.specs.row_words.declared.event.Event.TheVariants as told
 use Rattle.paged_desks.specs.row_words.Moments.{event_of, events_of}

@@ -23,8 +23,8 @@ use Rattle.paged_desks.specs.engine_trait.Serving.{MayRefuse, refused_by}
 use Rattle.paged_desks.specs.engine_trait.Refusals.{lock_refusal, refusal_in}
 use Rattle.paged_desks.specs.key_locks.declared.mode.Mode.{Mode}
 use Rattle.paged_desks.specs.key_locks.Rows.{core_mode, event_mode}
-use Rattle.row_changes.proofs.TakeLemmas.{row_is, same_mode, with_count}
-use Rattle.row_changes.specs.Takes.{IsHindered, NotTaken, Takes}
+use Rattle.row_room.proofs.row_changes.TakeLemmas.{row_is, same_mode, with_count}
+use Rattle.row_room.specs.row_changes.Takes.{IsHindered, NotTaken, Takes}
 use Rattle.paged_desks.specs.row_words.Moments.{events_of, mode_of}
 use Rattle.paged_desks.specs.row_opening.Openings.{EveryNeed, EveryReached}
 use Rattle.paged_desks.specs.rows_trait.declared.view.View.{View}

@@ -7,8 +7,8 @@ use Rattle.lean_disk.specs.Story.{IsLawful, Story}
 use Rattle.paged_desks.specs.call_parts.Memory.{IsOf, Memory}
 use Rattle.paged_desks.specs.call_parts.Parts.{Part}
 use Rattle.paged_desks.specs.disk_runs.Stands.{Stands}
-use Rattle.row_changes.specs.Reads.{HasRead}
-use Rattle.row_changes.specs.Ways.{HasMetCold}
+use Rattle.row_room.specs.row_changes.Reads.{HasRead}
+use Rattle.row_room.specs.row_changes.Ways.{HasMetCold}
 use Rattle.paged_desks.proofs.session_desks.DeskLemmas.{desk_own}
 use Rattle.paged_desks.proofs.session_desks.SeatLemmas.{holds_of, turn_high, turn_low}
 use Rattle.paged_desks.specs.session_desks.Desks.{desk_of}

@@ -1,4 +1,4 @@
--- Room for a key hangs on the pages that are no leaves, where its leaf is full.
+-- Room for a key hangs on the pages that are no leaves, where its leaf is full and none of its tombstones can go.
 use Rattle.std.proofs.Common.{◌≡◌, ◌∙◌, ◌⊎◌, inl, inr, ◌≤◌, ◌<◌, ◌||◌, ◌&&◌, ◌==◌, not, ltb, ℕ, zero, suc, Bool, true, false, cond, ◌∷◌, length, Some, None, ap, refl, sym, subst, arith, true≢false}
 use Rattle.std.proofs.lemmas.Bool.{and_from, and_parts, cases_eq, eqb-true, ltb-true, ne_eqb}
 use Rattle.map_model.specs.declared.call.Refusal.TheVariants.{NoPages, TooTall}
@@ -10,9 +10,12 @@ use Rattle.paged_desks.specs.core_state.Events.{Event}
 use Rattle.paged_desks.specs.core_state.Openings.{Opening}
 use Rattle.paged_desks.specs.core_state.States.{State, nodes_of}
 use Rattle.paged_desks.specs.engine_trait.Refusals.{is_full_for, room_refusal}
-use Rattle.paged_desks.specs.engine_trait.Rooms.{IsLeastFree, IsNextRoom}
+use Rattle.paged_desks.specs.session_state.tidy_rules.Growth as growth
+use Rattle.paged_desks.specs.session_state.tidy_rules.Growth.{IsLeastFree}
+use Rattle.paged_desks.specs.session_state.tidy_rules.Rooms.{IsNextRoom}
 use Rattle.paged_calls.specs.Growths.{AreLike, HasWay}
 use Rattle.paged_calls.proofs.LikeLemmas.{like_back, like_then}
+use Rattle.paged_calls.proofs.NoneLemmas.{none_as, purgeable_as}
 
 -- ## Some page
 
@@ -71,10 +74,16 @@ module _ (o g : Opening) (e : o.format ≡ g.format) (s : State) (k : ℕ) where
   least_as : (p : ℕ) → IsLeastFree o s p → IsLeastFree g s p
   least_as p f = (f.0, sym free_as ∙ f.1)
 
-  pub next_as : (own : ℕ) (x : Event) → IsNextRoom own o s k x → IsNextRoom own g s k x
-  next_as own (Event.Split w l r q i) n = (n.0, sym full_as ∙ n.1, sym all_as ∙ n.2, n.3, n.4 ∙ run_as, least_as r n.5, n.6)
-  next_as own (Event.Lift w c) n = (n.0, sym full_as ∙ n.1, sym all_as ∙ n.2, least_as c n.3)
-  next_as own _ n = n
+  growth_as : (own : ℕ) (x : Event) → growth.IsNextRoom own o s k x → growth.IsNextRoom own g s k x
+  growth_as own (Event.Split w l r q i) n = (n.0, sym full_as ∙ n.1, sym all_as ∙ n.2, n.3, n.4 ∙ run_as, least_as r n.5, n.6)
+  growth_as own (Event.Lift w c) n = (n.0, sym full_as ∙ n.1, sym all_as ∙ n.2, least_as c n.3)
+  growth_as own _ n = n
+
+  pub next_as : o.row_of ≡ g.row_of → o.workers ≡ g.workers → (own : ℕ) (x : Event) → IsNextRoom own o s k x → IsNextRoom own g s k x
+  next_as rows workers own (Event.Purge w p keys) n = (n.0, sym full_as ∙ n.1, n.2, n.3 ∙ purgeable_as o g e rows workers s (nodes_of s p).pairs, n.4)
+  next_as rows workers own (Event.Split w l r q i) n = (none_as o g e rows workers s k n.0, growth_as own (Event.Split w l r q i) n.1)
+  next_as rows workers own (Event.Lift w c) n = (none_as o g e rows workers s k n.0, growth_as own (Event.Lift w c) n.1)
+  next_as rows workers own _ n = n
 
 -- ## Of pages that are the same
 

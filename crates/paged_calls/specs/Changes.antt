@@ -12,10 +12,10 @@ use Rattle.paged_desks.specs.rows_trait.Views.{state}
 use Rattle.paged_desks.specs.session_state.Holds.{IsSameSession}
 use Rattle.paged_desks.specs.session_state.Staging.{KeepsLog}
 use Rattle.paged_desks.specs.worker_log.Logs.{limit, used}
-use Rattle.row_changes.specs.Puts.{IsChanged}
-use Rattle.row_changes.specs.Reads.{HasRead}
-use Rattle.row_changes.specs.declared.ways.Unmade.{Unmade}
-use Rattle.row_changes.specs.declared.ways.Unmade.TheVariants as unmade
+use Rattle.row_room.specs.row_changes.Puts.{IsChanged}
+use Rattle.row_room.specs.row_changes.Reads.{HasRead}
+use Rattle.row_room.specs.row_changes.declared.ways.Unmade.{Unmade}
+use Rattle.row_room.specs.row_changes.declared.ways.Unmade.TheVariants as unmade
 use Rattle.paged_desks.specs.Machines.{IsReady, view_of}
 use Rattle.paged_desks.specs.Parts.{IsSpent, StandsNowhere}
 use Rattle.paged_desks.specs.declared.machine.PagedMachine.{PagedMachine}

@@ -2,18 +2,16 @@
 use Rattle.std.specs.Prelude.{◌≡◌, ◌⊎◌, ◌≤◌, ◌<◌, ◌+◌, ◌*◌, ◌%◌, ◌==◌, ℕ, suc, Bool, true, false, List, length, None}
 use Rattle.map_model.specs.Lists.{all, any}
 use Rattle.page_model.specs.Limits.{transaction_changes}
-use Rattle.paged_desks.specs.cold_pages.Laws.{IsButEntries}
+use Rattle.page_model.specs.Nodes.{Node, is_leaf}
 use Rattle.paged_desks.specs.core_calls.Fronts.{Done}
 use Rattle.paged_desks.specs.core_calls.LogEvents.{IsTight, SyncsWhere}
 use Rattle.paged_desks.specs.core_calls.Room.{room_takes}
-use Rattle.paged_desks.specs.core_calls.Steps.{is_structure}
 use Rattle.paged_desks.specs.core_state.Events as happening
 use Rattle.paged_desks.specs.core_state.Needs.{is_held_by}
 use Rattle.paged_desks.specs.core_state.Openings.{Opening}
-use Rattle.paged_desks.specs.core_state.States.{State}
+use Rattle.paged_desks.specs.core_state.States.{State, nodes_of}
 use Rattle.paged_desks.specs.engine_calls.Parts.{behind_first}
 use Rattle.paged_desks.specs.engine_trait.Refusals.{is_full_for, room_refusal}
-use Rattle.paged_desks.specs.engine_trait.Rooms.{MakesRoom}
 use Rattle.lean_disk.specs.Story.{Story}
 use Rattle.paged_desks.specs.row_words.declared.event.Event.{Event}
 use Rattle.paged_desks.specs.row_words.declared.event.Event.TheVariants as told
@@ -23,17 +21,24 @@ use Rattle.paged_desks.specs.rows_trait.Views.{state}
 use Rattle.paged_desks.specs.session_desks.Desks.{desk_of}
 use Rattle.paged_desks.specs.session_desks.Parts.{AreAsMany, here}
 use Rattle.paged_desks.specs.session_state.Ties.{Behind}
+use Rattle.paged_desks.specs.session_state.tidy_rules.Rooms.{MakesRoom}
 use Rattle.paged_desks.specs.session_state.Undo.{HasRoomToStage}
 use Rattle.paged_desks.specs.call_parts.Parts.{Part}
+use Rattle.paged_desks.specs.call_parts.Rooms.{grows}
 use Rattle.paged_desks.specs.Machines.{memory, view_of}
 use Rattle.paged_desks.specs.Pages.{hot_in, is_paging}
 use Rattle.paged_desks.specs.declared.machine.PagedMachine.{PagedMachine}
 
 -- ## A way to room
 
--- each page is as it was, but for the entries of leaves
+-- a node is as it was, but for the entries of a leaf
+pub record IsLike (old new : Node) : Type 0 where
+  pub fields : new ≡ record old { pairs = new.pairs }
+  pub other : is_leaf old ≡ false → new ≡ old
+
+-- so is each page's
 abbrev pub AreLike : (s t : State) → Type 0
-AreLike s t = (p : ℕ) → IsButEntries (s.page p) (t.page p)
+AreLike s t = (p : ℕ) → IsLike (nodes_of s p) (nodes_of t p)
 
 -- whichever entries leaves have: where the key's is full, there can be room
 abbrev pub HasWay : Opening → State → (key : ℕ) → Type 0
@@ -41,8 +46,9 @@ HasWay g s key = (t : State) → AreLike s t → is_full_for g t key ≡ true �
 
 -- ## What was done
 
--- a page is moved, a sync is made for that, or session `own` changes the tree
+-- a page is moved, a sync is made for that, a row is given up as it stood, or session `own` changes the tree
 abbrev pub is_making : (own : ℕ) → Event → Bool
+is_making own (told.Purge w p keys) = w == own
 is_making own (told.Split w l r q i) = w == own
 is_making own (told.Lift w c) = w == own
 is_making own e = is_paging e
@@ -51,10 +57,10 @@ is_making own e = is_paging e
 abbrev pub AreMaking : (own : ℕ) → List Event → Type 0
 AreMaking own es = all (is_making own) es ≡ true
 
--- In a run, from this state on: each change of the tree is the next one on the way to room for the key; and where there is one, there was a way.
+-- In a run, from this state on: each change of the tree is the next one on the way to room for the key; and where a page was given to the tree, there was a way.
 pub record IsRoom (own key : ℕ) (g : Opening) (s : State) (es : List happening.Event) : Type 0 where
   pub makes : MakesRoom own g s key es
-  pub way : (any is_structure es ≡ false) ⊎ HasWay g s key
+  pub way : (any grows es ≡ false) ⊎ HasWay g s key
 
 -- Pages came and room was made, as a part of a call, by at most so many events beside those by which pages cooled. As many sessions are there, whose aborts are half
 -- done where they were.

@@ -35,4 +35,5 @@ pub use Rattle.paged_desks.specs.run_crashes as run_crashes
 pub use Rattle.paged_desks.specs.session_desks as session_desks
 pub use Rattle.paged_desks.specs.session_state as session_state
 pub use Rattle.paged_desks.specs.worker_log as worker_log
-pub use Rattle.row_changes.specs as row_changes
+pub use Rattle.row_room.specs.row_changes as row_changes
+pub use Rattle.row_room.specs.row_ends as row_ends

@@ -13,12 +13,13 @@ use Rattle.paged_desks.specs.rows_trait.Views.{state}
 use Rattle.paged_desks.specs.session_state.Free.{first_of}
 use Rattle.paged_desks.specs.session_state.Holds.{IsSameSession}
 use Rattle.paged_desks.specs.session_state.Staging.{KeepsLog}
+use Rattle.paged_desks.specs.session_state.tidy_rules.Rooms.{NoneGoes}
 use Rattle.paged_desks.specs.paged_rows.Paged.{IsWarm}
-use Rattle.row_changes.specs.Paths.{IsUnfit}
-use Rattle.row_changes.specs.Puts.{IsChanged}
-use Rattle.row_changes.specs.declared.ways.Unmade.{Unmade}
-use Rattle.row_changes.specs.declared.ways.Unmade.TheVariants as unmade
-use Rattle.row_growth.specs.declared.steps.Stepped.{Stepped}
+use Rattle.row_room.specs.row_changes.Paths.{IsUnfit}
+use Rattle.row_room.specs.row_changes.Puts.{IsChanged}
+use Rattle.row_room.specs.row_changes.declared.ways.Unmade.{Unmade}
+use Rattle.row_room.specs.row_changes.declared.ways.Unmade.TheVariants as unmade
+use Rattle.row_room.specs.declared.steps.Stepped.{Stepped}
 use Rattle.paged_desks.specs.Calls.{IsAside}
 use Rattle.paged_desks.specs.Machines.{IsReady, pages, view_of}
 use Rattle.paged_desks.specs.Parts.{HasFailed, IsSpent, StandsNowhere}
@@ -29,10 +30,11 @@ use Rattle.paged_calls.specs.declared.growing.Round.TheVariants as round
 
 -- ## Which change is next
 
--- the leaf of the key is full, and a change of the tree takes this page next: the least of the session's free pages
+-- the leaf of the key is full, none of its tombstones can go, and a change of the tree takes this page next: the least of the session's free pages
 pub record IsWanted {D : Type 0} (key page : ℕ) (m : PagedMachine D) : Type 0 where
   pub leaf : ℕ
   pub unfit : IsUnfit (view_of m) key leaf
+  pub none : NoneGoes (opening (view_of m).given) (state (view_of m)).core key
   pub fits : room_refusal (opening (view_of m).given) (state (view_of m)).core key ≡ None
   pub least : first_of m.machine.work.session.free ≡ Some page
 
@@ -45,6 +47,10 @@ most_rounds = 10
 -- and so many events a round, or the coming of the key's way, beside those by which pages cool
 abbrev pub most_a_round : ℕ
 most_a_round = 2 ^ 9
+
+-- of which so many are behind the wish for a free page
+abbrev pub most_behind_wish : ℕ
+most_behind_wish = 2 ^ 8
 
 abbrev pub most_a_put : ℕ
 most_a_put = suc most_rounds * most_a_round
@@ -80,13 +86,14 @@ pub record IsPutStopped {D : Type 0} (story : D → Story) (key most : ℕ) (m n
   pub going : IsGoing n
   pub spent : 2 ^ 62 ≤ n.machine.work.session.clock.clock
 
--- its leaf is full, and there can be no room
+-- its leaf is full, none of its tombstones can go, and there can be no room
 pub record IsPutCrowded {D : Type 0} (story : D → Story) (key most : ℕ) (why : Refusal) (m n : PagedMachine D) : Type 0 where
   pub made : HasMade story key most m n
   pub going : IsGoing n
   pub leaf : ℕ
   pub unfit : IsUnfit (view_of n) key leaf
   pub small : n.machine.work.session.clock.clock < 2 ^ 62
+  pub none : NoneGoes (opening (view_of n).given) (state (view_of n)).core key
   pub cause : room_refusal (opening (view_of n).given) (state (view_of n)).core key ≡ Some why
 
 -- the log's device failed while a record was staged

@@ -17,8 +17,8 @@ use Rattle.paged_desks.specs.session_state.Staging.{IsButClock}
 use Rattle.paged_desks.specs.session_state.Ties.{Behind}
 use Rattle.paged_desks.specs.session_desks.Desks.{desk_of}
 use Rattle.paged_desks.specs.session_desks.Parts.{AreAsMany, here}
-use Rattle.row_changes.specs.Reads.{HasRead}
-use Rattle.row_changes.specs.Takes.{NotTaken, Takes}
+use Rattle.row_room.specs.row_changes.Reads.{HasRead}
+use Rattle.row_room.specs.row_changes.Takes.{NotTaken, Takes}
 use Rattle.paged_desks.specs.Calls.{IsBeside}
 use Rattle.paged_desks.specs.Machines.{memory, view_of}
 use Rattle.paged_desks.specs.Pages.{ArePaging}

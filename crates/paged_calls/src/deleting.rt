@@ -4,10 +4,10 @@ ghost use Rattle.paged_desks.specs.engine_trait.Serving.{disk_fault};
 ghost use Rattle.lean_disk.specs.Faults.{HasCause};
 ghost use Rattle.paged_desks.specs.Machines.{IsReady, pages, view_of};
 ghost use Rattle.paged_desks.specs.paged_rows.Paged.{IsWarm};
-ghost use Rattle.row_changes.specs.Dels.{Dels};
-ghost use Rattle.row_changes.specs.Puts.{works_behind as works_after_try};
-ghost use Rattle.row_changes.specs.Ways.{IsCut};
-ghost use Rattle.row_changes.specs.declared.ways.Unmade.{Unmade};
+ghost use Rattle.row_room.specs.row_changes.Dels.{Dels};
+ghost use Rattle.row_room.specs.row_changes.Puts.{works_behind as works_after_try};
+ghost use Rattle.row_room.specs.row_changes.Ways.{IsCut};
+ghost use Rattle.row_room.specs.row_changes.declared.ways.Unmade.{Unmade};
 ghost use Rattle.paged_desks.specs.session_desks.Parts.{AreAsMany, SeatFits};
 ghost use Rattle.paged_desks.specs.session_state.Holds.{IsSameSession};
 ghost use Rattle.paged_desks.specs.Calls.{works_behind};
@@ -16,7 +16,7 @@ ghost use Rattle.paged_desks.specs.Calls.{IsAside};
 
 use crate::laws::laws;
 use paged_desks::{PagedMachine, Stages, Unserved, unserved_of};
-use row_changes::{Unmade, clock_refusal, del_held};
+use row_room::{Unmade, clock_refusal, del_held};
 
 // Takes the value of the key away in its leaf, unless a page of its way is not hot.
 fn del_in_leaf<D: Stages>(machine: &mut PagedMachine<D>, key: u64) -> Result<Option<u64>, Unmade>
@@ -63,7 +63,7 @@ fn del_hot<D: Stages>(machine: &mut PagedMachine<D>, key: u64) -> Result<Option<
 {
     match del_in_leaf(machine, key) {
         Ok(was) => Ok(was),
-        Err(unmade) => Err(row_changes::unserved_of(unmade)),
+        Err(unmade) => Err(row_room::unserved_of(unmade)),
     }
 }
 

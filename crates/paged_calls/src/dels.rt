@@ -15,7 +15,7 @@ use crate::laws::laws;
 use crate::taking::take;
 use crate::tests::change_refusal;
 use paged_desks::{Mode, PagedMachine, Stages, Unserved};
-use row_changes::clock_refusal;
+use row_room::clock_refusal;
 
 /// Takes the value of a key away. The answer is the value that it had. Where a page of the key's way is in no frame, the pages of the way are brought into frames.
 pub fn del<D: Stages>(machine: &mut PagedMachine<D>, key: u64) -> Result<Option<u64>, Unserved>

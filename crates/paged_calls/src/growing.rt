@@ -1,4 +1,5 @@
-// A put of a key whose row is held alone, wherever the pages of its way are: room is made by one change of the tree after another.
+// A put of a key whose row is held alone, wherever the pages of its way are: room is made by one change of the tree after another. Tombstones of its leaf that
+// nobody can need go first.
 ghost use Rattle.std.specs.Prelude.{◌≡◌, ◌<◌, ◌-◌, ◌^◌, ◌*◌, IsErrAnd, IfOk, Err, None, Some, true};
 ghost use Rattle.page_model.specs.Limits.{tombstone};
 ghost use Rattle.paged_desks.specs.engine_trait.Serving.{disk_fault};
@@ -6,21 +7,20 @@ ghost use Rattle.lean_disk.specs.Faults.{HasCause};
 ghost use Rattle.paged_desks.specs.Calls.{IsAside, works_behind};
 ghost use Rattle.paged_desks.specs.Machines.{IsReady, pages, view_of};
 ghost use Rattle.paged_desks.specs.paged_rows.Paged.{IsWarm};
-ghost use Rattle.row_changes.specs.Puts.{works_behind as works_after_try};
-ghost use Rattle.row_changes.specs.Ways.{IsCut};
-ghost use Rattle.row_changes.specs.declared.ways.Unmade.{Unmade};
-ghost use Rattle.row_growth.specs.Outcomes.{Steps};
-ghost use Rattle.row_growth.specs.Rooms.{IsPlaced};
+ghost use Rattle.row_room.specs.row_changes.Puts.{works_behind as works_after_try};
+ghost use Rattle.row_room.specs.row_changes.Ways.{IsCut};
+ghost use Rattle.row_room.specs.row_changes.declared.ways.Unmade.{Unmade};
+ghost use Rattle.row_room.specs.Outcomes.{Steps};
+ghost use Rattle.row_room.specs.row_growth.Rooms.{IsPlaced};
 ghost use Rattle.paged_desks.specs.session_desks.Parts.{AreAsMany, SeatFits};
 ghost use Rattle.paged_desks.specs.session_state.Holds.{IsSameSession};
 ghost use Rattle.paged_calls.specs.Changes.{MayStill};
 ghost use Rattle.paged_calls.specs.Growths.{MayPut};
-ghost use Rattle.paged_calls.specs.Rounds.{GoesOnWarm, IsWanted, Rounds, as_stepped, most_a_put, most_a_round, most_rounds, round_of};
+ghost use Rattle.paged_calls.specs.Rounds.{GoesOnWarm, IsWanted, Rounds, as_stepped, most_a_put, most_a_round, most_behind_wish, most_rounds, round_of};
 
 use crate::laws::laws;
 use paged_desks::{PagedMachine, Stages, Unserved, unserved_of};
-use row_changes::{Unmade, clock_refusal};
-use row_growth::{Placed, Stepped, put_step};
+use row_room::{Placed, Stepped, Unmade, clock_refusal, put_step};
 
 /// What one round of a put came to.
 #[derive(Clone, Copy)]
@@ -92,7 +92,7 @@ fn step_hot<D: Stages>(
 {
     match step(machine, key, value, placed) {
         Ok(stepped) => Ok(stepped),
-        Err(unmade) => Err(row_changes::unserved_of(unmade)),
+        Err(unmade) => Err(row_room::unserved_of(unmade)),
     }
 }
 
@@ -112,7 +112,7 @@ fn round_into<D: Stages>(
     ensures works { machine.new.machine.work.session.works ≡ works_behind result }
     ensures ready { works_behind result ≡ true → IsReady D.story machine.new }
     ensures fits { SeatFits machine.new.machine }
-    ensures rounds { Rounds D.story key value most_a_round result machine.old machine.new }
+    ensures rounds { Rounds D.story key value most_behind_wish result machine.old machine.new }
     ensures session { AreAsMany machine.old.machine machine.new.machine }
     ensures turn { works_behind result ≡ true → machine.new.machine.work.session.own ≡ machine.old.machine.work.session.own }
 
@@ -131,7 +131,7 @@ fn round_into<D: Stages>(
         Err(why) => Err(why),
         Ok(Stepped::Done(before)) => Ok(Round::Done(before)),
         Ok(Stepped::Grown) => Ok(Round::Grown),
-        // The page is the least free one still.
+        // The page is the least free one still; and where a sync has let tombstones go meanwhile, these went.
         Ok(Stepped::Needs { .. }) => unreachable!(),
     }
 }

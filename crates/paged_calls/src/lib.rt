@@ -28,3 +28,4 @@ pub use paged_desks::{
     every_sealed, every_shown, every_told, every_undone, every_version, fetch, master_bytes,
     page_bytes, save, spare, stage_end, unserved_of, write_next,
 };
+pub use row_room::{Ended, call_refusal};

@@ -16,7 +16,7 @@ use crate::laws::laws;
 use crate::taking::take;
 use crate::tests::change_refusal;
 use paged_desks::{Mode, PagedMachine, Stages, Unserved};
-use row_changes::clock_refusal;
+use row_room::clock_refusal;
 
 /// Gives a key a value. The answer is the value that it had. The pages of the key's way are brought into frames; where the key's leaf is full, room is made by changes of
 /// the tree, and each free page that one of these takes is brought into a frame too.

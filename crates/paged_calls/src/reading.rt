@@ -6,13 +6,13 @@ ghost use Rattle.paged_desks.specs.Pages.{goes_on};
 ghost use Rattle.paged_desks.specs.declared.warming.Unwarmed.TheVariants as stopped;
 ghost use Rattle.paged_desks.specs.paged_rows.Paged.{IsWarm};
 ghost use Rattle.paged_desks.specs.session_state.Staging.{IsButClock};
-ghost use Rattle.row_changes.specs.Reads.{Reads};
+ghost use Rattle.row_room.specs.row_changes.Reads.{Reads};
 ghost use Rattle.paged_calls.specs.Steps.{Holds, ReadsWarm};
 ghost use Rattle.paged_desks.specs.Calls.{IsBeside};
 
 use crate::laws::laws;
 use paged_desks::{PagedMachine, Stages, Unwarmed};
-use row_changes::{Cold, read_held};
+use row_room::{Cold, read_held};
 
 // Reads the key in its leaf, unless a page of its way is not hot.
 #[inline(always)]

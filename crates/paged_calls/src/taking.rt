@@ -7,7 +7,7 @@ ghost use Rattle.paged_calls.specs.Steps.{HasNotTaken, HasTaken};
 use crate::laws::laws;
 use map_model::Refusal;
 use paged_desks::{Mode, PagedMachine, Stages};
-use row_changes::take_row;
+use row_room::take_row;
 
 // The session whose turn it is takes the lock row of a key.
 #[inline(always)]

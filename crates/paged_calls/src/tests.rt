@@ -6,7 +6,7 @@ ghost use Rattle.paged_calls.specs.Tests.{call_test, change_test, is_going};
 use map_model::Refusal;
 use page_model::limits::TRANSACTION_CHANGES;
 use paged_desks::{Session, Unanswered, Unserved, WorkerLog};
-use row_changes::CLOCK_END;
+use row_room::CLOCK_END;
 
 // Whether a transaction is open, and its abort is not half done.
 fn is_going(session: &Session) -> bool

@@ -1,5 +1,5 @@
 -- How a call ends in a run: by one outcome more, to which the machine is tied; or by a fault.
-use Rattle.std.proofs.Common.{◌≡◌, ◌∙◌, ◌≤◌, ◌<◌, ◌==◌, ◌++◌, ◌||◌, ◌⊎◌, inl, inr, ℕ, true, false, cond, List, [], ◌∷◌, Some, length, ap, refl, sym, subst, arith, append-nil}
+use Rattle.std.proofs.Common.{◌≡◌, ◌∙◌, ◌≤◌, ◌<◌, ◌==◌, ◌++◌, ◌||◌, ◌⊎◌, inl, inr, ℕ, Bool, true, false, cond, List, [], ◌∷◌, Some, length, ap, refl, sym, subst, arith, append-nil, true≢false}
 use Rattle.std.proofs.lemmas.Bool.{cases_eq, cond-false, eq-eqb, ne_eqb}
 use Rattle.map_model.specs.Lists.{any}
 use Rattle.map_model.specs.declared.call.Answer.{Answer}
@@ -28,7 +28,6 @@ use Rattle.desk_parts.specs.engine_trait.Calls.{call_behind, due_call, is_half_d
 use Rattle.desk_parts.specs.engine_trait.Limits.{limits}
 use Rattle.desk_parts.specs.engine_trait.Logs.{Logs}
 use Rattle.desk_parts.specs.engine_trait.Refusals.{IsRefusedFor, refusal_in}
-use Rattle.desk_parts.specs.engine_trait.Rooms.{MakesItsRoom}
 use Rattle.lean_disk.specs.Moments.{LeavesOnly}
 use Rattle.lean_disk.specs.Story.{Crash, IsLawful, Story}
 use Rattle.desk_parts.specs.row_words.declared.event.Event.{Event}
@@ -43,11 +42,11 @@ use Rattle.desk_parts.specs.worker_log.Logs.{Log}
 use Rattle.desk_parts.proofs.call_parts.EndLemmas.{every_end}
 use Rattle.desk_parts.proofs.call_parts.RunLemmas.{behind_more, core_is}
 use Rattle.desk_parts.specs.call_parts.Areas.{Around, Beside, is_save}
-use Rattle.desk_parts.specs.call_parts.Deeds.{Answers, Does, Fails, IsRefusedOr, Keeps}
+use Rattle.desk_parts.specs.call_parts.Deeds.{Answers, Does, Fails, HasNoneToGo, IsRefusedOr, IsSure, Keeps}
 use Rattle.desk_parts.specs.call_parts.Laws.{EndLaws}
 use Rattle.desk_parts.specs.call_parts.Memory.{IsOf, Memory}
 use Rattle.desk_parts.specs.call_parts.Parts.{Failed, GoesOn, Part}
-use Rattle.desk_parts.specs.call_parts.Rooms.{IsRoomFor, looks, may_save, most_of}
+use Rattle.desk_parts.specs.call_parts.Rooms.{ChangesTree, IsRoomFor, NoneGoesFor, grows, looks, may_save, most_of}
 use Rattle.desk_parts.specs.engine_trait.Rooms.{needs_sync}
 use Rattle.paged_desks.specs.Machines.{memory, view_of}
 use Rattle.paged_desks.specs.declared.machine.PagedMachine.{PagedMachine}
@@ -99,9 +98,39 @@ IsOr why q = (why ≡ q) ⊎ ((why ≡ refusal.RowSpent) ⊎ (why ≡ refusal.Cl
 pub record IsAnswerTo (g : Opening) (xs : List Done) (own : ℕ) (c : Call) (why : Refusal) (es : List happening.Event) (log : Log) : Type 0 where
   pub few : length es ≤ most_of c
   pub is_for : IsRefusedFor g (state_after g (front xs ++ es)) own (is_half_done own xs) log (call_behind (outcomes xs) c) why
-  pub refuses : (q : Refusal) → refusal_in g (state_after g (front xs)) own (is_half_done own xs) log (call_behind (outcomes xs) c) ≡ Some q → IsOr why q
-  pub still : (q : Refusal) → refusal_in g (state_after g (front xs)) own (is_half_done own xs) log (call_behind (outcomes xs) c) ≡ Some q → any is_structure es ≡ false
-  pub room : MakesItsRoom own g (state_after g (front xs)) (call_behind (outcomes xs) c) es
+  pub kept : HasNoneToGo g (state_after g (front xs ++ es)) (call_behind (outcomes xs) c) why
+  pub refuses : (q : Refusal) → IsSure g (state_after g (front xs)) (call_behind (outcomes xs) c) es q → refusal_in g (state_after g (front xs)) own (is_half_done own xs) log (call_behind (outcomes xs) c) ≡ Some q → IsOr why q
+  pub still : (q : Refusal) → refusal_in g (state_after g (front xs)) own (is_half_done own xs) log (call_behind (outcomes xs) c) ≡ Some q → any grows es ≡ false
+  pub stays : (q : Refusal) → IsSure g (state_after g (front xs)) (call_behind (outcomes xs) c) es q → refusal_in g (state_after g (front xs)) own (is_half_done own xs) log (call_behind (outcomes xs) c) ≡ Some q → any is_structure es ≡ false
+  pub room : ChangesTree own g (state_after g (front xs)) (call_behind (outcomes xs) c) es
+
+-- which is asked of a put alone
+pub none_to_go : (g : Opening) (s : State) (c : Call) (why : Refusal) → NoneGoesFor g s c → HasNoneToGo g s c why
+none_to_go g s c refusal.TooTall none = none
+none_to_go g s c refusal.NoPages none = none
+none_to_go g s c _ none = tt
+
+-- where the tree is as it was, no page was given to it
+grows_one : (e : happening.Event) → is_structure e ≡ false → grows e ≡ false
+grows_one (happening.Event.Split w l r q i) h = h
+grows_one (happening.Event.Lift w c) h = h
+grows_one _ h = refl
+
+pub grows_none : (es : List happening.Event) → any is_structure es ≡ false → any grows es ≡ false
+grows_none [] h = refl
+grows_none (e ∷ es) h = neither (grows e) (any grows es) (grows_one e (first (is_structure e) (any is_structure es) h)) (grows_none es (second (is_structure e) (any is_structure es) h))
+  where
+    neither : (p q : Bool) → p ≡ false → q ≡ false → (p || q) ≡ false
+    neither true q x y = x
+    neither false q x y = y
+
+    first : (p q : Bool) → (p || q) ≡ false → p ≡ false
+    first true q x = x
+    first false q x = refl
+
+    second : (p q : Bool) → (p || q) ≡ false → q ≡ false
+    second true q x = absurd (true≢false x)
+    second false q x = x
 
 -- ## It is answered
 
@@ -207,8 +236,10 @@ module _ (l : Grounds) {D : Type 0} (m n : PagedMachine D) (old new : Story) (la
     answers_of k = record {
       few = k.few;
       refused = λ q e. subst (λ (p : Refusal). IsRefusedFor g (state_after g (front xs ++ events_of es)) own (is_half_done own xs) ((memory m).log own) (call_behind (outcomes xs) c) p) (refused_is why q e) k.is_for;
-      refuses = λ q sure e. either q (k.refuses q e);
+      kept = λ q e. subst (HasNoneToGo g (state_after g (front xs ++ events_of es)) (call_behind (outcomes xs) c)) (refused_is why q e) k.kept;
+      refuses = λ q sure e. either q (k.refuses q sure e);
       still = k.still;
+      stays = k.stays;
       room = k.room;
     }
       where

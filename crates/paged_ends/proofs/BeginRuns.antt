@@ -30,7 +30,6 @@ use Rattle.paged_desks.specs.engine_calls.Refused.{IsRefusal, TakesRows, refused
 use Rattle.paged_desks.specs.engine_trait.Calls.{is_half_done}
 use Rattle.paged_desks.specs.engine_trait.Limits.{limits}
 use Rattle.paged_desks.specs.engine_trait.Refusals.{log_refusal, refusal_in}
-use Rattle.paged_desks.specs.engine_trait.Rooms.{MakesItsRoom}
 use Rattle.lean_disk.specs.Story.{IsLawful, Story}
 use Rattle.paged_desks.specs.row_words.declared.event.Event.{Event}
 use Rattle.paged_desks.specs.row_words.declared.event.Event.TheVariants as told
@@ -45,13 +44,14 @@ use Rattle.paged_desks.specs.session_desks.Parts.{AreAsMany, here}
 use Rattle.paged_desks.specs.session_desks.declared.desk.Desk.{Desk}
 use Rattle.paged_desks.specs.worker_log.Logs.{Log, limit, used}
 use Rattle.paged_desks.proofs.call_parts.RunLemmas.{behind_more, core_is}
-use Rattle.paged_desks.specs.call_parts.Deeds.{Answers}
+use Rattle.paged_desks.specs.call_parts.Deeds.{Answers, HasNoneToGo}
+use Rattle.paged_desks.specs.call_parts.Rooms.{ChangesTree}
 use Rattle.paged_desks.specs.call_parts.Parts.{Part}
 use Rattle.paged_desks.specs.Calls.{AreHalf, DoesTied, Tied}
 use Rattle.paged_desks.specs.Machines.{IsReady, memory, view_of}
 use Rattle.paged_desks.specs.declared.machine.PagedMachine.{PagedMachine}
 use Rattle.paged_desks.proofs.AsideLemmas.{other_desk}
-use Rattle.paged_desks.proofs.EndingLemmas.{Grounds, begins, does_tied, half_own, line_call, refused_tied}
+use Rattle.paged_desks.proofs.EndingLemmas.{Grounds, begins, does_tied, grows_none, half_own, line_call, none_to_go, refused_tied}
 use Rattle.paged_desks.proofs.Moments.{length_events}
 use Rattle.paged_ends.proofs.BeginStands.{begin_part, join_parts, same_begun}
 use Rattle.paged_ends.specs.Pieces.{HasBegun}
@@ -142,9 +142,11 @@ module _ (l : Grounds) (answers : EveryAnswer) (coming : EveryComing) {D : Type 
     how = record {
       few = let a = c.few in let e = length_events es in let d = length-append first (happening.Event.Begin o f ∷ []) in omega arith;
       refused = λ why q. absurd (begun_refused number why q);
+      kept = λ why q. absurd (begun_refused number why q);
       refuses = λ why sure q. absurd (free why (subst (λ (w : ℕ). refusal_in g (state_after g (front xs)) w (is_half_done w xs) ((memory m).log own) call.Begin ≡ Some why) c.turn (subst (λ (d : Call). refusal_in g (state_after g (front xs)) o (is_half_done o xs) ((memory m).log own) d ≡ Some why) asks q)));
-      still = λ why q. any_append is_structure first (happening.Event.Begin o f ∷ []) c.structure refl;
-      room = subst (λ (d : Call). MakesItsRoom o g (state_after g (front xs)) d done.events) (sym asks) (any_append is_structure first (happening.Event.Begin o f ∷ []) c.structure refl);
+      still = λ why q. grows_none done.events (any_append is_structure first (happening.Event.Begin o f ∷ []) c.structure refl);
+      stays = λ why sure q. any_append is_structure first (happening.Event.Begin o f ∷ []) c.structure refl;
+      room = subst (λ (d : Call). ChangesTree o g (state_after g (front xs)) d done.events) (sym asks) (any_append is_structure first (happening.Event.Begin o f ∷ []) c.structure refl);
     }
 
     n_own : n.machine.work.session.own ≡ own
@@ -202,7 +204,9 @@ module _ (l : Grounds) (answers : EveryAnswer) (coming : EveryComing) {D : Type 
         (record {
           few = let a = c.few in let e = length_events es in omega arith;
           is_for = inl (subst (λ (d : Call). refusal_in g (state_after g (front xs ++ first)) own (is_half_done own xs) ((memory m).log own) d ≡ Some why) (sym asks) test_was);
-          refuses = λ q e. inl (stays q (subst (λ (d : Call). refusal_in g (state_after g (front xs)) own (is_half_done own xs) ((memory m).log own) d ≡ Some q) asks e));
-          still = λ q e. c.structure;
-          room = subst (λ (d : Call). MakesItsRoom own g (state_after g (front xs)) d first) (sym asks) c.structure;
+          kept = subst (λ (d : Call). HasNoneToGo g (state_after g (front xs ++ first)) d why) (sym asks) (none_to_go g (state_after g (front xs ++ first)) call.Begin why tt);
+          refuses = λ q sure e. inl (stays q (subst (λ (d : Call). refusal_in g (state_after g (front xs)) own (is_half_done own xs) ((memory m).log own) d ≡ Some q) asks e));
+          still = λ q e. grows_none first c.structure;
+          stays = λ q sure e. c.structure;
+          room = subst (λ (d : Call). ChangesTree own g (state_after g (front xs)) d first) (sym asks) c.structure;
         }) c.halves

@@ -30,7 +30,6 @@ use Rattle.paged_desks.specs.engine_calls.Refused.{TakesRows, refused_by}
 use Rattle.paged_desks.specs.engine_trait.Calls.{is_half_done}
 use Rattle.paged_desks.specs.engine_trait.Limits.{limits}
 use Rattle.paged_desks.specs.engine_trait.Refusals.{refusal_in}
-use Rattle.paged_desks.specs.engine_trait.Rooms.{MakesItsRoom}
 use Rattle.lean_disk.proofs.MomentLemmas.{framed}
 use Rattle.lean_disk.specs.Moments.{Framed}
 use Rattle.lean_disk.specs.Story.{IsLawful, Story}
@@ -57,12 +56,13 @@ use Rattle.paged_desks.specs.worker_log.Logs.{Log}
 use Rattle.paged_desks.proofs.call_parts.RunLemmas.{behind_more, core_is}
 use Rattle.paged_desks.proofs.call_parts.StepLemmas.{every_step}
 use Rattle.paged_desks.specs.call_parts.Memory.{Memory}
+use Rattle.paged_desks.specs.call_parts.Rooms.{ChangesTree}
 use Rattle.paged_desks.specs.call_parts.Parts.{Part}
 use Rattle.paged_desks.specs.Calls.{AreHalf, DoesTied, EndsWork, IsAside, IsBeside, Tied, works_behind}
 use Rattle.paged_desks.specs.Machines.{IsReady, memory, view_of}
 use Rattle.paged_desks.specs.declared.machine.PagedMachine.{PagedMachine}
 use Rattle.paged_desks.proofs.AsideLemmas.{ready_aside}
-use Rattle.paged_desks.proofs.EndingLemmas.{Grounds, begins, line_call, refused_tied}
+use Rattle.paged_desks.proofs.EndingLemmas.{Grounds, begins, grows_none, line_call, refused_tied}
 use Rattle.paged_desks.proofs.Moments.{length_events}
 use Rattle.paged_desks.proofs.StandLemmas.{IsBusy, halves_are, logs_is, memory_is}
 use Rattle.paged_ends.proofs.CommitStands.{busy_none, ready_committed}
@@ -190,9 +190,11 @@ module _ (l : Grounds) (answers : EveryAnswer) (coming : EveryComing) {D : Type 
       (record {
         few = omega arith;
         is_for = inl (subst (λ (d : Call). refusal_in g (state_after g (front xs ++ [])) own (is_half_done own xs) ((memory m).log own) d ≡ Some refusal.NoTransaction) (sym asks) (ap (λ ys. refusal_in g (state_after g ys) own (is_half_done own xs) ((memory m).log own) call.Commit) (append-nil (front xs)) ∙ none));
-        refuses = λ q e. inl (some_is refusal.NoTransaction q (sym none ∙ subst (λ (d : Call). refusal_in g s own (is_half_done own xs) ((memory m).log own) d ≡ Some q) asks e));
+        kept = tt;
+        refuses = λ q sure e. inl (some_is refusal.NoTransaction q (sym none ∙ subst (λ (d : Call). refusal_in g s own (is_half_done own xs) ((memory m).log own) d ≡ Some q) asks e));
         still = λ q e. refl;
-        room = subst (λ (d : Call). MakesItsRoom own g s d []) (sym asks) refl;
+        stays = λ q sure e. refl;
+        room = subst (λ (d : Call). ChangesTree own g s d []) (sym asks) refl;
       })
       (λ w lo hi. refl)
     where
@@ -252,8 +254,10 @@ module _ (l : Grounds) (answers : EveryAnswer) (coming : EveryComing) {D : Type 
         (record {
           few = let c = length_events es in let d = k.missed.few in let e = held.fewer in let f = held.rows.few in omega arith;
           is_for = inr (inl refl);
-          refuses = λ q e. inr (inl refl);
-          still = λ q e. misses_structure es k.missed.are_misses;
-          room = subst (λ (d : Call). MakesItsRoom own g s d first) (sym asks) (misses_structure es k.missed.are_misses);
+          kept = tt;
+          refuses = λ q sure e. inr (inl refl);
+          still = λ q e. grows_none first (misses_structure es k.missed.are_misses);
+          stays = λ q sure e. misses_structure es k.missed.are_misses;
+          room = subst (λ (d : Call). ChangesTree own g s d first) (sym asks) (misses_structure es k.missed.are_misses);
         })
         (λ w lo hi. halves_are story m n b (ap (λ (x : Session). x.own) k.session) (ap (λ (x : Session). x.is_half_aborted) k.session) w)

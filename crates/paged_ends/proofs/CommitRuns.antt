@@ -30,7 +30,6 @@ use Rattle.paged_desks.specs.engine_calls.Parts.{behind_first}
 use Rattle.paged_desks.specs.engine_trait.Calls.{is_half_done}
 use Rattle.paged_desks.specs.engine_trait.Limits.{limits}
 use Rattle.paged_desks.specs.engine_trait.Refusals.{refusal_in}
-use Rattle.paged_desks.specs.engine_trait.Rooms.{MakesItsRoom}
 use Rattle.lean_disk.specs.Story.{IsLawful, Story}
 use Rattle.paged_desks.specs.log_record.declared.record.Body.TheVariants as body
 use Rattle.paged_desks.specs.log_record.declared.record.Record.{Record}
@@ -57,11 +56,12 @@ use Rattle.paged_desks.proofs.call_parts.RunLemmas.{behind_more, core_is}
 use Rattle.paged_desks.proofs.call_parts.SightLemmas.{every_sight}
 use Rattle.paged_desks.proofs.call_parts.StepLemmas.{every_step}
 use Rattle.paged_desks.specs.call_parts.Deeds.{Answers}
+use Rattle.paged_desks.specs.call_parts.Rooms.{ChangesTree}
 use Rattle.paged_desks.specs.call_parts.Laws.{EveryEnter}
 use Rattle.paged_desks.specs.call_parts.Memory.{Memory, with_own}
 use Rattle.paged_desks.specs.call_parts.Parts.{Failed, Part}
 use Rattle.paged_desks.specs.call_parts.Steps.{Sees, SeesBetween}
-use Rattle.paged_desks.proofs.EndingLemmas.{Grounds}
+use Rattle.paged_desks.proofs.EndingLemmas.{Grounds, grows_none}
 
 -- ## Parts, with what is in memory
 
@@ -265,7 +265,9 @@ module _ (l : Grounds) (answers : EveryAnswer) (entries : EveryEntry) (g : Openi
     how due = record {
       few = few_events due;
       refused = λ why q. absurd (refused_never x.txn number why q);
+      kept = λ why q. absurd (refused_never x.txn number why q);
       refuses = λ why sure q. absurd (free why (subst (λ (c : Call). refusal_in g s owner (is_half_done owner xs) log c ≡ Some why) asks q));
-      still = λ why q. no_change due;
-      room = subst (λ (c : Call). MakesItsRoom owner g s c (done due).events) (sym asks) (no_change due);
+      still = λ why q. grows_none (done due).events (no_change due);
+      stays = λ why sure q. no_change due;
+      room = subst (λ (c : Call). ChangesTree owner g s c (done due).events) (sym asks) (no_change due);
     }

@@ -17,10 +17,10 @@ use Rattle.paged_desks.specs.engine_calls.Answers.{EveryAnswer}
 use Rattle.paged_desks.specs.engine_calls.Clauses.{EveryComing, IsNewLine}
 use Rattle.paged_desks.specs.engine_calls.Refused.{IsRefusal, refused_by}
 use Rattle.paged_desks.specs.engine_trait.Limits.{limits}
-use Rattle.paged_desks.specs.engine_trait.Rooms.{MakesItsRoom}
 use Rattle.lean_disk.specs.Story.{IsLawful, Story}
 use Rattle.paged_desks.proofs.call_parts.StepLemmas.{every_step}
 use Rattle.paged_desks.specs.call_parts.Parts.{Part}
+use Rattle.paged_desks.specs.call_parts.Rooms.{ChangesTree}
 use Rattle.paged_desks.specs.Calls.{AreHalf, DoesTied, Tied}
 use Rattle.paged_desks.specs.Machines.{IsReady, memory, view_of}
 use Rattle.paged_desks.specs.Parts.{HasHalf}
@@ -35,7 +35,7 @@ no_marks false ms = refl
 
 -- of session `own`, or for 0 of nobody
 pub spent_does : (l : Grounds) → EveryAnswer → EveryComing → {D : Type 0} (story : D → Story) (lawful : (d : D) → IsLawful (story d)) (m : PagedMachine D) → IsReady story m → HasHalf m → (own : ℕ) (c : Call)
-    → ((g : Opening) (xs : List Done) → RefusedLogs limits g xs own c refusal.RowSpent []) → ((g : Opening) (xs : List Done) → Tries g own (outcomes xs) c refusal.RowSpent []) → ((g : Opening) (s : State) → MakesItsRoom own g s c [])
+    → ((g : Opening) (xs : List Done) → RefusedLogs limits g xs own c refusal.RowSpent []) → ((g : Opening) (xs : List Done) → Tries g own (outcomes xs) c refusal.RowSpent []) → ((g : Opening) (s : State) → ChangesTree own g s c [])
     → (g : Opening) (xs : List Done) → g.workers ≡ m.machine.work.session.workers → Tied g m.machine.work.session.group xs (view_of m) (memory m) → AreHalf g.workers xs m.machine → IsNewLine (outcomes xs)
     → DoesTied g m.machine.work.session.group xs own c (answer.Refused refusal.RowSpent) (memory m) m (story m.machine.work.disk) (story m.machine.work.disk)
 spent_does l answers coming story lawful m ready half own c due tries room g xs many tied halves line =
@@ -43,9 +43,11 @@ spent_does l answers coming story lawful m ready half own c due tries room g xs 
     (record {
       few = omega arith;
       is_for = inr (inl refl);
-      refuses = λ q e. inr (inl refl);
+      kept = tt;
+      refuses = λ q sure e. inr (inl refl);
       still = λ q e. refl;
-      room = subst (λ (d : Call). MakesItsRoom own g (state_after g (front xs)) d []) (sym asks) (room g (state_after g (front xs)));
+      stays = λ q sure e. refl;
+      room = subst (λ (d : Call). ChangesTree own g (state_after g (front xs)) d []) (sym asks) (room g (state_after g (front xs)));
     })
     (λ w low high. no_marks (own == w) (marks_by w (outcomes xs)) ∙ halves w low high)
   where

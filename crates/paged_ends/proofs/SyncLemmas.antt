@@ -20,11 +20,11 @@ use Rattle.paged_desks.specs.engine_calls.Syncs.{kept_by}
 use Rattle.paged_desks.specs.engine_trait.Calls.{is_half_done}
 use Rattle.paged_desks.specs.engine_trait.Limits.{limits}
 use Rattle.paged_desks.specs.engine_trait.Refusals.{refusal_in}
-use Rattle.paged_desks.specs.engine_trait.Rooms.{MakesItsRoom, needs_sync}
+use Rattle.paged_desks.specs.engine_trait.Rooms.{needs_sync}
 use Rattle.lean_disk.specs.Story.{IsLawful, Story}
 use Rattle.paged_desks.specs.row_words.Moments.{events_of}
 use Rattle.paged_desks.specs.call_parts.Deeds.{Answers, Fails}
-use Rattle.paged_desks.specs.call_parts.Rooms.{IsRoomFor, makes_sync, may_save}
+use Rattle.paged_desks.specs.call_parts.Rooms.{ChangesTree, IsRoomFor, makes_sync, may_save}
 use Rattle.paged_desks.proofs.session_desks.SeatLemmas.{holds_of}
 use Rattle.paged_desks.specs.session_desks.Parts.{here, shape}
 use Rattle.paged_desks.specs.session_state.declared.session.Session.{Session}
@@ -32,7 +32,7 @@ use Rattle.paged_desks.specs.Calls.{AreHalf, DoesTied, Tied}
 use Rattle.paged_desks.specs.Machines.{IsReady, memory, view_of}
 use Rattle.paged_desks.specs.Syncs.{HasNotSynced, IsSynced}
 use Rattle.paged_desks.specs.declared.machine.PagedMachine.{PagedMachine}
-use Rattle.paged_desks.proofs.EndingLemmas.{Grounds, begins, does_half, end_laws, half_other, line_call}
+use Rattle.paged_desks.proofs.EndingLemmas.{Grounds, begins, does_half, end_laws, grows_none, half_other, line_call}
 use Rattle.paged_desks.proofs.Moments.{length_events}
 use Rattle.paged_ends.proofs.SyncEvents.{sync_logs, sync_none}
 
@@ -99,9 +99,11 @@ module _ (l : Grounds) {D : Type 0} (story : D → Story) (lawful : (d : D) → 
     how = record {
       few = few;
       refused = λ why q. absurd (never_refused at why q);
+      kept = λ why q. absurd (never_refused at why q);
       refuses = λ why sure q. absurd (none_is why (subst (λ (c : Call). refusal_in g (state_after g (front xs)) 0 (is_half_done 0 xs) ((memory m).log 0) c ≡ Some why) asks q));
-      still = λ why q. structure;
-      room = subst (λ (c : Call). MakesItsRoom 0 g (state_after g (front xs)) c es) (sym asks) structure;
+      still = λ why q. grows_none es structure;
+      stays = λ why sure q. structure;
+      room = subst (λ (c : Call). ChangesTree 0 g (state_after g (front xs)) c es) (sym asks) structure;
     }
 
     half_is : AreHalf g.workers (done ∷ xs) n.machine

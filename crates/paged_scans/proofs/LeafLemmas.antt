@@ -34,7 +34,7 @@ use Rattle.paged_calls.specs.paged_desks.declared.machine.PagedMachine.{PagedMac
 use Rattle.paged_calls.specs.page_pool.Counts.{hot_pages}
 use Rattle.paged_calls.specs.Growths.{AreLike}
 use Rattle.paged_calls.proofs.EventLemmas.{paging_structure}
-use Rattle.paged_calls.proofs.LikeLemmas.{run_like}
+use Rattle.paged_calls.proofs.LikeLemmas.{run_came}
 use Rattle.paged_calls.proofs.MadeLemmas.{core_paging, making_paging}
 use Rattle.paged_scans.specs.Steps.{above_in, pages_above}
 use Rattle.paged_scans.proofs.CountLemmas.{above_all, above_fewer, above_same}
@@ -189,7 +189,7 @@ module _ {D : Type 0} (story : D → Story) (m : PagedMachine D) (ready : IsRead
         (ready.keeps.sound (v.seen ++ more)).residence
 
     like : AreLike s (state (view_of n)).core
-    like = subst (λ (t : State). AreLike s t) (sym core_is) (run_like g es s resides_on (core_paging 0 es (making_paging 0 es paging) (paging_structure es paging)))
+    like = subst (λ (t : State). AreLike s t) (sym core_is) (run_came g es s resides_on (core_paging 0 es (making_paging 0 es paging) (paging_structure es paging)))
 
     -- so as many are above a key
     pub above_come : (key : ℕ) → above_in n key ≡ above_in m key

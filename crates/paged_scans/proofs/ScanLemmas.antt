@@ -17,10 +17,10 @@ use Rattle.paged_calls.specs.engine_trait.declared.unserved.Unanswered.TheVarian
 use Rattle.paged_calls.specs.engine_trait.declared.unserved.Unserved.TheVariants as unserved
 use Rattle.paged_calls.proofs.call_parts.RunLemmas.{behind_more, core_is}
 use Rattle.paged_calls.specs.call_parts.Areas.{is_save}
-use Rattle.paged_calls.specs.call_parts.Deeds.{Answers, Fails}
+use Rattle.paged_calls.specs.call_parts.Deeds.{Answers, Fails, HasNoneToGo}
 use Rattle.paged_calls.specs.call_parts.Memory.{Memory}
 use Rattle.paged_calls.specs.call_parts.Parts.{Failed, Part}
-use Rattle.paged_calls.specs.call_parts.Rooms.{IsRoomFor, is_paging, looks, may_save, most_of, walks}
+use Rattle.paged_calls.specs.call_parts.Rooms.{ChangesTree, IsRoomFor, is_paging, looks, may_save, most_of, walks}
 use Rattle.paged_calls.specs.core_calls.Deeds.{Deed, Met, Over, Paused, Refused, Unsaid, answered, asked, marks_by, marks_for}
 use Rattle.paged_calls.specs.core_calls.Fronts.{Done, front, outcomes}
 use Rattle.paged_calls.specs.core_calls.LogEvents.{IsPressedYet, IsTight, IsTightSomewhere, SyncsWhere}
@@ -51,7 +51,7 @@ use Rattle.paged_calls.specs.engine_trait.Calls as trait_calls
 use Rattle.paged_calls.specs.engine_trait.Calls.{call_behind, due_call, is_half_done}
 use Rattle.paged_calls.specs.engine_trait.Limits.{limits}
 use Rattle.paged_calls.specs.engine_trait.Refusals.{IsRefusedFor, refusal_in}
-use Rattle.paged_calls.specs.engine_trait.Rooms.{MakesItsRoom, needs_sync}
+use Rattle.paged_calls.specs.engine_trait.Rooms.{needs_sync}
 use Rattle.lean_disk.specs.Story.{IsLawful, Story}
 use Rattle.page_model.specs.Nodes.{Format, holds}
 use Rattle.page_model.specs.Pairs.{Pair}
@@ -75,7 +75,7 @@ use Rattle.paged_calls.specs.session_state.Ties.{Behind}
 use Rattle.paged_calls.specs.session_state.declared.session.Session.{Session}
 use Rattle.paged_calls.specs.worker_log.Logs.{Log}
 use Rattle.paged_calls.proofs.paged_desks.Doing.{hot_few}
-use Rattle.paged_calls.proofs.paged_desks.EndingLemmas.{Grounds, begins, does_tied, end_laws, half_own, refused_tied}
+use Rattle.paged_calls.proofs.paged_desks.EndingLemmas.{Grounds, begins, does_tied, end_laws, grows_none, half_own, none_to_go, refused_tied}
 use Rattle.paged_calls.proofs.paged_desks.HalfLates.{half_late}
 use Rattle.paged_calls.proofs.paged_desks.StandLemmas.{halves_are, memory_is}
 use Rattle.paged_calls.specs.paged_desks.Calls.{AreHalf, CallDoes, DoesTied, EndsWork, IsBeside, StandsNot, Tied, works_behind}
@@ -279,9 +279,11 @@ module _ (l : Grounds) (answers : EveryAnswer) (coming : EveryComing) (frames : 
           few = (let k : 0 ≤ 2 ^ 26 = omega arith in k);
           is_for = subst (λ ys. IsRefusedFor g (state_after g ys) own (is_half_done own xs) log (call_behind (outcomes xs) c) refusal.NoTransaction) (sym (append-nil (front xs)))
               (inl (ap (refusal_in g there own (is_half_done own xs) log) asks ∙ shut_is));
-          refuses = λ q e. inl (some_is refusal.NoTransaction q (sym (ap (refusal_in g there own (is_half_done own xs) log) asks ∙ shut_is) ∙ e));
+          kept = tt;
+          refuses = λ q sure e. inl (some_is refusal.NoTransaction q (sym (ap (refusal_in g there own (is_half_done own xs) log) asks ∙ shut_is) ∙ e));
           still = λ q e. refl;
-          room = subst (λ d. MakesItsRoom own g there d []) (sym asks) refl;
+          stays = λ q sure e. refl;
+          room = subst (λ d. ChangesTree own g there d []) (sym asks) refl;
         })
         (λ w lo hi. refl)
 
@@ -312,9 +314,11 @@ module _ (l : Grounds) (answers : EveryAnswer) (coming : EveryComing) (frames : 
           how = record {
             few = subst (λ (e : Call). length (events_of es) ≤ most_of e) (sym is) few_of;
             refused = λ why q. subst (λ (e : Call). IsRefusedFor g (state_after g (front xs ++ events_of es)) own (is_half_done own xs) log e why) (sym behind) (is_for why q);
+            kept = λ why q. subst (λ (e : Call). HasNoneToGo g (state_after g (front xs ++ events_of es)) e why) (sym behind) (none_to_go g (state_after g (front xs ++ events_of es)) c why tt);
             refuses = λ why sure q. absurd (none_is why (sym none ∙ (ap (refusal_in g there own (is_half_done own xs) log) (sym behind) ∙ q)));
-            still = λ why q. structure;
-            room = subst (λ (e : Call). MakesItsRoom own g there e (events_of es)) (sym behind) structure;
+            still = λ why q. grows_none (events_of es) structure;
+            stays = λ why sure q. structure;
+            room = subst (λ (e : Call). ChangesTree own g there e (events_of es)) (sym behind) structure;
           }
 
     -- ## Nothing is done

@@ -22,6 +22,7 @@ pub use Rattle.paged_calls.specs.page_provider as page_provider
 pub use Rattle.paged_calls.specs.page_store as page_store
 pub use Rattle.paged_calls.specs.paged_desks as paged_desks
 pub use Rattle.paged_calls.specs.paged_rows as paged_rows
+pub use Rattle.paged_calls.specs.row_ends as row_ends
 pub use Rattle.paged_calls.specs.row_opening as row_opening
 pub use Rattle.paged_calls.specs.row_words as row_words
 pub use Rattle.paged_calls.specs.rows_trait as rows_trait
@@ -29,4 +30,3 @@ pub use Rattle.paged_calls.specs.run_crashes as run_crashes
 pub use Rattle.paged_calls.specs.session_desks as session_desks
 pub use Rattle.paged_calls.specs.session_state as session_state
 pub use Rattle.paged_calls.specs.worker_log as worker_log
-pub use Rattle.row_ends.specs as row_ends

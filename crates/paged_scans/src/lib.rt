@@ -13,11 +13,10 @@ pub use scans::{PAIRS, Scan, Step, scan_on};
 
 // Passed on to the crates above.
 pub use paged_calls::{
-    Body, Desk, DiskFault, Heads, Machine, Master, MasterStoreDiskFault, Node, PageRef,
+    Body, Desk, DiskFault, Ended, Heads, Machine, Master, MasterStoreDiskFault, Node, PageRef,
     PagedMachine, Record, Stages, Staging, Unanswered, Unread, Unserved, Work, WorkerLog,
     block_bytes, choose, del, every_agreement, every_block_in, every_kept, every_line_count,
     every_master_in, every_met, every_prefix, every_printed, every_reached, every_rise,
     every_run_crash, every_sealed, every_shown, every_told, every_undone, every_version, fetch,
     get, master_bytes, page_bytes, put, save, spare, stage_end, write_next,
 };
-pub use row_ends::Ended;

@@ -12,8 +12,7 @@ ghost use Rattle.paged_scans.specs.Calls.{IsIn, StandsAt, step_answer, step_behi
 
 use crate::laws::laws;
 use crate::nexts::next;
-use paged_calls::{PagedMachine, Stages, Unserved};
-use row_ends::call_refusal;
+use paged_calls::{PagedMachine, Stages, Unserved, call_refusal};
 
 /// How many pairs a scan tells, before it stops.
 pub const PAIRS: u32 = 64;

@@ -20,6 +20,9 @@ pub(crate) const ROWS: u64 = 4096;
 // How many pairs a scan tells.
 const PAIRS: u64 = 64;
 
+// How many entries a leaf has room for.
+const ROOM: u64 = 60;
+
 // A key that a session holds until its transaction ends, alone or beside others that read it; or perhaps holds, since it is not sure that a scan met it.
 #[derive(Clone, Copy)]
 struct Held {
@@ -38,7 +41,7 @@ struct Entry {
 }
 
 /// What a run begins on: a map, and the keys that have an entry in the tree. Each key of the map has one, and so has each that was ever written, but where a crash
-/// lost what wrote it, it is not sure that it has.
+/// lost what wrote it, or it was deleted and a put may have taken its tombstone out of its leaf, it is not sure that it has.
 #[derive(Drop)]
 pub(crate) struct Left {
     pub map: BTreeMap<u64, u64>,
@@ -94,6 +97,8 @@ pub(crate) struct Plain {
     pub alloc: Global,
     pub map: BTreeMap<u64, u64>,
     pub entries: BTreeMap<u64, bool>,
+    // The keys whose tombstones a put of this run may have taken out of their leaves.
+    gone: BTreeMap<u64, bool>,
     changes: Vec<Change>,
     held: Vec<Held>,
     sessions: [Session; 3],
@@ -161,6 +166,9 @@ impl Left {
                 entries.insert(*key, false)?;
             }
         }
+        for (key, _) in &plain.gone {
+            entries.insert(*key, false)?;
+        }
         Ok(entries)
     }
 }
@@ -176,6 +184,7 @@ impl Plain {
             alloc,
             map: copied(alloc, &left.map)?,
             entries,
+            gone: BTreeMap::new(alloc),
             changes: Vec::new(alloc),
             held: Vec::new(alloc),
             sessions: [NEW; 3],
@@ -345,8 +354,57 @@ impl Plain {
         self.want_value(rt, session, word, value);
     }
 
-    // A key that was written keeps its entry.
+    // Whether a session surely holds the key's row.
+    fn is_held(&self, key: u64) -> bool {
+        for held in &self.held {
+            if held.is_sure && held.key % ROWS == key % ROWS {
+                return true;
+            }
+        }
+        false
+    }
+
+    // Whether an entry lacks a value, and nobody surely holds its row: its tombstone may go.
+    fn may_go(&self, key: u64) -> bool {
+        self.map.get(&key).is_none() && !self.is_held(key)
+    }
+
+    // The entries beside a key's that may go with a put of it: so many sure ones lie between at most, since its leaf has room for no more.
+    fn going_beside(&self, key: u64) -> Result<Vec<u64>, AllocError> {
+        let mut going = Vec::new(self.alloc);
+        let mut between = 0u64;
+        for (other, is_sure) in self.entries.range(..key).rev() {
+            if between >= ROOM {
+                break;
+            }
+            if self.may_go(*other) {
+                going.push(*other)?;
+            } else if *is_sure {
+                between = between.saturating_add(1);
+            }
+        }
+        between = 0;
+        for (other, is_sure) in self.entries.range(key..) {
+            if between >= ROOM {
+                break;
+            }
+            if self.may_go(*other) {
+                going.push(*other)?;
+            } else if *is_sure {
+                between = between.saturating_add(1);
+            }
+        }
+        Ok(going)
+    }
+
+    // A key that is written has an entry. Where it had none, its leaf may have been full: then tombstones went that nobody can need.
     fn note_entry(&mut self, key: u64) -> Result<(), AllocError> {
+        if self.entries.get(&key).copied() != Some(true) {
+            for other in &self.going_beside(key)? {
+                self.entries.insert(*other, false)?;
+                self.gone.insert(*other, true)?;
+            }
+        }
         self.entries.insert(key, true)?;
         Ok(())
     }

@@ -11,3 +11,5 @@ pub mod BackLemmas
 pub mod TakesLemmas
 pub mod TouchLemmas
 pub mod StepLemmas
+-- Passed on to the crates above.
+pub use Rattle.session_state.proofs as session_state

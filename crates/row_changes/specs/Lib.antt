@@ -7,3 +7,5 @@ pub mod Dels
 pub mod Paths
 pub mod Outcomes
 pub mod Backs
+-- Passed on to the crates above.
+pub use Rattle.session_state.specs as session_state

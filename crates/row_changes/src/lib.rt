@@ -20,3 +20,9 @@ pub use puts::{Tried, put_in_leaf};
 pub use reads::read_held;
 pub use taking::take_row;
 pub use ways::{Cold, Unmade, unserved_of};
+
+// Passed on to the crates above.
+pub use session_state::{
+    DEEPEST, Following, FreePages, Locked, Mode, Path, Rows, Session, Stages, Unanswered, Unserved,
+    Unstaged, Work, WorkerLog, every_low, every_room, every_warm, next, next_fits,
+};

@@ -1,35 +1,35 @@
 -- What comes of a change of the tree that room for a key takes.
 use Rattle.std.proofs.Common.{◌≡◌, inl, ◌<◌, ℕ, false, List, [], ◌∷◌, length, None, Some, Result, Ok, Err, refl, sym, ap, ◌∙◌, subst, arith}
 use Rattle.map_model.specs.Lists.{Has}
-use Rattle.session_state.specs.engine_trait.declared.unserved.Unanswered.TheVariants as unanswered
-use Rattle.session_state.specs.engine_trait.declared.unserved.Unserved.{Unserved}
-use Rattle.session_state.specs.engine_trait.declared.unserved.Unserved.TheVariants as unserved
+use Rattle.row_changes.specs.session_state.engine_trait.declared.unserved.Unanswered.TheVariants as unanswered
+use Rattle.row_changes.specs.session_state.engine_trait.declared.unserved.Unserved.{Unserved}
+use Rattle.row_changes.specs.session_state.engine_trait.declared.unserved.Unserved.TheVariants as unserved
 use Rattle.page_model.specs.Nodes.{Node}
-use Rattle.session_state.specs.core_state.States.{nodes_of}
-use Rattle.session_state.specs.core_calls.Room.{EveryRoom}
-use Rattle.session_state.specs.draw_trait.declared.draw.Unstaged.{Unstaged}
-use Rattle.session_state.specs.draw_trait.declared.draw.Unstaged.TheVariants.{DiskFault, LogFull}
+use Rattle.row_changes.specs.session_state.core_state.States.{nodes_of}
+use Rattle.row_changes.specs.session_state.core_calls.Room.{EveryRoom}
+use Rattle.row_changes.specs.session_state.draw_trait.declared.draw.Unstaged.{Unstaged}
+use Rattle.row_changes.specs.session_state.draw_trait.declared.draw.Unstaged.TheVariants.{DiskFault, LogFull}
 use Rattle.lean_disk.specs.Faults.{HasCause}
 use Rattle.lean_disk.specs.Story.{Story}
-use Rattle.session_state.specs.log_record.declared.record.Record.{Record}
-use Rattle.session_state.specs.worker_log.Logs.{Log}
-use Rattle.session_state.specs.row_words.Openings.{opening}
-use Rattle.session_state.specs.rows_trait.Views.{Shape, state}
-use Rattle.session_state.specs.rows_trait.declared.view.View.{View}
+use Rattle.row_changes.specs.session_state.log_record.declared.record.Record.{Record}
+use Rattle.row_changes.specs.session_state.worker_log.Logs.{Log}
+use Rattle.row_changes.specs.session_state.row_words.Openings.{opening}
+use Rattle.row_changes.specs.session_state.rows_trait.Views.{Shape, state}
+use Rattle.row_changes.specs.session_state.rows_trait.declared.view.View.{View}
 use Rattle.btree_smo.specs.Outcomes.{Drew, IsSpentIn}
 use Rattle.btree_smo.specs.declared.outcome.Outcome.{Outcome}
 use Rattle.btree_smo.specs.declared.outcome.Outcome.TheVariants as outcome
-use Rattle.session_state.specs.Free.{first_of, without_first}
-use Rattle.session_state.specs.Holds.{Holds, IsSameSession}
-use Rattle.session_state.specs.Numbers.{HaveRoom}
+use Rattle.row_changes.specs.session_state.Free.{first_of, without_first}
+use Rattle.row_changes.specs.session_state.Holds.{Holds, IsSameSession}
+use Rattle.row_changes.specs.session_state.Numbers.{HaveRoom}
 use Rattle.row_changes.specs.Puts.{MayChange}
 use Rattle.row_growth.specs.Rooms.{IsExpected, answer_of, session_after}
-use Rattle.session_state.specs.Staging.{Staging}
-use Rattle.session_state.specs.declared.session.Session.{Session}
+use Rattle.row_changes.specs.session_state.Staging.{Staging}
+use Rattle.row_changes.specs.session_state.declared.session.Session.{Session}
 use Rattle.row_changes.proofs.DelLemmas.{same_by_clock, same_then}
 use Rattle.row_growth.proofs.GrowthLemmas.{sound}
 use Rattle.row_changes.proofs.PutLemmas.{low_page}
-use Rattle.session_state.proofs.UndoLemmas.{room_to_end}
+use Rattle.row_changes.proofs.session_state.UndoLemmas.{room_to_end}
 
 -- ## Free pages
 

@@ -4,48 +4,48 @@ use Rattle.map_model.specs.Lists.{Has, keep}
 use Rattle.map_model.proofs.ListLemmas.{upd_same}
 use Rattle.page_model.specs.Records as records
 use Rattle.page_model.specs.Tree.{IsTree}
-use Rattle.session_state.specs.image_model.Entries.{Entry, Kind, is_commit}
-use Rattle.session_state.specs.core_state.Needs.{holds_row, may}
-use Rattle.session_state.specs.core_state.Openings.{Opening}
-use Rattle.session_state.specs.core_state.States.{Place, State, Worker, in_frame, nodes_of}
-use Rattle.session_state.specs.core_state.Steps.{at_pages, happens, moves, page_entry, records_in}
-use Rattle.session_state.specs.core_calls.LogEvents.{behind}
-use Rattle.session_state.specs.core_calls.Warms.{IsWarmFrom}
-use Rattle.session_state.specs.core_calls.Room.{free_list, room_takes}
+use Rattle.row_changes.specs.session_state.image_model.Entries.{Entry, Kind, is_commit}
+use Rattle.row_changes.specs.session_state.core_state.Needs.{holds_row, may}
+use Rattle.row_changes.specs.session_state.core_state.Openings.{Opening}
+use Rattle.row_changes.specs.session_state.core_state.States.{Place, State, Worker, in_frame, nodes_of}
+use Rattle.row_changes.specs.session_state.core_state.Steps.{at_pages, happens, moves, page_entry, records_in}
+use Rattle.row_changes.specs.session_state.core_calls.LogEvents.{behind}
+use Rattle.row_changes.specs.session_state.core_calls.Warms.{IsWarmFrom}
+use Rattle.row_changes.specs.session_state.core_calls.Room.{free_list, room_takes}
 use Rattle.lean_disk.specs.Story.{Story}
-use Rattle.session_state.specs.log_record.declared.record.Record.{Record}
-use Rattle.session_state.specs.disk_image.Records.{entry_of}
-use Rattle.session_state.specs.worker_log.Logs.{Log}
-use Rattle.session_state.specs.row_words.declared.event.Event.{Event}
-use Rattle.session_state.specs.row_words.declared.event.Event.TheVariants as event
-use Rattle.session_state.specs.row_words.declared.given.Given.{Given}
-use Rattle.session_state.specs.row_words.Moments.{Moment, event_of}
-use Rattle.session_state.specs.row_words.Openings.{opening}
-use Rattle.session_state.specs.row_words.Sealed.{begun}
-use Rattle.session_state.proofs.row_words.SealedLemmas.{run_append}
-use Rattle.session_state.specs.rows_trait.Causes.{EveryLow}
-use Rattle.session_state.specs.rows_trait.Views.{AreLow, Shape, after_all, state}
-use Rattle.session_state.specs.rows_trait.declared.view.View.{View}
-use Rattle.session_state.specs.btree_descent.Known.{Sound}
-use Rattle.session_state.specs.btree_descent.Puts.{Onward, clock_in}
+use Rattle.row_changes.specs.session_state.log_record.declared.record.Record.{Record}
+use Rattle.row_changes.specs.session_state.disk_image.Records.{entry_of}
+use Rattle.row_changes.specs.session_state.worker_log.Logs.{Log}
+use Rattle.row_changes.specs.session_state.row_words.declared.event.Event.{Event}
+use Rattle.row_changes.specs.session_state.row_words.declared.event.Event.TheVariants as event
+use Rattle.row_changes.specs.session_state.row_words.declared.given.Given.{Given}
+use Rattle.row_changes.specs.session_state.row_words.Moments.{Moment, event_of}
+use Rattle.row_changes.specs.session_state.row_words.Openings.{opening}
+use Rattle.row_changes.specs.session_state.row_words.Sealed.{begun}
+use Rattle.row_changes.proofs.session_state.row_words.SealedLemmas.{run_append}
+use Rattle.row_changes.specs.session_state.rows_trait.Causes.{EveryLow}
+use Rattle.row_changes.specs.session_state.rows_trait.Views.{AreLow, Shape, after_all, state}
+use Rattle.row_changes.specs.session_state.rows_trait.declared.view.View.{View}
+use Rattle.row_changes.specs.session_state.btree_descent.Known.{Sound}
+use Rattle.row_changes.specs.session_state.btree_descent.Puts.{Onward, clock_in}
 use Rattle.btree_smo.specs.Outcomes.{Caused, Changed, IsHotIn, Missed, WasSo}
 use Rattle.btree_smo.specs.declared.outcome.Outcome.TheVariants.{RowSpent}
-use Rattle.session_state.specs.engine_trait.Refusals.{room_refusal}
-use Rattle.session_state.specs.engine_trait.Rooms.{IsNextRoom}
-use Rattle.session_state.specs.flush_avoidance.Clocks.{risen}
-use Rattle.session_state.specs.Free.{without_first}
-use Rattle.session_state.specs.Holds.{AreNumbers, Holds, IsOf}
+use Rattle.row_changes.specs.session_state.engine_trait.Refusals.{room_refusal}
+use Rattle.row_changes.specs.session_state.engine_trait.Rooms.{IsNextRoom}
+use Rattle.row_changes.specs.session_state.flush_avoidance.Clocks.{risen}
+use Rattle.row_changes.specs.session_state.Free.{without_first}
+use Rattle.row_changes.specs.session_state.Holds.{AreNumbers, Holds, IsOf}
 use Rattle.row_changes.specs.Puts.{MayChange}
-use Rattle.session_state.specs.Undo.{HasHand, HasRoomToStage, undo_of}
+use Rattle.row_changes.specs.session_state.Undo.{HasHand, HasRoomToStage, undo_of}
 use Rattle.row_growth.specs.Rooms.{IsGrown, IsGrowth, IsSpentBehind}
-use Rattle.session_state.specs.Staging.{Staging}
-use Rattle.session_state.specs.declared.session.Session.{Session}
-use Rattle.session_state.proofs.HoldLemmas.{rows_on}
+use Rattle.row_changes.specs.session_state.Staging.{Staging}
+use Rattle.row_changes.specs.session_state.declared.session.Session.{Session}
+use Rattle.row_changes.proofs.session_state.HoldLemmas.{rows_on}
 use Rattle.row_changes.proofs.TouchLemmas.{Touched, touched}
 use Rattle.row_changes.proofs.Misses.{misses_core}
 use Rattle.row_changes.proofs.PutLemmas.{floor_same, same_flushed}
 use Rattle.row_changes.proofs.SeenLemmas.{ran_seen, seen_core}
-use Rattle.session_state.proofs.UndoLemmas.{hand_after, room_after, room_kept, room_to_end, room_to_undo}
+use Rattle.row_changes.proofs.session_state.UndoLemmas.{hand_after, room_after, room_kept, room_to_end, room_to_undo}
 
 -- ## Moments of a call, where nobody else steps
 

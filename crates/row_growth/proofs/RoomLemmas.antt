@@ -10,28 +10,28 @@ use Rattle.page_model.specs.Nodes.{Node, covers, holds, is_leaf}
 use Rattle.page_model.specs.Pairs.{Span, find, spans}
 use Rattle.page_model.specs.Redo.{has_key, is_some}
 use Rattle.page_model.specs.Tree.{Names}
-use Rattle.session_state.specs.core_state.Needs.{is_held_by, may}
-use Rattle.session_state.specs.core_state.Openings.{Opening}
-use Rattle.session_state.specs.core_state.States.{Place, State, in_frame, nodes_of}
-use Rattle.session_state.specs.core_state.Steps.{happens}
-use Rattle.session_state.specs.core_calls.Warms.{IsWarmFrom}
-use Rattle.session_state.specs.core_calls.Room.{EveryRoom, IsWay, full_run, is_all_full, room_takes}
+use Rattle.row_changes.specs.session_state.core_state.Needs.{is_held_by, may}
+use Rattle.row_changes.specs.session_state.core_state.Openings.{Opening}
+use Rattle.row_changes.specs.session_state.core_state.States.{Place, State, in_frame, nodes_of}
+use Rattle.row_changes.specs.session_state.core_state.Steps.{happens}
+use Rattle.row_changes.specs.session_state.core_calls.Warms.{IsWarmFrom}
+use Rattle.row_changes.specs.session_state.core_calls.Room.{EveryRoom, IsWay, full_run, is_all_full, room_takes}
 use Rattle.lean_disk.specs.Story.{Story}
-use Rattle.session_state.specs.disk_image.Records.{entry_of}
-use Rattle.session_state.specs.worker_log.Logs.{Log}
-use Rattle.session_state.specs.row_words.Moments.{Moment, event_of}
-use Rattle.session_state.specs.row_words.Openings.{opening}
-use Rattle.session_state.proofs.row_words.Stays.{and_true}
-use Rattle.session_state.specs.rows_trait.Views.{Shape, after_all, state}
-use Rattle.session_state.specs.rows_trait.declared.view.View.{View}
-use Rattle.session_state.specs.lean_proto.Paths.{above}
-use Rattle.session_state.specs.btree_descent.Trails.{IsAbove}
+use Rattle.row_changes.specs.session_state.disk_image.Records.{entry_of}
+use Rattle.row_changes.specs.session_state.worker_log.Logs.{Log}
+use Rattle.row_changes.specs.session_state.row_words.Moments.{Moment, event_of}
+use Rattle.row_changes.specs.session_state.row_words.Openings.{opening}
+use Rattle.row_changes.proofs.session_state.row_words.Stays.{and_true}
+use Rattle.row_changes.specs.session_state.rows_trait.Views.{Shape, after_all, state}
+use Rattle.row_changes.specs.session_state.rows_trait.declared.view.View.{View}
+use Rattle.row_changes.specs.session_state.lean_proto.Paths.{above}
+use Rattle.row_changes.specs.session_state.btree_descent.Trails.{IsAbove}
 use Rattle.btree_smo.specs.Outcomes.{WasSo}
 use Rattle.btree_smo.specs.Room.{IsFullIn, IsRoomIn, IsRun}
-use Rattle.session_state.specs.engine_trait.Refusals.{is_full_for, room_refusal}
-use Rattle.session_state.specs.engine_trait.Rooms.{IsNextRoom}
-use Rattle.session_state.specs.Free.{first_of}
-use Rattle.session_state.specs.Holds.{Holds}
+use Rattle.row_changes.specs.session_state.engine_trait.Refusals.{is_full_for, room_refusal}
+use Rattle.row_changes.specs.session_state.engine_trait.Rooms.{IsNextRoom}
+use Rattle.row_changes.specs.session_state.Free.{first_of}
+use Rattle.row_changes.specs.session_state.Holds.{Holds}
 use Rattle.row_changes.specs.Puts.{MayChange}
 use Rattle.row_changes.specs.Paths.{IsPathTo, IsUnfit, LeadsToFull}
 use Rattle.row_growth.specs.Rooms.{CanGrow, Grew, IsGrown, IsNeeded, IsNoRoom, IsPlaced, IsSpentBehind, Takes, TakesLift, TakesSplit, frame_among, next_of, page_of}
@@ -40,12 +40,12 @@ use Rattle.row_growth.specs.declared.room.Next.TheVariants as next
 use Rattle.row_growth.specs.declared.room.Growth.{Growth}
 use Rattle.row_growth.specs.declared.room.Growth.TheVariants as growth
 use Rattle.row_growth.specs.declared.room.Placed.{Placed}
-use Rattle.session_state.specs.declared.session.Session.{Session}
+use Rattle.row_changes.specs.session_state.declared.session.Session.{Session}
 use Rattle.row_growth.proofs.GrowthLemmas.{holds_same, hot_in, one_in, sound}
 use Rattle.row_changes.proofs.SeenLemmas.{none_seen, still}
-use Rattle.session_state.specs.engine_trait.declared.unserved.Unanswered.TheVariants as unanswered
-use Rattle.session_state.specs.engine_trait.declared.unserved.Unserved.{Unserved}
-use Rattle.session_state.specs.engine_trait.declared.unserved.Unserved.TheVariants as unserved
+use Rattle.row_changes.specs.session_state.engine_trait.declared.unserved.Unanswered.TheVariants as unanswered
+use Rattle.row_changes.specs.session_state.engine_trait.declared.unserved.Unserved.{Unserved}
+use Rattle.row_changes.specs.session_state.engine_trait.declared.unserved.Unserved.TheVariants as unserved
 
 -- ## Tests
 

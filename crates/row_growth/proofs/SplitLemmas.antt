@@ -1,42 +1,42 @@
 -- What comes of a split that room for a key takes.
 use Rattle.std.proofs.Common.{◌≡◌, ◌≢◌, ◌⊎◌, inl, inr, ◌<◌, ℕ, true, false, List, [], ◌∷◌, length, Result, Ok, refl, sym, ap, ◌∙◌, subst, arith, true≢false}
-use Rattle.session_state.specs.engine_trait.declared.unserved.Unserved.{Unserved}
+use Rattle.row_changes.specs.session_state.engine_trait.declared.unserved.Unserved.{Unserved}
 use Rattle.page_model.specs.Check.{names_page}
 use Rattle.page_model.specs.Needs.{split_record}
 use Rattle.page_model.specs.Pairs.{Span}
 use Rattle.page_model.specs.Tree.{Names}
-use Rattle.session_state.specs.image_model.Entries.{Kind}
-use Rattle.session_state.proofs.core_commit.Events.{names_to}
-use Rattle.session_state.specs.core_state.Events as happening
-use Rattle.session_state.specs.core_state.Needs.{may}
-use Rattle.session_state.specs.core_state.Openings.{Opening}
-use Rattle.session_state.specs.core_state.States.{Place, State, gsns_of, nodes_of}
-use Rattle.session_state.specs.core_state.Steps.{happens}
-use Rattle.session_state.specs.core_calls.Room.{EveryRoom, free_list}
-use Rattle.session_state.specs.draw_trait.declared.draw.Unstaged.{Unstaged}
-use Rattle.session_state.specs.draw_trait.declared.draw.Unstaged.TheVariants.{DiskFault, LogFull}
+use Rattle.row_changes.specs.session_state.image_model.Entries.{Kind}
+use Rattle.row_changes.proofs.session_state.core_commit.Events.{names_to}
+use Rattle.row_changes.specs.session_state.core_state.Events as happening
+use Rattle.row_changes.specs.session_state.core_state.Needs.{may}
+use Rattle.row_changes.specs.session_state.core_state.Openings.{Opening}
+use Rattle.row_changes.specs.session_state.core_state.States.{Place, State, gsns_of, nodes_of}
+use Rattle.row_changes.specs.session_state.core_state.Steps.{happens}
+use Rattle.row_changes.specs.session_state.core_calls.Room.{EveryRoom, free_list}
+use Rattle.row_changes.specs.session_state.draw_trait.declared.draw.Unstaged.{Unstaged}
+use Rattle.row_changes.specs.session_state.draw_trait.declared.draw.Unstaged.TheVariants.{DiskFault, LogFull}
 use Rattle.lean_disk.specs.Story.{Story}
-use Rattle.session_state.specs.log_record.declared.record.Record.{Record}
-use Rattle.session_state.specs.worker_log.Logs.{Log}
-use Rattle.session_state.specs.row_words.declared.event.Event.TheVariants.{Split}
-use Rattle.session_state.specs.row_words.Moments.{Moment}
-use Rattle.session_state.specs.row_words.Openings.{opening}
-use Rattle.session_state.specs.rows_trait.Causes.{EveryLow}
-use Rattle.session_state.specs.rows_trait.Views.{AreLow, Shape, after_all, state}
-use Rattle.session_state.specs.rows_trait.declared.view.View.{View}
+use Rattle.row_changes.specs.session_state.log_record.declared.record.Record.{Record}
+use Rattle.row_changes.specs.session_state.worker_log.Logs.{Log}
+use Rattle.row_changes.specs.session_state.row_words.declared.event.Event.TheVariants.{Split}
+use Rattle.row_changes.specs.session_state.row_words.Moments.{Moment}
+use Rattle.row_changes.specs.session_state.row_words.Openings.{opening}
+use Rattle.row_changes.specs.session_state.rows_trait.Causes.{EveryLow}
+use Rattle.row_changes.specs.session_state.rows_trait.Views.{AreLow, Shape, after_all, state}
+use Rattle.row_changes.specs.session_state.rows_trait.declared.view.View.{View}
 use Rattle.btree_smo.specs.Outcomes.{Caused, Drew, IsHotIn, IsUndisturbed, Missed, WasSo, last_after}
 use Rattle.btree_smo.specs.Splits as splits
 use Rattle.btree_smo.specs.Splits.{Divided, Parted, split_entry}
 use Rattle.btree_smo.specs.declared.outcome.Outcome.{Outcome}
 use Rattle.btree_smo.specs.declared.outcome.Outcome.TheVariants as outcome
-use Rattle.session_state.specs.engine_trait.Rooms.{IsNextRoom}
-use Rattle.session_state.specs.Free.{without_first}
-use Rattle.session_state.specs.Holds.{Holds}
-use Rattle.session_state.specs.Numbers.{HaveRoom}
+use Rattle.row_changes.specs.session_state.engine_trait.Rooms.{IsNextRoom}
+use Rattle.row_changes.specs.session_state.Free.{without_first}
+use Rattle.row_changes.specs.session_state.Holds.{Holds}
+use Rattle.row_changes.specs.session_state.Numbers.{HaveRoom}
 use Rattle.row_changes.specs.Puts.{MayChange}
 use Rattle.row_growth.specs.Rooms.{CanSplit, IsExpected, IsGrown, Made, answer_of, session_after}
-use Rattle.session_state.specs.Staging.{Staging}
-use Rattle.session_state.specs.declared.session.Session.{Session}
+use Rattle.row_changes.specs.session_state.Staging.{Staging}
+use Rattle.row_changes.specs.session_state.declared.session.Session.{Session}
 use Rattle.row_growth.proofs.GrowthLemmas.{grown, holds_grown, holds_same, hot_in, met, missed_core, now_is, one_in, sound, spent_behind, was_then}
 use Rattle.row_growth.proofs.ChangeLemmas.{first_rest, not_full, not_spent, page_bare, page_free}
 use Rattle.row_changes.proofs.TakesLemmas.{takes_split}

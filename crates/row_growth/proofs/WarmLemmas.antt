@@ -3,12 +3,12 @@ use Rattle.std.proofs.Common.{◌≡◌, inl, inr, ◌==◌, ◌||◌, ℕ, Bool
 use Rattle.std.proofs.lemmas.Bool.{cond-false, eqb-true, or_cases}
 use Rattle.page_model.specs.Needs.{lift_record, split_record}
 use Rattle.page_model.specs.Nodes.{covers}
-use Rattle.session_state.specs.image_model.Entries.{Contents, Entry, Kind, touches, written}
-use Rattle.session_state.specs.core_state.Events.{Event}
-use Rattle.session_state.specs.core_state.Openings.{Opening}
-use Rattle.session_state.specs.core_state.States.{Place, State, gsns_of, is_hot, nodes_of}
-use Rattle.session_state.specs.core_state.Steps.{at_pages, happens, page_entry}
-use Rattle.session_state.specs.core_calls.Warms.{IsWarmFrom}
+use Rattle.row_changes.specs.session_state.image_model.Entries.{Contents, Entry, Kind, touches, written}
+use Rattle.row_changes.specs.session_state.core_state.Events.{Event}
+use Rattle.row_changes.specs.session_state.core_state.Openings.{Opening}
+use Rattle.row_changes.specs.session_state.core_state.States.{Place, State, gsns_of, is_hot, nodes_of}
+use Rattle.row_changes.specs.session_state.core_state.Steps.{at_pages, happens, page_entry}
+use Rattle.row_changes.specs.session_state.core_calls.Warms.{IsWarmFrom}
 
 -- a page that stands hot in a frame is hot, by whatever number
 hot_there : (s : State) (p q frame : ℕ) → s.place q ≡ Place.Hot frame → (q == p) ≡ true → is_hot (s.place p) ≡ true

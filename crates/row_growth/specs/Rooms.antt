@@ -3,44 +3,44 @@ use Rattle.std.specs.Prelude.{◌≡◌, ◌≢◌, ◌≤◌, ◌<◌, ◌-◌,
 use Rattle.page_model.specs.Limits.{leaf_room}
 use Rattle.map_model.specs.declared.call.Refusal.{Refusal}
 use Rattle.map_model.specs.declared.call.Refusal.TheVariants as refusal
-use Rattle.session_state.specs.engine_trait.declared.unserved.Unanswered.TheVariants as unanswered
-use Rattle.session_state.specs.engine_trait.declared.unserved.Unserved.{Unserved}
-use Rattle.session_state.specs.engine_trait.declared.unserved.Unserved.TheVariants as unserved
-use Rattle.session_state.specs.core_state.Needs.{may}
-use Rattle.session_state.specs.core_state.Steps.{happens}
-use Rattle.session_state.specs.core_state.Events as happening
+use Rattle.row_changes.specs.session_state.engine_trait.declared.unserved.Unanswered.TheVariants as unanswered
+use Rattle.row_changes.specs.session_state.engine_trait.declared.unserved.Unserved.{Unserved}
+use Rattle.row_changes.specs.session_state.engine_trait.declared.unserved.Unserved.TheVariants as unserved
+use Rattle.row_changes.specs.session_state.core_state.Needs.{may}
+use Rattle.row_changes.specs.session_state.core_state.Steps.{happens}
+use Rattle.row_changes.specs.session_state.core_state.Events as happening
 use Rattle.page_model.specs.Check.{names_page}
-use Rattle.session_state.specs.core_calls.Room.{room_takes}
+use Rattle.row_changes.specs.session_state.core_calls.Room.{room_takes}
 use Rattle.lean_disk.specs.Story.{Story}
-use Rattle.session_state.specs.log_record.declared.record.Record.{Record}
-use Rattle.session_state.specs.log_block.Block.{records_text}
-use Rattle.session_state.specs.row_words.declared.event.Event.{Event}
-use Rattle.session_state.specs.row_words.declared.event.Event.TheVariants.{Lift, Split}
-use Rattle.session_state.specs.row_words.Moments.{event_of}
-use Rattle.session_state.specs.row_words.Openings.{opening}
-use Rattle.session_state.specs.rows_trait.declared.view.View.{View}
-use Rattle.session_state.specs.rows_trait.Views.{state}
-use Rattle.session_state.specs.disk_image.Records.{entry_of}
-use Rattle.session_state.specs.draw_trait.declared.draw.Unstaged.TheVariants.{DiskFault}
+use Rattle.row_changes.specs.session_state.log_record.declared.record.Record.{Record}
+use Rattle.row_changes.specs.session_state.log_block.Block.{records_text}
+use Rattle.row_changes.specs.session_state.row_words.declared.event.Event.{Event}
+use Rattle.row_changes.specs.session_state.row_words.declared.event.Event.TheVariants.{Lift, Split}
+use Rattle.row_changes.specs.session_state.row_words.Moments.{event_of}
+use Rattle.row_changes.specs.session_state.row_words.Openings.{opening}
+use Rattle.row_changes.specs.session_state.rows_trait.declared.view.View.{View}
+use Rattle.row_changes.specs.session_state.rows_trait.Views.{state}
+use Rattle.row_changes.specs.session_state.disk_image.Records.{entry_of}
+use Rattle.row_changes.specs.session_state.draw_trait.declared.draw.Unstaged.TheVariants.{DiskFault}
 use Rattle.btree_smo.specs.Outcomes.{AreMisses}
 use Rattle.btree_smo.specs.declared.outcome.Outcome.{Outcome}
 use Rattle.btree_smo.specs.declared.outcome.Outcome.TheVariants as outcome
-use Rattle.session_state.specs.worker_log.Calls.{After}
-use Rattle.session_state.specs.worker_log.Logs.{Log}
-use Rattle.session_state.specs.log_calls.Calls.{StagesOn}
-use Rattle.session_state.specs.engine_trait.Refusals.{room_refusal}
-use Rattle.session_state.specs.engine_trait.Rooms.{IsNextRoom}
-use Rattle.session_state.specs.flush_avoidance.Clocks.{risen}
-use Rattle.session_state.specs.declared.session.Session.{Session}
-use Rattle.session_state.specs.Free.{first_of, without_first}
+use Rattle.row_changes.specs.session_state.worker_log.Calls.{After}
+use Rattle.row_changes.specs.session_state.worker_log.Logs.{Log}
+use Rattle.row_changes.specs.session_state.log_calls.Calls.{StagesOn}
+use Rattle.row_changes.specs.session_state.engine_trait.Refusals.{room_refusal}
+use Rattle.row_changes.specs.session_state.engine_trait.Rooms.{IsNextRoom}
+use Rattle.row_changes.specs.session_state.flush_avoidance.Clocks.{risen}
+use Rattle.row_changes.specs.session_state.declared.session.Session.{Session}
+use Rattle.row_changes.specs.session_state.Free.{first_of, without_first}
 use Rattle.row_growth.specs.declared.room.Next.{Next}
 use Rattle.row_growth.specs.declared.room.Next.TheVariants as next
 use Rattle.row_growth.specs.declared.room.Growth.{Growth}
 use Rattle.row_growth.specs.declared.room.Growth.TheVariants as growth
 use Rattle.row_growth.specs.declared.room.Placed.{Placed}
 use Rattle.row_changes.specs.Ways.{IsWarm}
-use Rattle.session_state.specs.core_state.States.{Place}
-use Rattle.session_state.specs.Staging.{KeepsLog}
+use Rattle.row_changes.specs.session_state.core_state.States.{Place}
+use Rattle.row_changes.specs.session_state.Staging.{KeepsLog}
 
 -- ## Where a free page stands
 

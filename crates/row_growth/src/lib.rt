@@ -9,3 +9,9 @@ mod steps;
 
 pub use room::{Growth, Placed, make_room};
 pub use steps::{Stepped, put_step};
+
+// Passed on to the crates above.
+pub use row_changes::{
+    CLOCK_END, Cold, Path, Rows, Stages, Tried, Unmade, Unserved, Work, clock_refusal, del_held,
+    every_room, put_in_leaf, read_held, take_row, unserved_of,
+};

@@ -1,8 +1,8 @@
 // Room for a further key in a full leaf.
 ghost use Rattle.std.specs.Prelude.{◌≡◌, ◌≤◌, ◌<◌, length, Err, true, false};
-ghost use Rattle.session_state.specs.engine_trait.Serving.{disk_fault};
+ghost use Rattle.row_changes.specs.session_state.engine_trait.Serving.{disk_fault};
 ghost use Rattle.lean_disk.specs.Faults.{HasCause};
-ghost use Rattle.session_state.specs.Holds.{Holds, IsSameSession};
+ghost use Rattle.row_changes.specs.session_state.Holds.{Holds, IsSameSession};
 ghost use Rattle.row_changes.specs.Paths.{LeadsToFull};
 ghost use Rattle.row_changes.specs.Puts.{MayChange, works_after};
 ghost use Rattle.row_growth.specs.Rooms.{CanGrow, CanLift, CanSplit, Grew, IsExpected, IsPlaced, Made, Takes, answer_of, frame_among, next_of, page_of, session_after};
@@ -13,7 +13,7 @@ use btree_smo::room::full_run;
 use btree_smo::split::split;
 use lean_disk::Disk;
 use map_model::Refusal;
-use session_state::{
+use row_changes::{
     DEEPEST, FreePages, Path, Rows, Session, Stages, Unanswered, Unserved, Unstaged, Work,
     next_fits,
 };
@@ -144,8 +144,8 @@ fn lift_root<R: Rows, D: Stages>(
     ensures works { work.new.session.works ≡ works_after result }
     ensures cause_disk_fault { HasCause (D.faults work.old.disk) (D.faults work.new.disk) (result ≡ Err disk_fault) }
 {
-    session_state::every_low();
-    session_state::every_room();
+    row_changes::every_low();
+    row_changes::every_room();
     next_fits(rows, seat);
     let frames = work.session.frames;
     let outcome = lift(rows, seat, work.session.own, frames, frame, work);
@@ -174,8 +174,8 @@ fn split_page<R: Rows, D: Stages>(
     ensures works { work.new.session.works ≡ works_after result }
     ensures cause_disk_fault { HasCause (D.faults work.old.disk) (D.faults work.new.disk) (result ≡ Err disk_fault) }
 {
-    session_state::every_low();
-    session_state::every_room();
+    row_changes::every_low();
+    row_changes::every_room();
     next_fits(rows, seat);
     let frames = work.session.frames;
     let outcome = split(
@@ -273,7 +273,7 @@ pub fn make_room<R: Rows, D: Stages>(
     ensures works { work.new.session.works ≡ works_after result }
     ensures cause_disk_fault { HasCause (D.faults work.old.disk) (D.faults work.new.disk) (result ≡ Err disk_fault) }
 {
-    session_state::every_room();
+    row_changes::every_room();
     let frames = work.session.frames;
     let run = match full_run(rows, seat, work.session.own, frames, path) {
         Ok(run) => run,

@@ -1,9 +1,9 @@
 // One step of a put behind the lock of the key: a try, and where the leaf has no room, one change of the tree.
 ghost use Rattle.std.specs.Prelude.{◌≡◌, ◌<◌, Err, IsErrAnd, true};
 ghost use Rattle.page_model.specs.Limits.{tombstone};
-ghost use Rattle.session_state.specs.engine_trait.Serving.{disk_fault};
+ghost use Rattle.row_changes.specs.session_state.engine_trait.Serving.{disk_fault};
 ghost use Rattle.lean_disk.specs.Faults.{HasCause};
-ghost use Rattle.session_state.specs.Holds.{Holds, IsSameSession};
+ghost use Rattle.row_changes.specs.session_state.Holds.{Holds, IsSameSession};
 ghost use Rattle.row_changes.specs.Puts.{MayChange, works_behind};
 ghost use Rattle.row_changes.specs.Ways.{IsCut, IsWarm};
 ghost use Rattle.row_changes.specs.declared.ways.Unmade.{Unmade};
@@ -11,8 +11,7 @@ ghost use Rattle.row_growth.specs.Outcomes.{Steps};
 ghost use Rattle.row_growth.specs.Rooms.{IsPlaced};
 
 use crate::room::{Growth, Placed, make_room};
-use row_changes::{Tried, Unmade, clock_refusal, put_in_leaf};
-use session_state::{Path, Rows, Stages, Unserved, Work};
+use row_changes::{Path, Rows, Stages, Tried, Unmade, Unserved, Work, clock_refusal, put_in_leaf};
 
 /// What one step of a put did.
 #[derive(Clone, Copy)]

@@ -6,21 +6,21 @@ use Rattle.page_model.specs.Check.{some_below}
 use Rattle.page_model.specs.Nodes.{covers, holds, is_leaf}
 use Rattle.page_model.specs.Pairs.{find}
 use Rattle.page_model.specs.Redo.{has_key, is_some}
-use Rattle.session_state.specs.core_state.Openings.{Opening}
-use Rattle.session_state.specs.core_state.States.{Place, State, nodes_of}
-use Rattle.session_state.specs.core_calls.Room.{EveryRoom, full_from, full_run, is_all_full, is_full_at, room_takes}
-use Rattle.session_state.specs.worker_log.Logs.{Log}
-use Rattle.session_state.specs.row_words.Openings.{opening}
-use Rattle.session_state.specs.rows_trait.Views.{Shape, state}
-use Rattle.session_state.specs.rows_trait.declared.view.View.{View}
-use Rattle.session_state.specs.lean_proto.Paths.{above}
-use Rattle.session_state.specs.engine_trait.Refusals.{is_full_for}
-use Rattle.session_state.specs.Holds.{Holds}
-use Rattle.session_state.specs.declared.session.Session.{Session}
-use Rattle.tidy_rules.specs.Purges.{purgeable}
-use Rattle.tidy_rules.specs.Laws.{gone}
-use Rattle.tidy_rules.specs.Rooms.{NoneGoes}
-use Rattle.row_changes.specs.Paths.{IsPathTo, IsUnfit, LeadsToFull}
+use Rattle.row_growth.specs.session_state.core_state.Openings.{Opening}
+use Rattle.row_growth.specs.session_state.core_state.States.{Place, State, nodes_of}
+use Rattle.row_growth.specs.session_state.core_calls.Room.{EveryRoom, full_from, full_run, is_all_full, is_full_at, room_takes}
+use Rattle.row_growth.specs.session_state.worker_log.Logs.{Log}
+use Rattle.row_growth.specs.session_state.row_words.Openings.{opening}
+use Rattle.row_growth.specs.session_state.rows_trait.Views.{Shape, state}
+use Rattle.row_growth.specs.session_state.rows_trait.declared.view.View.{View}
+use Rattle.row_growth.specs.session_state.lean_proto.Paths.{above}
+use Rattle.row_growth.specs.session_state.engine_trait.Refusals.{is_full_for}
+use Rattle.row_growth.specs.session_state.Holds.{Holds}
+use Rattle.row_growth.specs.session_state.declared.session.Session.{Session}
+use Rattle.row_tidying.specs.tidy_rules.Purges.{purgeable}
+use Rattle.row_tidying.specs.tidy_rules.Laws.{gone}
+use Rattle.row_tidying.specs.tidy_rules.Rooms.{NoneGoes}
+use Rattle.row_growth.specs.row_changes.Paths.{IsPathTo, IsUnfit, LeadsToFull}
 use Rattle.row_tidying.specs.Changes.{CanPurge}
 use Rattle.row_tidying.proofs.MadeLemmas.{sound}
 

@@ -7,44 +7,44 @@ use Rattle.map_model.specs.declared.call.Refusal.TheVariants as refusal
 use Rattle.page_model.specs.Nodes.{holds, is_leaf}
 use Rattle.page_model.specs.Pairs.{find}
 use Rattle.page_model.specs.Tree.{Names}
-use Rattle.session_state.specs.engine_trait.declared.unserved.Unanswered.TheVariants as unanswered
-use Rattle.session_state.specs.engine_trait.declared.unserved.Unserved.{Unserved}
-use Rattle.session_state.specs.engine_trait.declared.unserved.Unserved.TheVariants as unserved
-use Rattle.session_state.specs.core_state.Events as happening
-use Rattle.session_state.specs.core_state.Needs.{is_held_by, may}
-use Rattle.session_state.specs.core_state.Openings.{Opening}
-use Rattle.session_state.specs.core_state.States.{Place, State, nodes_of}
-use Rattle.session_state.specs.core_state.Steps.{happens}
-use Rattle.session_state.specs.core_calls.Warms.{IsWarmFrom}
-use Rattle.session_state.specs.core_calls.Room.{EveryRoom, room_takes}
+use Rattle.row_growth.specs.session_state.engine_trait.declared.unserved.Unanswered.TheVariants as unanswered
+use Rattle.row_growth.specs.session_state.engine_trait.declared.unserved.Unserved.{Unserved}
+use Rattle.row_growth.specs.session_state.engine_trait.declared.unserved.Unserved.TheVariants as unserved
+use Rattle.row_growth.specs.session_state.core_state.Events as happening
+use Rattle.row_growth.specs.session_state.core_state.Needs.{is_held_by, may}
+use Rattle.row_growth.specs.session_state.core_state.Openings.{Opening}
+use Rattle.row_growth.specs.session_state.core_state.States.{Place, State, nodes_of}
+use Rattle.row_growth.specs.session_state.core_state.Steps.{happens}
+use Rattle.row_growth.specs.session_state.core_calls.Warms.{IsWarmFrom}
+use Rattle.row_growth.specs.session_state.core_calls.Room.{EveryRoom, room_takes}
 use Rattle.lean_disk.specs.Faults.{HasCause}
 use Rattle.lean_disk.specs.Story.{Story}
-use Rattle.session_state.specs.disk_image.Records.{entry_of}
-use Rattle.session_state.specs.worker_log.Logs.{Log}
-use Rattle.session_state.specs.row_words.declared.event.Event.{Event}
-use Rattle.session_state.specs.row_words.declared.event.Event.TheVariants.{Lift, Miss, Purge, Split}
-use Rattle.session_state.specs.row_words.declared.given.Given.{Given}
-use Rattle.session_state.specs.row_words.Moments.{Moment, event_of}
-use Rattle.session_state.specs.row_words.Openings.{opening}
-use Rattle.session_state.specs.row_words.Sealed.{begun}
-use Rattle.session_state.proofs.row_words.SealedLemmas.{run_append}
-use Rattle.session_state.specs.rows_trait.Views.{Shape, after_all, state}
-use Rattle.session_state.specs.rows_trait.declared.view.View.{View}
-use Rattle.session_state.specs.btree_descent.Trails.{IsAbove}
-use Rattle.session_state.specs.engine_trait.Refusals.{room_refusal}
-use Rattle.tidy_rules.specs.Growth as growth_rules
-use Rattle.session_state.specs.flush_avoidance.Clocks.{risen}
-use Rattle.session_state.specs.Holds.{Holds}
-use Rattle.session_state.specs.Undo.{HasRoomToStage}
-use Rattle.session_state.specs.declared.session.Session.{Session}
-use Rattle.btree_smo.specs.Outcomes.{AreMisses}
-use Rattle.tidy_rules.specs.Laws.{EveryPurged, gone}
-use Rattle.tidy_rules.specs.Rooms.{IsNextRoom, NoneGoes}
-use Rattle.row_changes.proofs.Misses.{misses_core}
-use Rattle.row_changes.proofs.SeenLemmas.{seen_core}
-use Rattle.row_changes.proofs.StepLemmas.{cause_from}
-use Rattle.row_changes.specs.Paths.{IsPathTo, IsUnfit, LeadsToFull}
-use Rattle.row_changes.specs.Puts.{MayChange}
+use Rattle.row_growth.specs.session_state.disk_image.Records.{entry_of}
+use Rattle.row_growth.specs.session_state.worker_log.Logs.{Log}
+use Rattle.row_growth.specs.session_state.row_words.declared.event.Event.{Event}
+use Rattle.row_growth.specs.session_state.row_words.declared.event.Event.TheVariants.{Lift, Miss, Purge, Split}
+use Rattle.row_growth.specs.session_state.row_words.declared.given.Given.{Given}
+use Rattle.row_growth.specs.session_state.row_words.Moments.{Moment, event_of}
+use Rattle.row_growth.specs.session_state.row_words.Openings.{opening}
+use Rattle.row_growth.specs.session_state.row_words.Sealed.{begun}
+use Rattle.row_growth.proofs.session_state.row_words.SealedLemmas.{run_append}
+use Rattle.row_growth.specs.session_state.rows_trait.Views.{Shape, after_all, state}
+use Rattle.row_growth.specs.session_state.rows_trait.declared.view.View.{View}
+use Rattle.row_growth.specs.session_state.btree_descent.Trails.{IsAbove}
+use Rattle.row_growth.specs.session_state.engine_trait.Refusals.{room_refusal}
+use Rattle.row_tidying.specs.tidy_rules.Growth as growth_rules
+use Rattle.row_growth.specs.session_state.flush_avoidance.Clocks.{risen}
+use Rattle.row_growth.specs.session_state.Holds.{Holds}
+use Rattle.row_growth.specs.session_state.Undo.{HasRoomToStage}
+use Rattle.row_growth.specs.session_state.declared.session.Session.{Session}
+use Rattle.row_growth.specs.btree_smo.Outcomes.{AreMisses}
+use Rattle.row_tidying.specs.tidy_rules.Laws.{EveryPurged, gone}
+use Rattle.row_tidying.specs.tidy_rules.Rooms.{IsNextRoom, NoneGoes}
+use Rattle.row_growth.proofs.row_changes.Misses.{misses_core}
+use Rattle.row_growth.proofs.row_changes.SeenLemmas.{seen_core}
+use Rattle.row_growth.proofs.row_changes.StepLemmas.{cause_from}
+use Rattle.row_growth.specs.row_changes.Paths.{IsPathTo, IsUnfit, LeadsToFull}
+use Rattle.row_growth.specs.row_changes.Puts.{MayChange}
 use Rattle.row_growth.specs.Rooms.{Grew, IsGrown, IsGrowth, IsNeeded, IsNoRoom, IsPlaced, IsSpentBehind}
 use Rattle.row_growth.specs.declared.room.Growth.{Growth}
 use Rattle.row_growth.specs.declared.room.Growth.TheVariants as growth

@@ -4,39 +4,39 @@ use Rattle.map_model.specs.declared.call.Refusal.{Refusal}
 use Rattle.map_model.specs.declared.call.Refusal.TheVariants as refusal
 use Rattle.page_model.specs.Nodes.{holds}
 use Rattle.page_model.specs.Pairs.{find}
-use Rattle.session_state.specs.engine_trait.declared.unserved.Unanswered.TheVariants as unanswered
-use Rattle.session_state.specs.engine_trait.declared.unserved.Unserved.{Unserved}
-use Rattle.session_state.specs.engine_trait.declared.unserved.Unserved.TheVariants as unserved
-use Rattle.session_state.specs.core_calls.Room.{room_takes}
-use Rattle.session_state.specs.core_state.Needs.{is_held_by, may}
-use Rattle.session_state.specs.core_state.Openings.{Opening}
-use Rattle.session_state.specs.core_state.States.{State}
-use Rattle.session_state.specs.core_state.Steps.{happens}
-use Rattle.session_state.specs.disk_image.Records.{entry_of}
+use Rattle.row_growth.specs.session_state.engine_trait.declared.unserved.Unanswered.TheVariants as unanswered
+use Rattle.row_growth.specs.session_state.engine_trait.declared.unserved.Unserved.{Unserved}
+use Rattle.row_growth.specs.session_state.engine_trait.declared.unserved.Unserved.TheVariants as unserved
+use Rattle.row_growth.specs.session_state.core_calls.Room.{room_takes}
+use Rattle.row_growth.specs.session_state.core_state.Needs.{is_held_by, may}
+use Rattle.row_growth.specs.session_state.core_state.Openings.{Opening}
+use Rattle.row_growth.specs.session_state.core_state.States.{State}
+use Rattle.row_growth.specs.session_state.core_state.Steps.{happens}
+use Rattle.row_growth.specs.session_state.disk_image.Records.{entry_of}
 use Rattle.lean_disk.specs.Faults.{HasCause}
 use Rattle.lean_disk.specs.Story.{Story}
-use Rattle.session_state.specs.row_words.declared.event.Event.{Event}
-use Rattle.session_state.specs.row_words.declared.event.Event.TheVariants.{Lift, Purge, Split}
-use Rattle.session_state.specs.row_words.declared.given.Given.{Given}
-use Rattle.session_state.specs.row_words.Moments.{event_of}
-use Rattle.session_state.specs.row_words.Openings.{opening}
-use Rattle.session_state.specs.rows_trait.Views.{after_all, state}
-use Rattle.session_state.specs.rows_trait.declared.view.View.{View}
-use Rattle.session_state.specs.worker_log.Logs.{Log}
-use Rattle.session_state.specs.engine_trait.Refusals.{clock_refusal, room_refusal}
-use Rattle.session_state.specs.core_calls.Warms.{IsWarmFrom}
-use Rattle.session_state.specs.Undo.{HasHand}
-use Rattle.session_state.specs.declared.session.Session.{Session}
-use Rattle.session_state.proofs.UndoLemmas.{room_after}
-use Rattle.tidy_rules.specs.Rooms.{IsNextRoom, NoneGoes}
-use Rattle.row_changes.specs.Outcomes.{HasNoRoom, Tries}
-use Rattle.row_changes.specs.Paths.{IsUnfit}
-use Rattle.row_changes.specs.Puts.{MayChange, works_behind}
-use Rattle.row_changes.specs.Ways.{IsWarm}
-use Rattle.row_changes.specs.declared.puts.Tried.{Tried}
-use Rattle.row_changes.specs.declared.ways.Unmade.{Unmade}
-use Rattle.row_changes.specs.declared.ways.Unmade.TheVariants as unmade
-use Rattle.row_changes.proofs.StepLemmas.{cause_from, clock_at_end, clock_below}
+use Rattle.row_growth.specs.session_state.row_words.declared.event.Event.{Event}
+use Rattle.row_growth.specs.session_state.row_words.declared.event.Event.TheVariants.{Lift, Purge, Split}
+use Rattle.row_growth.specs.session_state.row_words.declared.given.Given.{Given}
+use Rattle.row_growth.specs.session_state.row_words.Moments.{event_of}
+use Rattle.row_growth.specs.session_state.row_words.Openings.{opening}
+use Rattle.row_growth.specs.session_state.rows_trait.Views.{after_all, state}
+use Rattle.row_growth.specs.session_state.rows_trait.declared.view.View.{View}
+use Rattle.row_growth.specs.session_state.worker_log.Logs.{Log}
+use Rattle.row_growth.specs.session_state.engine_trait.Refusals.{clock_refusal, room_refusal}
+use Rattle.row_growth.specs.session_state.core_calls.Warms.{IsWarmFrom}
+use Rattle.row_growth.specs.session_state.Undo.{HasHand}
+use Rattle.row_growth.specs.session_state.declared.session.Session.{Session}
+use Rattle.row_growth.proofs.session_state.UndoLemmas.{room_after}
+use Rattle.row_tidying.specs.tidy_rules.Rooms.{IsNextRoom, NoneGoes}
+use Rattle.row_growth.specs.row_changes.Outcomes.{HasNoRoom, Tries}
+use Rattle.row_growth.specs.row_changes.Paths.{IsUnfit}
+use Rattle.row_growth.specs.row_changes.Puts.{MayChange, works_behind}
+use Rattle.row_growth.specs.row_changes.Ways.{IsWarm}
+use Rattle.row_growth.specs.row_changes.declared.puts.Tried.{Tried}
+use Rattle.row_growth.specs.row_changes.declared.ways.Unmade.{Unmade}
+use Rattle.row_growth.specs.row_changes.declared.ways.Unmade.TheVariants as unmade
+use Rattle.row_growth.proofs.row_changes.StepLemmas.{cause_from, clock_at_end, clock_below}
 use Rattle.row_growth.specs.declared.room.Growth.{Growth}
 use Rattle.row_growth.specs.declared.room.Growth.TheVariants as growth
 use Rattle.row_growth.specs.declared.room.Placed.{Placed}

@@ -2,18 +2,18 @@
 use Rattle.std.specs.Prelude.{◌≡◌, ◌≤◌, ◌<◌, ◌^◌, ℕ, Option, Some, Result, Ok, Err}
 use Rattle.map_model.specs.declared.call.Refusal.{Refusal}
 use Rattle.map_model.specs.declared.call.Refusal.TheVariants as refusal
-use Rattle.session_state.specs.engine_trait.declared.unserved.Unanswered.TheVariants as unanswered
-use Rattle.session_state.specs.engine_trait.declared.unserved.Unserved.TheVariants as unserved
+use Rattle.row_growth.specs.session_state.engine_trait.declared.unserved.Unanswered.TheVariants as unanswered
+use Rattle.row_growth.specs.session_state.engine_trait.declared.unserved.Unserved.TheVariants as unserved
 use Rattle.lean_disk.specs.Story.{Story}
-use Rattle.session_state.specs.rows_trait.declared.view.View.{View}
-use Rattle.session_state.specs.worker_log.Logs.{Log}
-use Rattle.session_state.specs.Staging.{KeepsLog}
-use Rattle.session_state.specs.declared.session.Session.{Session}
-use Rattle.row_changes.specs.Paths.{IsUnfit}
-use Rattle.row_changes.specs.Puts.{IsChanged, MayChange}
-use Rattle.row_changes.specs.Ways.{HasMetCold}
-use Rattle.row_changes.specs.declared.ways.Unmade.{Unmade}
-use Rattle.row_changes.specs.declared.ways.Unmade.TheVariants as unmade
+use Rattle.row_growth.specs.session_state.rows_trait.declared.view.View.{View}
+use Rattle.row_growth.specs.session_state.worker_log.Logs.{Log}
+use Rattle.row_growth.specs.session_state.Staging.{KeepsLog}
+use Rattle.row_growth.specs.session_state.declared.session.Session.{Session}
+use Rattle.row_growth.specs.row_changes.Paths.{IsUnfit}
+use Rattle.row_growth.specs.row_changes.Puts.{IsChanged, MayChange}
+use Rattle.row_growth.specs.row_changes.Ways.{HasMetCold}
+use Rattle.row_growth.specs.row_changes.declared.ways.Unmade.{Unmade}
+use Rattle.row_growth.specs.row_changes.declared.ways.Unmade.TheVariants as unmade
 use Rattle.row_growth.specs.declared.room.Placed.{Placed}
 use Rattle.row_tidying.specs.Outcomes.{IsSpentWithin}
 use Rattle.row_room.specs.Rooms.{IsNoSpace, IsRoomed, IsWanting}

@@ -10,3 +10,9 @@ mod steps;
 pub use row_growth::{Growth, Placed};
 pub use spaces::make_space;
 pub use steps::{Stepped, put_step};
+
+// Passed on to the crates above.
+pub use row_growth::{
+    CLOCK_END, Cold, Unmade, clock_refusal, del_held, read_held, take_row, unserved_of,
+};
+pub use row_tidying::{Ended, call_refusal};

@@ -1,19 +1,17 @@
 // Room for a further key in a full leaf.
 ghost use Rattle.std.specs.Prelude.{◌≡◌, ◌<◌, length, Some, Err, true, false};
-ghost use Rattle.session_state.specs.engine_trait.Serving.{disk_fault};
-ghost use Rattle.session_state.specs.lean_proto.Paths.{above};
+ghost use Rattle.row_growth.specs.session_state.engine_trait.Serving.{disk_fault};
+ghost use Rattle.row_growth.specs.session_state.lean_proto.Paths.{above};
 ghost use Rattle.lean_disk.specs.Faults.{HasCause};
-ghost use Rattle.session_state.specs.Holds.{Holds, IsSameSession};
-ghost use Rattle.row_changes.specs.Paths.{LeadsToFull};
-ghost use Rattle.row_changes.specs.Puts.{MayChange, works_after};
+ghost use Rattle.row_growth.specs.session_state.Holds.{Holds, IsSameSession};
+ghost use Rattle.row_growth.specs.row_changes.Paths.{LeadsToFull};
+ghost use Rattle.row_growth.specs.row_changes.Puts.{MayChange, works_after};
 ghost use Rattle.row_growth.specs.Rooms.{IsPlaced};
 ghost use Rattle.row_room.specs.Rooms.{MadeSpace};
 
 use page_model::limits::LEAF_ROOM;
-use row_growth::{Growth, Placed, make_room};
-use row_tidying::{Cleared, purge_leaf};
-use session_state::{Path, Rows, Stages, Unserved, Work};
-use tidy_rules::every_purged;
+use row_growth::{Growth, Path, Placed, Rows, Stages, Unserved, Work, make_room};
+use row_tidying::{Cleared, every_purged, purge_leaf};
 
 // The last frame of a path.
 fn end_of(path: &Path) -> u32
@@ -47,7 +45,7 @@ pub fn make_space<R: Rows, D: Stages>(
     ensures cause_disk_fault { HasCause (D.faults work.old.disk) (D.faults work.new.disk) (result ≡ Err disk_fault) }
 {
     every_purged();
-    session_state::every_room();
+    row_growth::every_room();
     let leaf = end_of(path);
     match purge_leaf(rows, seat, work, leaf, LEAF_ROOM) {
         Err(why) => Err(why),

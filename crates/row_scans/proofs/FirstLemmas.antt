@@ -6,7 +6,7 @@ use Rattle.map_model.specs.Lists.{Has}
 use Rattle.map_model.proofs.ListLemmas.{has_left}
 use Rattle.page_model.specs.Nodes.{Format}
 use Rattle.page_model.specs.Pairs.{Pair, Rising}
-use Rattle.session_state.specs.core_index.Walks.{met_keys}
+use Rattle.row_changes.specs.session_state.core_index.Walks.{met_keys}
 
 -- ## A key in a list
 

@@ -8,33 +8,33 @@ use Rattle.map_model.specs.Maps.{MapAnswer}
 use Rattle.page_model.specs.Laws.{EveryTree}
 use Rattle.page_model.specs.Nodes.{Node, NodeOk, covers, holds, is_leaf}
 use Rattle.rfa_model.specs.Stamps.{owed}
-use Rattle.session_state.specs.core_calls.LogEvents.{behind as waits}
-use Rattle.session_state.specs.core_calls.Warms.{EveryWarm, IsWarmFrom}
-use Rattle.session_state.proofs.core_commit.Nexts.{following_at, following_is}
-use Rattle.session_state.specs.core_index.Walks.{met_keys}
-use Rattle.session_state.specs.core_state.Needs.{following, holds_answer, holds_row, is_following, is_leaf_of, may}
-use Rattle.session_state.specs.core_state.Openings.{Opening}
-use Rattle.session_state.specs.core_state.States.{State, flushed_by_all, is_hot}
-use Rattle.session_state.specs.core_state.Steps.{at_pages, happens}
-use Rattle.session_state.specs.worker_log.Logs.{Log}
-use Rattle.session_state.specs.flush_avoidance.Clocks.{after_touch}
-use Rattle.session_state.specs.row_words.declared.event.Event.{Event}
-use Rattle.session_state.specs.row_words.declared.event.Event.TheVariants.{Next}
-use Rattle.session_state.specs.row_words.declared.event.Met as told
-use Rattle.session_state.specs.row_words.declared.event.Met.TheVariants as event
-use Rattle.session_state.specs.row_words.declared.given.Given.{Given}
-use Rattle.session_state.specs.row_words.Moments.{Moment, event_of, met_of}
-use Rattle.session_state.specs.row_words.Openings.{opening}
-use Rattle.session_state.specs.rows_trait.declared.view.View.{View}
-use Rattle.session_state.specs.rows_trait.Views.{Shape, after_all, state}
-use Rattle.session_state.specs.btree_descent.declared.next.Stamp.{Stamp}
-use Rattle.session_state.specs.btree_descent.Descents.{MetCold}
-use Rattle.session_state.specs.btree_descent.Known.{Sound}
-use Rattle.session_state.specs.btree_descent.Nexts.{AreLocked, IsFirstUnlocked, MayWalk, MetUnlocked, Walked}
-use Rattle.session_state.specs.Holds.{Holds, IsOf}
-use Rattle.session_state.specs.declared.session.Session.{Session}
-use Rattle.session_state.proofs.HoldLemmas.{rows_on}
-use Rattle.session_state.proofs.Moments.{free_same}
+use Rattle.row_changes.specs.session_state.core_calls.LogEvents.{behind as waits}
+use Rattle.row_changes.specs.session_state.core_calls.Warms.{EveryWarm, IsWarmFrom}
+use Rattle.row_changes.proofs.session_state.core_commit.Nexts.{following_at, following_is}
+use Rattle.row_changes.specs.session_state.core_index.Walks.{met_keys}
+use Rattle.row_changes.specs.session_state.core_state.Needs.{following, holds_answer, holds_row, is_following, is_leaf_of, may}
+use Rattle.row_changes.specs.session_state.core_state.Openings.{Opening}
+use Rattle.row_changes.specs.session_state.core_state.States.{State, flushed_by_all, is_hot}
+use Rattle.row_changes.specs.session_state.core_state.Steps.{at_pages, happens}
+use Rattle.row_changes.specs.session_state.worker_log.Logs.{Log}
+use Rattle.row_changes.specs.session_state.flush_avoidance.Clocks.{after_touch}
+use Rattle.row_changes.specs.session_state.row_words.declared.event.Event.{Event}
+use Rattle.row_changes.specs.session_state.row_words.declared.event.Event.TheVariants.{Next}
+use Rattle.row_changes.specs.session_state.row_words.declared.event.Met as told
+use Rattle.row_changes.specs.session_state.row_words.declared.event.Met.TheVariants as event
+use Rattle.row_changes.specs.session_state.row_words.declared.given.Given.{Given}
+use Rattle.row_changes.specs.session_state.row_words.Moments.{Moment, event_of, met_of}
+use Rattle.row_changes.specs.session_state.row_words.Openings.{opening}
+use Rattle.row_changes.specs.session_state.rows_trait.declared.view.View.{View}
+use Rattle.row_changes.specs.session_state.rows_trait.Views.{Shape, after_all, state}
+use Rattle.row_changes.specs.session_state.btree_descent.declared.next.Stamp.{Stamp}
+use Rattle.row_changes.specs.session_state.btree_descent.Descents.{MetCold}
+use Rattle.row_changes.specs.session_state.btree_descent.Known.{Sound}
+use Rattle.row_changes.specs.session_state.btree_descent.Nexts.{AreLocked, IsFirstUnlocked, MayWalk, MetUnlocked, Walked}
+use Rattle.row_changes.specs.session_state.Holds.{Holds, IsOf}
+use Rattle.row_changes.specs.session_state.declared.session.Session.{Session}
+use Rattle.row_changes.proofs.session_state.HoldLemmas.{rows_on}
+use Rattle.row_changes.proofs.session_state.Moments.{free_same}
 use Rattle.row_changes.specs.Ways.{HasMetCold}
 use Rattle.row_changes.proofs.SeenLemmas.{none_seen, ran_seen, seen_core}
 use Rattle.row_changes.proofs.TakeLemmas.{holds_still, numbers_on, row_is}

@@ -7,34 +7,34 @@ use Rattle.map_model.proofs.ListLemmas.{has_cases, has_left, has_right}
 use Rattle.map_model.specs.declared.call.Refusal.{Refusal}
 use Rattle.map_model.specs.declared.call.Refusal.TheVariants as refusal
 use Rattle.page_model.specs.Nodes.{holds}
-use Rattle.session_state.specs.core_calls.Refusals.{Hinders}
-use Rattle.session_state.specs.core_calls.Scans.{IsHinderedNext, IsOnWay, rows_met}
-use Rattle.session_state.specs.core_index.Walks.{met_keys}
-use Rattle.session_state.specs.core_state.Events as happening
-use Rattle.session_state.specs.core_state.Needs.{is_leaf_of, is_reader, may, value_in}
-use Rattle.session_state.specs.core_state.Openings.{Opening}
-use Rattle.session_state.specs.core_state.States.{State, is_hot}
-use Rattle.session_state.specs.core_state.Steps as core
-use Rattle.session_state.specs.core_state.Steps.{AllMet, happens}
-use Rattle.session_state.specs.flush_avoidance.Clocks.{risen}
-use Rattle.session_state.specs.key_locks.Rows.{event_mode}
-use Rattle.session_state.specs.key_locks.declared.mode.Mode.TheVariants.{Shared}
-use Rattle.session_state.specs.row_words.declared.event.Event.{Event}
-use Rattle.session_state.specs.row_words.declared.event.Event.TheVariants.{Lock, Next}
-use Rattle.session_state.specs.row_words.declared.given.Given.{Given}
-use Rattle.session_state.specs.row_words.Moments.{Moment, event_of, events_of}
-use Rattle.session_state.specs.row_words.Openings.{opening}
-use Rattle.session_state.specs.row_words.Sealed.{run, stepped}
-use Rattle.session_state.specs.rows_trait.declared.view.View.{View}
-use Rattle.session_state.specs.rows_trait.Views.{Shape, state}
-use Rattle.session_state.specs.btree_descent.Known.{Sound}
-use Rattle.session_state.specs.worker_log.Logs.{Log}
-use Rattle.session_state.specs.Held.{Held, with_row}
-use Rattle.session_state.specs.Holds.{Holds}
-use Rattle.session_state.specs.Staging.{IsButClock}
-use Rattle.session_state.specs.declared.session.Session.{Session}
-use Rattle.session_state.proofs.HeldLemmas.{reader_has}
-use Rattle.session_state.proofs.Moments.{events_more, seen_state}
+use Rattle.row_changes.specs.session_state.core_calls.Refusals.{Hinders}
+use Rattle.row_changes.specs.session_state.core_calls.Scans.{IsHinderedNext, IsOnWay, rows_met}
+use Rattle.row_changes.specs.session_state.core_index.Walks.{met_keys}
+use Rattle.row_changes.specs.session_state.core_state.Events as happening
+use Rattle.row_changes.specs.session_state.core_state.Needs.{is_leaf_of, is_reader, may, value_in}
+use Rattle.row_changes.specs.session_state.core_state.Openings.{Opening}
+use Rattle.row_changes.specs.session_state.core_state.States.{State, is_hot}
+use Rattle.row_changes.specs.session_state.core_state.Steps as core
+use Rattle.row_changes.specs.session_state.core_state.Steps.{AllMet, happens}
+use Rattle.row_changes.specs.session_state.flush_avoidance.Clocks.{risen}
+use Rattle.row_changes.specs.session_state.key_locks.Rows.{event_mode}
+use Rattle.row_changes.specs.session_state.key_locks.declared.mode.Mode.TheVariants.{Shared}
+use Rattle.row_changes.specs.session_state.row_words.declared.event.Event.{Event}
+use Rattle.row_changes.specs.session_state.row_words.declared.event.Event.TheVariants.{Lock, Next}
+use Rattle.row_changes.specs.session_state.row_words.declared.given.Given.{Given}
+use Rattle.row_changes.specs.session_state.row_words.Moments.{Moment, event_of, events_of}
+use Rattle.row_changes.specs.session_state.row_words.Openings.{opening}
+use Rattle.row_changes.specs.session_state.row_words.Sealed.{run, stepped}
+use Rattle.row_changes.specs.session_state.rows_trait.declared.view.View.{View}
+use Rattle.row_changes.specs.session_state.rows_trait.Views.{Shape, state}
+use Rattle.row_changes.specs.session_state.btree_descent.Known.{Sound}
+use Rattle.row_changes.specs.session_state.worker_log.Logs.{Log}
+use Rattle.row_changes.specs.session_state.Held.{Held, with_row}
+use Rattle.row_changes.specs.session_state.Holds.{Holds}
+use Rattle.row_changes.specs.session_state.Staging.{IsButClock}
+use Rattle.row_changes.specs.session_state.declared.session.Session.{Session}
+use Rattle.row_changes.proofs.session_state.HeldLemmas.{reader_has}
+use Rattle.row_changes.proofs.session_state.Moments.{events_more, seen_state}
 use Rattle.row_changes.specs.Takes.{NotTaken, Takes}
 use Rattle.row_changes.specs.Ways.{HasMetCold}
 use Rattle.row_changes.proofs.SeenLemmas.{still}

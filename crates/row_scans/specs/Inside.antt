@@ -2,16 +2,16 @@
 use Rattle.std.specs.Prelude.{◌≡◌, ◌⊎◌, ◌<◌, ◌%◌, ◌++◌, ℕ, true, List, [], ◌∷◌}
 use Rattle.map_model.specs.Lists.{Has}
 use Rattle.page_model.specs.Nodes.{holds}
-use Rattle.session_state.specs.core_index.Walks.{met_keys}
-use Rattle.session_state.specs.core_state.Needs.{may}
-use Rattle.session_state.specs.core_state.States.{is_hot}
-use Rattle.session_state.specs.row_words.declared.event.Event.TheVariants.{Next}
-use Rattle.session_state.specs.row_words.Moments.{event_of}
-use Rattle.session_state.specs.row_words.Openings.{opening}
-use Rattle.session_state.specs.rows_trait.declared.view.View.{View}
-use Rattle.session_state.specs.rows_trait.Views.{state}
+use Rattle.row_changes.specs.session_state.core_index.Walks.{met_keys}
+use Rattle.row_changes.specs.session_state.core_state.Needs.{may}
+use Rattle.row_changes.specs.session_state.core_state.States.{is_hot}
+use Rattle.row_changes.specs.session_state.row_words.declared.event.Event.TheVariants.{Next}
+use Rattle.row_changes.specs.session_state.row_words.Moments.{event_of}
+use Rattle.row_changes.specs.session_state.row_words.Openings.{opening}
+use Rattle.row_changes.specs.session_state.rows_trait.declared.view.View.{View}
+use Rattle.row_changes.specs.session_state.rows_trait.Views.{state}
 use Rattle.row_changes.specs.Ways.{HasMetCold}
-use Rattle.session_state.specs.declared.session.Session.{Session}
+use Rattle.row_changes.specs.session_state.declared.session.Session.{Session}
 use Rattle.row_scans.specs.Meets.{IsInLeaf, told_of}
 use Rattle.row_scans.specs.declared.looks.Looked.{Looked}
 use Rattle.row_scans.specs.declared.looks.Looked.TheVariants as looked

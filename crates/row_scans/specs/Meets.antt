@@ -1,24 +1,24 @@
 -- What a walk in one leaf does: the rows of the entries that it meets are taken, and then it is made.
 use Rattle.std.specs.Prelude.{◌≡◌, ◌≤◌, ◌<◌, ◌^◌, ◌++◌, ℕ, List, [], ◌∷◌, length, Some, Result, Ok, Err}
 use Rattle.map_model.specs.declared.call.Refusal.TheVariants as refusal
-use Rattle.session_state.specs.core_calls.Scans.{IsHinderedNext, IsOnWay, rows_met}
-use Rattle.session_state.specs.core_state.Needs.{value_in}
-use Rattle.session_state.specs.core_state.Openings.{Opening}
-use Rattle.session_state.specs.core_state.States.{State}
-use Rattle.session_state.specs.core_state.Steps.{AllMet}
-use Rattle.session_state.specs.flush_avoidance.Clocks.{risen}
-use Rattle.session_state.specs.key_locks.Rows.{event_mode}
-use Rattle.session_state.specs.key_locks.declared.mode.Mode.TheVariants.{Shared}
-use Rattle.session_state.specs.row_words.declared.event.Event.{Event}
-use Rattle.session_state.specs.row_words.declared.event.Event.TheVariants.{Lock, Next}
-use Rattle.session_state.specs.row_words.declared.event.Met as told
-use Rattle.session_state.specs.row_words.declared.event.Met.TheVariants as event
-use Rattle.session_state.specs.row_words.Moments.{events_of}
-use Rattle.session_state.specs.row_words.Openings.{opening}
-use Rattle.session_state.specs.rows_trait.declared.view.View.{View}
-use Rattle.session_state.specs.rows_trait.Views.{state}
+use Rattle.row_changes.specs.session_state.core_calls.Scans.{IsHinderedNext, IsOnWay, rows_met}
+use Rattle.row_changes.specs.session_state.core_state.Needs.{value_in}
+use Rattle.row_changes.specs.session_state.core_state.Openings.{Opening}
+use Rattle.row_changes.specs.session_state.core_state.States.{State}
+use Rattle.row_changes.specs.session_state.core_state.Steps.{AllMet}
+use Rattle.row_changes.specs.session_state.flush_avoidance.Clocks.{risen}
+use Rattle.row_changes.specs.session_state.key_locks.Rows.{event_mode}
+use Rattle.row_changes.specs.session_state.key_locks.declared.mode.Mode.TheVariants.{Shared}
+use Rattle.row_changes.specs.session_state.row_words.declared.event.Event.{Event}
+use Rattle.row_changes.specs.session_state.row_words.declared.event.Event.TheVariants.{Lock, Next}
+use Rattle.row_changes.specs.session_state.row_words.declared.event.Met as told
+use Rattle.row_changes.specs.session_state.row_words.declared.event.Met.TheVariants as event
+use Rattle.row_changes.specs.session_state.row_words.Moments.{events_of}
+use Rattle.row_changes.specs.session_state.row_words.Openings.{opening}
+use Rattle.row_changes.specs.session_state.rows_trait.declared.view.View.{View}
+use Rattle.row_changes.specs.session_state.rows_trait.Views.{state}
 use Rattle.row_changes.specs.Ways.{HasMetCold}
-use Rattle.session_state.specs.declared.session.Session.{Session}
+use Rattle.row_changes.specs.session_state.declared.session.Session.{Session}
 use Rattle.row_scans.specs.declared.meets.Met.{Met}
 use Rattle.row_scans.specs.declared.meets.Met.TheVariants as met
 use Rattle.row_scans.specs.declared.meets.Unmet.{Unmet}

@@ -1,7 +1,7 @@
 // The keys whose rows a walk has taken.
 ghost use Rattle.std.specs.Prelude.{◌≡◌, ◌<◌, ◌≤◌, ◌∷◌, ◌++◌, [], length};
 
-use session_state::Locked;
+use row_changes::Locked;
 use std::marker::Model;
 
 // How many entries a leaf has at most.

@@ -1,12 +1,12 @@
 // The look at a leaf from a key on.
 ghost use Rattle.std.specs.Prelude.{◌≡◌, ◌<◌, ◌-◌, ◌^◌, true};
-ghost use Rattle.session_state.specs.Holds.{Holds};
-ghost use Rattle.session_state.specs.Staging.{IsButClock};
+ghost use Rattle.row_changes.specs.session_state.Holds.{Holds};
+ghost use Rattle.row_changes.specs.session_state.Staging.{IsButClock};
 ghost use Rattle.row_scans.specs.Inside.{AreFirst, AreHeld, Looks};
 
 use crate::keys::TakenKeys;
 use crate::meets::Met;
-use session_state::{Following, Rows, Session, WorkerLog, next};
+use row_changes::{Following, Rows, Session, WorkerLog, next};
 
 // What a look finds.
 #[derive(Clone, Copy)]
@@ -38,7 +38,7 @@ pub(crate) fn look<R: Rows>(
     ensures session { IsButClock session.old session.new }
     ensures looks { Looks result session.old.own (R.view seat.old) (R.view seat.new) key taken.now (session.new ≡ session.old) }
 {
-    session_state::every_warm();
+    row_changes::every_warm();
     page_model::every_tree();
     match next(rows, seat, session.own, session.frames, key, taken) {
         Following::Pair {

@@ -1,14 +1,13 @@
 // The walk to the pair that follows a key, by rows that it takes on its way.
 ghost use Rattle.std.specs.Prelude.{◌≡◌, ◌<◌, ◌-◌, ◌^◌, true, IfErr, IsErrAnd};
 ghost use Rattle.row_changes.specs.Ways.{IsWarm};
-ghost use Rattle.session_state.specs.Holds.{Holds};
+ghost use Rattle.row_changes.specs.session_state.Holds.{Holds};
 ghost use Rattle.row_scans.specs.Meets.{IsButRows, IsCut, IsNoConflict, Meets};
 
 use crate::keys::{MOST, TakenKeys};
 use crate::looks::{Looked, look};
 use map_model::Refusal;
-use row_changes::{Cold, take_row};
-use session_state::{Mode, Rows, Session, WorkerLog};
+use row_changes::{Cold, Mode, Rows, Session, WorkerLog, take_row};
 
 /// What a walk met in its leaf.
 #[derive(Clone, Copy, Debug, PartialEq, Eq)]

@@ -1,28 +1,28 @@
 -- What comes of either change, by how it ends.
 use Rattle.std.proofs.Common.{◌≡◌, ℕ, true, List, Result, Ok, Err, refl, ap, ◌∙◌, arith}
 use Rattle.map_model.specs.declared.call.Refusal.TheVariants as refusal
-use Rattle.session_state.specs.engine_trait.declared.unserved.Unanswered.TheVariants as unanswered
-use Rattle.session_state.specs.engine_trait.declared.unserved.Unserved.{Unserved}
-use Rattle.session_state.specs.engine_trait.declared.unserved.Unserved.TheVariants as unserved
-use Rattle.session_state.specs.draw_trait.declared.draw.Unstaged.{Unstaged}
-use Rattle.session_state.specs.draw_trait.declared.draw.Unstaged.TheVariants.{DiskFault, LogFull}
+use Rattle.row_changes.specs.session_state.engine_trait.declared.unserved.Unanswered.TheVariants as unanswered
+use Rattle.row_changes.specs.session_state.engine_trait.declared.unserved.Unserved.{Unserved}
+use Rattle.row_changes.specs.session_state.engine_trait.declared.unserved.Unserved.TheVariants as unserved
+use Rattle.row_changes.specs.session_state.draw_trait.declared.draw.Unstaged.{Unstaged}
+use Rattle.row_changes.specs.session_state.draw_trait.declared.draw.Unstaged.TheVariants.{DiskFault, LogFull}
 use Rattle.lean_disk.specs.Faults.{HasCause}
 use Rattle.lean_disk.specs.Story.{Story}
-use Rattle.session_state.specs.log_record.declared.record.Record.{Record}
-use Rattle.session_state.specs.worker_log.Logs.{Log}
-use Rattle.session_state.specs.rows_trait.Views.{Shape, state}
-use Rattle.session_state.specs.rows_trait.declared.view.View.{View}
+use Rattle.row_changes.specs.session_state.log_record.declared.record.Record.{Record}
+use Rattle.row_changes.specs.session_state.worker_log.Logs.{Log}
+use Rattle.row_changes.specs.session_state.rows_trait.Views.{Shape, state}
+use Rattle.row_changes.specs.session_state.rows_trait.declared.view.View.{View}
 use Rattle.btree_smo.specs.Outcomes.{Drew, IsSpentIn}
 use Rattle.btree_smo.specs.Purges.{DrewOf}
 use Rattle.btree_smo.specs.declared.outcome.Outcome.{Outcome}
 use Rattle.btree_smo.specs.declared.outcome.Outcome.TheVariants as outcome
 use Rattle.btree_smo.specs.declared.purge.Purged.{Purged}
 use Rattle.btree_smo.specs.declared.purge.Purged.TheVariants as purged
-use Rattle.session_state.specs.Holds.{Holds, IsSameSession}
-use Rattle.session_state.specs.Numbers.{HaveRoom}
-use Rattle.session_state.specs.Staging.{Staging}
-use Rattle.session_state.specs.declared.session.Session.{Session}
-use Rattle.session_state.proofs.UndoLemmas.{room_to_end}
+use Rattle.row_changes.specs.session_state.Holds.{Holds, IsSameSession}
+use Rattle.row_changes.specs.session_state.Numbers.{HaveRoom}
+use Rattle.row_changes.specs.session_state.Staging.{Staging}
+use Rattle.row_changes.specs.session_state.declared.session.Session.{Session}
+use Rattle.row_changes.proofs.session_state.UndoLemmas.{room_to_end}
 use Rattle.row_changes.specs.Puts.{works_after}
 use Rattle.row_changes.proofs.DelLemmas.{same_by_clock, same_then}
 use Rattle.row_changes.proofs.PutLemmas.{low_page}

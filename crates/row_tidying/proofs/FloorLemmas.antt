@@ -2,26 +2,26 @@
 use Rattle.std.proofs.Common.{◌≡◌, ◌≤◌, ◌<◌, ◌+◌, ◌⊎◌, ◌++◌, ◌^◌, ℕ, List, [], ◌∷◌, length, Result, Ok, Err, inl, inr, sym, ap, ◌∙◌, subst, arith}
 use Rattle.map_model.specs.declared.call.Refusal.TheVariants as refusal
 use Rattle.rfa_model.proofs.ReachLemmas.{least_low}
-use Rattle.session_state.specs.engine_trait.declared.unserved.Unanswered.TheVariants as unanswered
-use Rattle.session_state.specs.engine_trait.declared.unserved.Unserved.{Unserved}
-use Rattle.session_state.specs.engine_trait.declared.unserved.Unserved.TheVariants as unserved
-use Rattle.session_state.specs.core_state.Needs.{may}
-use Rattle.session_state.specs.core_state.Openings.{Opening}
-use Rattle.session_state.specs.core_state.States.{Place, State, flushed_by_all, nodes_of}
-use Rattle.session_state.specs.core_state.Steps.{happens}
-use Rattle.session_state.specs.core_calls.Warms.{IsWarmFrom}
+use Rattle.row_changes.specs.session_state.engine_trait.declared.unserved.Unanswered.TheVariants as unanswered
+use Rattle.row_changes.specs.session_state.engine_trait.declared.unserved.Unserved.{Unserved}
+use Rattle.row_changes.specs.session_state.engine_trait.declared.unserved.Unserved.TheVariants as unserved
+use Rattle.row_changes.specs.session_state.core_state.Needs.{may}
+use Rattle.row_changes.specs.session_state.core_state.Openings.{Opening}
+use Rattle.row_changes.specs.session_state.core_state.States.{Place, State, flushed_by_all, nodes_of}
+use Rattle.row_changes.specs.session_state.core_state.Steps.{happens}
+use Rattle.row_changes.specs.session_state.core_calls.Warms.{IsWarmFrom}
 use Rattle.page_model.specs.Nodes.{is_leaf}
 use Rattle.lean_disk.specs.Story.{Story}
-use Rattle.session_state.specs.disk_image.Records.{entry_of}
-use Rattle.session_state.specs.worker_log.Logs.{Log}
-use Rattle.session_state.specs.row_words.declared.event.Event.{Event}
-use Rattle.session_state.specs.row_words.declared.event.Event.TheVariants.{Purge}
-use Rattle.session_state.specs.row_words.Moments.{Moment, event_of}
-use Rattle.session_state.specs.row_words.Openings.{opening}
-use Rattle.session_state.specs.rows_trait.Views.{Shape, state}
-use Rattle.session_state.specs.rows_trait.declared.view.View.{View}
-use Rattle.session_state.specs.Holds.{Holds}
-use Rattle.session_state.specs.declared.session.Session.{Session}
+use Rattle.row_changes.specs.session_state.disk_image.Records.{entry_of}
+use Rattle.row_changes.specs.session_state.worker_log.Logs.{Log}
+use Rattle.row_changes.specs.session_state.row_words.declared.event.Event.{Event}
+use Rattle.row_changes.specs.session_state.row_words.declared.event.Event.TheVariants.{Purge}
+use Rattle.row_changes.specs.session_state.row_words.Moments.{Moment, event_of}
+use Rattle.row_changes.specs.session_state.row_words.Openings.{opening}
+use Rattle.row_changes.specs.session_state.rows_trait.Views.{Shape, state}
+use Rattle.row_changes.specs.session_state.rows_trait.declared.view.View.{View}
+use Rattle.row_changes.specs.session_state.Holds.{Holds}
+use Rattle.row_changes.specs.session_state.declared.session.Session.{Session}
 use Rattle.row_changes.proofs.SeenLemmas.{still}
 use Rattle.row_ends.specs.Flushed.{Looked, flushed_to}
 use Rattle.row_ends.proofs.FlushLemmas.{flushed_all, flushed_low}

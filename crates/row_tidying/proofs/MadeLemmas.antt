@@ -5,43 +5,43 @@ use Rattle.map_model.specs.Lists.{Has, any, keep}
 use Rattle.map_model.proofs.ListLemmas.{upd_same}
 use Rattle.page_model.specs.Nodes.{Node, covers}
 use Rattle.page_model.specs.Records as records
-use Rattle.session_state.specs.image_model.Entries.{Contents, Entry, Kind, is_commit, touches, written}
-use Rattle.session_state.specs.core_state.Needs.{are_hot, holds_row, may, needs, pages_of}
-use Rattle.session_state.specs.core_state.Openings.{Opening}
-use Rattle.session_state.specs.core_state.States.{Place, State, Worker, in_frame, is_hot}
-use Rattle.session_state.specs.core_state.Steps.{at_pages, happens, moves, page_entry, records_in, refs_of}
-use Rattle.session_state.specs.core_calls.LogEvents.{behind}
-use Rattle.session_state.specs.core_calls.Warms.{IsWarmFrom}
-use Rattle.session_state.specs.core_calls.Room.{free_list, frees_from}
+use Rattle.row_changes.specs.session_state.image_model.Entries.{Contents, Entry, Kind, is_commit, touches, written}
+use Rattle.row_changes.specs.session_state.core_state.Needs.{are_hot, holds_row, may, needs, pages_of}
+use Rattle.row_changes.specs.session_state.core_state.Openings.{Opening}
+use Rattle.row_changes.specs.session_state.core_state.States.{Place, State, Worker, in_frame, is_hot}
+use Rattle.row_changes.specs.session_state.core_state.Steps.{at_pages, happens, moves, page_entry, records_in, refs_of}
+use Rattle.row_changes.specs.session_state.core_calls.LogEvents.{behind}
+use Rattle.row_changes.specs.session_state.core_calls.Warms.{IsWarmFrom}
+use Rattle.row_changes.specs.session_state.core_calls.Room.{free_list, frees_from}
 use Rattle.lean_disk.specs.Story.{Story}
-use Rattle.session_state.specs.log_record.declared.record.Record.{Record}
-use Rattle.session_state.specs.disk_image.Records.{entry_of}
-use Rattle.session_state.specs.worker_log.Logs.{Log}
-use Rattle.session_state.specs.row_words.declared.event.Event.{Event}
-use Rattle.session_state.specs.row_words.declared.given.Given.{Given}
-use Rattle.session_state.specs.row_words.Moments.{Moment, event_of}
-use Rattle.session_state.specs.row_words.Openings.{opening}
-use Rattle.session_state.specs.row_words.Sealed.{begun, stepped}
-use Rattle.session_state.proofs.row_words.SealedLemmas.{run_append}
-use Rattle.session_state.specs.rows_trait.Causes.{EveryLow}
-use Rattle.session_state.specs.rows_trait.Turns.{Ran}
-use Rattle.session_state.specs.rows_trait.Views.{AreLow, Shape, after_all, state}
-use Rattle.session_state.specs.rows_trait.declared.view.View.{View}
-use Rattle.session_state.specs.btree_descent.Known.{Sound}
-use Rattle.session_state.specs.btree_descent.Puts.{Onward, clock_in}
+use Rattle.row_changes.specs.session_state.log_record.declared.record.Record.{Record}
+use Rattle.row_changes.specs.session_state.disk_image.Records.{entry_of}
+use Rattle.row_changes.specs.session_state.worker_log.Logs.{Log}
+use Rattle.row_changes.specs.session_state.row_words.declared.event.Event.{Event}
+use Rattle.row_changes.specs.session_state.row_words.declared.given.Given.{Given}
+use Rattle.row_changes.specs.session_state.row_words.Moments.{Moment, event_of}
+use Rattle.row_changes.specs.session_state.row_words.Openings.{opening}
+use Rattle.row_changes.specs.session_state.row_words.Sealed.{begun, stepped}
+use Rattle.row_changes.proofs.session_state.row_words.SealedLemmas.{run_append}
+use Rattle.row_changes.specs.session_state.rows_trait.Causes.{EveryLow}
+use Rattle.row_changes.specs.session_state.rows_trait.Turns.{Ran}
+use Rattle.row_changes.specs.session_state.rows_trait.Views.{AreLow, Shape, after_all, state}
+use Rattle.row_changes.specs.session_state.rows_trait.declared.view.View.{View}
+use Rattle.row_changes.specs.session_state.btree_descent.Known.{Sound}
+use Rattle.row_changes.specs.session_state.btree_descent.Puts.{Onward, clock_in}
 use Rattle.btree_smo.specs.Outcomes.{AreMisses, Caused, Changed, IsHotIn, MissedUpTo, WasSo}
 use Rattle.btree_smo.specs.Purges.{Cleared, purge_entry}
 use Rattle.btree_smo.specs.declared.outcome.Outcome.TheVariants.{RowSpent}
-use Rattle.session_state.specs.row_words.declared.event.Event.TheVariants.{Purge}
-use Rattle.session_state.specs.draw_trait.Clocks.{Clock}
-use Rattle.session_state.specs.flush_avoidance.Clocks.{risen}
-use Rattle.session_state.specs.Holds.{AreNumbers, Holds, IsOf}
-use Rattle.session_state.specs.Staging.{Staging}
-use Rattle.session_state.specs.Undo.{HasHand, HasRoomToStage, undo_of}
-use Rattle.session_state.specs.declared.session.Session.{Session}
-use Rattle.session_state.proofs.HoldLemmas.{rows_on}
-use Rattle.session_state.proofs.Moments.{met_core}
-use Rattle.session_state.proofs.UndoLemmas.{hand_after, room_after, room_kept, room_to_end, room_to_undo}
+use Rattle.row_changes.specs.session_state.row_words.declared.event.Event.TheVariants.{Purge}
+use Rattle.row_changes.specs.session_state.draw_trait.Clocks.{Clock}
+use Rattle.row_changes.specs.session_state.flush_avoidance.Clocks.{risen}
+use Rattle.row_changes.specs.session_state.Holds.{AreNumbers, Holds, IsOf}
+use Rattle.row_changes.specs.session_state.Staging.{Staging}
+use Rattle.row_changes.specs.session_state.Undo.{HasHand, HasRoomToStage, undo_of}
+use Rattle.row_changes.specs.session_state.declared.session.Session.{Session}
+use Rattle.row_changes.proofs.session_state.HoldLemmas.{rows_on}
+use Rattle.row_changes.proofs.session_state.Moments.{met_core}
+use Rattle.row_changes.proofs.session_state.UndoLemmas.{hand_after, room_after, room_kept, room_to_end, room_to_undo}
 use Rattle.row_changes.proofs.TouchLemmas.{Touched, touched}
 use Rattle.row_changes.proofs.Misses.{misses_core}
 use Rattle.row_changes.proofs.PutLemmas.{floor_same, same_flushed}

@@ -2,29 +2,29 @@
 use Rattle.std.proofs.Common.{◌≡◌, ◌⊎◌, inl, inr, ◌<◌, ◌==◌, ◌&&◌, ℕ, true, cond, List, [], ◌∷◌, length, Result, Ok, refl, sym, ap, ◌∙◌, subst, arith, true≢false}
 use Rattle.page_model.specs.Needs.{purge_record}
 use Rattle.page_model.specs.Pairs.{Pair}
-use Rattle.session_state.specs.image_model.Entries.{Kind}
-use Rattle.session_state.specs.core_state.Needs.{is_settled}
-use Rattle.session_state.specs.core_state.Openings.{Opening}
-use Rattle.session_state.specs.core_state.States.{Place, State, gsns_of, nodes_of}
-use Rattle.session_state.specs.core_state.Events as happening
-use Rattle.session_state.specs.core_state.Steps.{happens}
-use Rattle.session_state.specs.core_calls.Room.{free_list}
-use Rattle.session_state.specs.engine_trait.declared.unserved.Unserved.{Unserved}
-use Rattle.session_state.specs.draw_trait.declared.draw.Unstaged.{Unstaged}
-use Rattle.session_state.specs.draw_trait.declared.draw.Unstaged.TheVariants.{DiskFault, LogFull}
+use Rattle.row_changes.specs.session_state.image_model.Entries.{Kind}
+use Rattle.row_changes.specs.session_state.core_state.Needs.{is_settled}
+use Rattle.row_changes.specs.session_state.core_state.Openings.{Opening}
+use Rattle.row_changes.specs.session_state.core_state.States.{Place, State, gsns_of, nodes_of}
+use Rattle.row_changes.specs.session_state.core_state.Events as happening
+use Rattle.row_changes.specs.session_state.core_state.Steps.{happens}
+use Rattle.row_changes.specs.session_state.core_calls.Room.{free_list}
+use Rattle.row_changes.specs.session_state.engine_trait.declared.unserved.Unserved.{Unserved}
+use Rattle.row_changes.specs.session_state.draw_trait.declared.draw.Unstaged.{Unstaged}
+use Rattle.row_changes.specs.session_state.draw_trait.declared.draw.Unstaged.TheVariants.{DiskFault, LogFull}
 use Rattle.lean_disk.specs.Story.{Story}
-use Rattle.session_state.specs.log_record.declared.record.Record.{Record}
-use Rattle.session_state.specs.worker_log.Logs.{Log}
-use Rattle.session_state.specs.row_words.declared.event.Event.TheVariants.{Purge}
-use Rattle.session_state.specs.row_words.Moments.{Moment}
-use Rattle.session_state.specs.row_words.Openings.{opening}
-use Rattle.session_state.specs.rows_trait.Causes.{EveryLow}
-use Rattle.session_state.specs.rows_trait.Views.{AreLow, Shape, after_all, state}
-use Rattle.session_state.specs.rows_trait.declared.view.View.{View}
-use Rattle.session_state.specs.Holds.{Holds}
-use Rattle.session_state.specs.Numbers.{HaveRoom}
-use Rattle.session_state.specs.Staging.{Staging}
-use Rattle.session_state.specs.declared.session.Session.{Session}
+use Rattle.row_changes.specs.session_state.log_record.declared.record.Record.{Record}
+use Rattle.row_changes.specs.session_state.worker_log.Logs.{Log}
+use Rattle.row_changes.specs.session_state.row_words.declared.event.Event.TheVariants.{Purge}
+use Rattle.row_changes.specs.session_state.row_words.Moments.{Moment}
+use Rattle.row_changes.specs.session_state.row_words.Openings.{opening}
+use Rattle.row_changes.specs.session_state.rows_trait.Causes.{EveryLow}
+use Rattle.row_changes.specs.session_state.rows_trait.Views.{AreLow, Shape, after_all, state}
+use Rattle.row_changes.specs.session_state.rows_trait.declared.view.View.{View}
+use Rattle.row_changes.specs.session_state.Holds.{Holds}
+use Rattle.row_changes.specs.session_state.Numbers.{HaveRoom}
+use Rattle.row_changes.specs.session_state.Staging.{Staging}
+use Rattle.row_changes.specs.session_state.declared.session.Session.{Session}
 use Rattle.btree_smo.specs.Purges.{CausedOf, Cleared, Clears, DrewOf, Gave, IsCalm, IsNoLeaf, Keeps, last_of, purge_entry, purgeable_keys}
 use Rattle.btree_smo.specs.Outcomes.{IsHotIn, IsSpentIn, WasSo}
 use Rattle.btree_smo.specs.declared.outcome.Outcome.TheVariants as outcome

@@ -1,26 +1,26 @@
 -- A change of the tree by which space comes back: what it asks, and that it was made.
 use Rattle.std.specs.Prelude.{◌≡◌, ◌≤◌, ◌<◌, ◌^◌, ◌++◌, ℕ, true, false, List, [], ◌∷◌, length}
 use Rattle.page_model.specs.Nodes.{is_leaf}
-use Rattle.session_state.specs.core_state.Needs.{may_drop, may_join}
-use Rattle.session_state.specs.core_state.Needs as core
-use Rattle.session_state.specs.core_state.States.{Place, nodes_of}
-use Rattle.session_state.specs.core_state.Steps.{happens}
+use Rattle.row_changes.specs.session_state.core_state.Needs.{may_drop, may_join}
+use Rattle.row_changes.specs.session_state.core_state.Needs as core
+use Rattle.row_changes.specs.session_state.core_state.States.{Place, nodes_of}
+use Rattle.row_changes.specs.session_state.core_state.Steps.{happens}
 use Rattle.lean_disk.specs.Story.{Story}
-use Rattle.session_state.specs.log_record.declared.record.Record.{Record}
-use Rattle.session_state.specs.log_block.Block.{records_text}
-use Rattle.session_state.specs.row_words.declared.event.Event.{Event}
-use Rattle.session_state.specs.row_words.Moments.{event_of}
-use Rattle.session_state.specs.row_words.Openings.{opening}
-use Rattle.session_state.specs.rows_trait.declared.view.View.{View}
-use Rattle.session_state.specs.rows_trait.Views.{state}
-use Rattle.session_state.specs.disk_image.Records.{entry_of}
-use Rattle.session_state.specs.worker_log.Calls.{After}
-use Rattle.session_state.specs.worker_log.Logs.{Log}
-use Rattle.session_state.specs.log_calls.Calls.{StagesOn}
-use Rattle.session_state.specs.flush_avoidance.Clocks.{risen}
-use Rattle.session_state.specs.Staging.{KeepsLog}
-use Rattle.session_state.specs.Undo.{HasRoomToStage}
-use Rattle.session_state.specs.declared.session.Session.{Session}
+use Rattle.row_changes.specs.session_state.log_record.declared.record.Record.{Record}
+use Rattle.row_changes.specs.session_state.log_block.Block.{records_text}
+use Rattle.row_changes.specs.session_state.row_words.declared.event.Event.{Event}
+use Rattle.row_changes.specs.session_state.row_words.Moments.{event_of}
+use Rattle.row_changes.specs.session_state.row_words.Openings.{opening}
+use Rattle.row_changes.specs.session_state.rows_trait.declared.view.View.{View}
+use Rattle.row_changes.specs.session_state.rows_trait.Views.{state}
+use Rattle.row_changes.specs.session_state.disk_image.Records.{entry_of}
+use Rattle.row_changes.specs.session_state.worker_log.Calls.{After}
+use Rattle.row_changes.specs.session_state.worker_log.Logs.{Log}
+use Rattle.row_changes.specs.session_state.log_calls.Calls.{StagesOn}
+use Rattle.row_changes.specs.session_state.flush_avoidance.Clocks.{risen}
+use Rattle.row_changes.specs.session_state.Staging.{KeepsLog}
+use Rattle.row_changes.specs.session_state.Undo.{HasRoomToStage}
+use Rattle.row_changes.specs.session_state.declared.session.Session.{Session}
 use Rattle.row_changes.specs.Ways.{IsWarm}
 use Rattle.btree_smo.specs.Outcomes.{AreMisses}
 

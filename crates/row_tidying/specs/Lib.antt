@@ -2,3 +2,6 @@
 pub mod Changes
 pub mod Outcomes
 pub mod Ends
+-- Passed on to the crates above.
+pub use Rattle.row_ends.specs as row_ends
+pub use Rattle.tidy_rules.specs as tidy_rules

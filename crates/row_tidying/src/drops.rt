@@ -1,15 +1,15 @@
 // The root takes the contents of its one child.
 ghost use Rattle.std.specs.Prelude.{◌≡◌, Err, true, false};
-ghost use Rattle.session_state.specs.engine_trait.Serving.{disk_fault};
+ghost use Rattle.row_changes.specs.session_state.engine_trait.Serving.{disk_fault};
 ghost use Rattle.lean_disk.specs.Faults.{HasCause};
-ghost use Rattle.session_state.specs.Holds.{Holds, IsSameSession};
+ghost use Rattle.row_changes.specs.session_state.Holds.{Holds, IsSameSession};
 ghost use Rattle.row_changes.specs.Puts.{works_after};
 ghost use Rattle.row_tidying.specs.Changes.{CanDrop, MayTidy};
 ghost use Rattle.row_tidying.specs.Outcomes.{Drops};
 
 use crate::ends::finish;
 use btree_smo::drop_root::drop_root;
-use session_state::{Rows, Stages, Unserved, Work, next_fits};
+use row_changes::{Rows, Stages, Unserved, Work, next_fits};
 use tidy_rules::every_freed;
 
 /// Puts the contents of the root's one child, `page`, which stands in the frame, into the root. It is answered as the page that is free then.
@@ -31,7 +31,7 @@ pub fn drop_child<R: Rows, D: Stages>(
     ensures works { work.new.session.works ≡ works_after result }
     ensures cause_disk_fault { HasCause (D.faults work.old.disk) (D.faults work.new.disk) (result ≡ Err disk_fault) }
 {
-    session_state::every_low();
+    row_changes::every_low();
     every_freed();
     next_fits(rows, seat);
     let frames = work.session.frames;

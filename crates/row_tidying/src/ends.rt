@@ -6,7 +6,7 @@ use crate::purges::Cleared;
 use btree_smo::outcome::Outcome;
 use btree_smo::purge::Purged;
 use map_model::Refusal;
-use session_state::{Session, Unanswered, Unserved, Unstaged};
+use row_changes::{Session, Unanswered, Unserved, Unstaged};
 
 // Answers what came of a join or a drop that frees this page.
 pub(crate) fn finish(session: &mut Session, outcome: Outcome, page: u32) -> Result<u32, Unserved>

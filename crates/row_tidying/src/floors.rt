@@ -2,10 +2,10 @@
 ghost use Rattle.std.specs.Prelude.{◌≡◌, ◌<◌, ◌^◌};
 ghost use Rattle.btree_smo.specs.Purges.{IsFloor};
 ghost use Rattle.row_ends.specs.Flushed.{Looked};
-ghost use Rattle.session_state.specs.Holds.{Holds};
+ghost use Rattle.row_changes.specs.session_state.Holds.{Holds};
 
+use row_changes::{Rows, Session, WorkerLog};
 use row_ends::least_flushed;
-use session_state::{Rows, Session, WorkerLog};
 
 // The least number up to which each log is flushed. Words are loaded, and no more.
 pub(crate) fn floor_of<R: Rows>(

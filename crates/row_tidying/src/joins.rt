@@ -1,15 +1,15 @@
 // Two neighbours become one page.
 ghost use Rattle.std.specs.Prelude.{◌≡◌, Err, true, false};
-ghost use Rattle.session_state.specs.engine_trait.Serving.{disk_fault};
+ghost use Rattle.row_changes.specs.session_state.engine_trait.Serving.{disk_fault};
 ghost use Rattle.lean_disk.specs.Faults.{HasCause};
-ghost use Rattle.session_state.specs.Holds.{Holds, IsSameSession};
+ghost use Rattle.row_changes.specs.session_state.Holds.{Holds, IsSameSession};
 ghost use Rattle.row_changes.specs.Puts.{works_after};
 ghost use Rattle.row_tidying.specs.Changes.{CanJoin, MayTidy};
 ghost use Rattle.row_tidying.specs.Outcomes.{Joins};
 
 use crate::ends::finish;
 use btree_smo::join::join;
-use session_state::{Rows, Stages, Unserved, Work, next_fits};
+use row_changes::{Rows, Stages, Unserved, Work, next_fits};
 use tidy_rules::every_freed;
 
 /// Joins the page in the frame `right`, which is `page`, to its left neighbour, under the one in the frame `parent`. It is answered as the page that
@@ -34,7 +34,7 @@ pub fn join_pages<R: Rows, D: Stages>(
     ensures works { work.new.session.works ≡ works_after result }
     ensures cause_disk_fault { HasCause (D.faults work.old.disk) (D.faults work.new.disk) (result ≡ Err disk_fault) }
 {
-    session_state::every_low();
+    row_changes::every_low();
     every_freed();
     next_fits(rows, seat);
     let frames = work.session.frames;

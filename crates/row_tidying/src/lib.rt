@@ -13,3 +13,7 @@ mod purges;
 pub use drops::drop_child;
 pub use joins::join_pages;
 pub use purges::{Cleared, purge_leaf};
+
+// Passed on to the crates above.
+pub use row_ends::{Ended, call_refusal};
+pub use tidy_rules::every_purged;

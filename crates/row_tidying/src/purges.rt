@@ -1,8 +1,8 @@
 // The tombstones of a leaf that nobody can need go.
 ghost use Rattle.std.specs.Prelude.{◌≡◌, Err, true, false};
-ghost use Rattle.session_state.specs.engine_trait.Serving.{disk_fault};
+ghost use Rattle.row_changes.specs.session_state.engine_trait.Serving.{disk_fault};
 ghost use Rattle.lean_disk.specs.Faults.{HasCause};
-ghost use Rattle.session_state.specs.Holds.{Holds, IsSameSession};
+ghost use Rattle.row_changes.specs.session_state.Holds.{Holds, IsSameSession};
 ghost use Rattle.row_changes.specs.Puts.{works_after};
 ghost use Rattle.btree_smo.specs.Purges.{IsFloor};
 ghost use Rattle.row_tidying.specs.Changes.{CanPurge, MayTidy};
@@ -11,7 +11,7 @@ ghost use Rattle.row_tidying.specs.Outcomes.{Clears};
 use crate::ends::finish_purge;
 use crate::floors::floor_of;
 use btree_smo::purge::purge;
-use session_state::{Rows, Stages, Unserved, Work, next_fits};
+use row_changes::{Rows, Stages, Unserved, Work, next_fits};
 use tidy_rules::every_freed;
 
 /// What came of a purge.
@@ -44,7 +44,7 @@ fn purge_up_to<R: Rows, D: Stages>(
     ensures works { work.new.session.works ≡ works_after result }
     ensures cause_disk_fault { HasCause (D.faults work.old.disk) (D.faults work.new.disk) (result ≡ Err disk_fault) }
 {
-    session_state::every_low();
+    row_changes::every_low();
     every_freed();
     next_fits(rows, seat);
     let frames = work.session.frames;

@@ -66,6 +66,7 @@ sync_backs_none _ sync = refl
 look_of : (own row : ℕ) (e : Event) → in_room own row Mode.Shared e ≡ true → is_structure e ≡ false → is_look e ≡ true
 look_of own row (Event.Split w l r q i) room still = absurd (true≢false still)
 look_of own row (Event.Lift w c) room still = absurd (true≢false still)
+look_of own row (Event.Purge w p keys) room still = absurd (true≢false still)
 look_of own row (Event.Lock w i Mode.Shared) room still = refl
 look_of own row (Event.Lock w i Mode.Alone) room still = absurd (true≢false (sym room))
 look_of own row (Event.Miss w) room still = refl

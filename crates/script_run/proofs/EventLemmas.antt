@@ -19,7 +19,8 @@ use Rattle.call_parts.specs.core_calls.Marks.{Ended, Mark, back_in, mark, marks,
 use Rattle.call_parts.specs.core_calls.Steps.{call_behind, is_structure}
 use Rattle.call_parts.specs.run_crashes.Laws.{CommitsNone, OfEachFirst}
 use Rattle.call_parts.proofs.engine_calls.MarkLemmas.{either_false}
-use Rattle.call_parts.specs.engine_trait.Rooms.{MakesRoom, needs_sync}
+use Rattle.call_parts.specs.engine_trait.Rooms.{needs_sync}
+use Rattle.call_parts.specs.session_state.tidy_rules.Rooms.{MakesRoom}
 use Rattle.call_parts.specs.Rooms.{AreReady, HasDoneFor, IsRoomFor, gives_room, is_paging, makes_sync, puts_back, takes_row, walks}
 use Rattle.script_run.specs.Runs.{Hand, StoppedIn}
 

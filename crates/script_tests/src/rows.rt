@@ -651,6 +651,12 @@ static DISKS: [Case; 6] = [
                 0,
                 "open 3 winners 0 undone 0;1 begun 1.1;1 was 960;1 was none;1 was 2;1 committed 1.1 at 508;1 durable 1.1;"
             ),
+            // Of a full leaf the deleted keys go first, once their ends are flushed.
+            script!(
+                "1 begin;1 del 450;1 del 451;1 commit;1 begin;1 put 481 1;1 put 482 1;1 put 483 1;1 commit;",
+                0,
+                "open 4 winners 1 undone 0;1 begun 1.1;1 was 900;1 was 902;1 committed 1.1 at 511;1 durable 1.1;1 begun 1.2;1 was none;1 was none;1 no-pages;1 committed 1.2 at 515;1 durable 1.2;"
+            ),
         ],
         leaves: None,
     },

@@ -3,7 +3,7 @@ use Rattle.map_model.specs.declared.call.Refusal.{Refusal}
 use Rattle.paged_desks.specs.engine_trait.declared.unserved.Unserved.{Unserved}
 use Rattle.paged_desks.specs.engine_trait.declared.unserved.Unserved.TheVariants as unserved
 use Rattle.paged_desks.specs.declared.warming.Unwarmed.TheVariants as stopped
-use Rattle.row_changes.proofs.StepLemmas.{clock_at_end, clock_below, not_fault}
+use Rattle.row_room.proofs.row_changes.StepLemmas.{clock_at_end, clock_below, not_fault}
 use Rattle.paged_calls.specs.Changes.{DelsWarm}
 use Rattle.paged_calls.proofs.ChangeWarms.{cause_made, cause_warm, dels_by, dels_unwarmed, fits_unwarmed, made_works, ready_unwarmed, same_unwarmed, still_self, turn_unwarmed, works_unwarmed}
 use Rattle.paged_calls.proofs.DelCalls.{clock_works}

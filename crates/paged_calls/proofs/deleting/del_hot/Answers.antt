@@ -1,7 +1,7 @@
 use Rattle.std.proofs.Common.{◌≡◌, Err, subst}
-use Rattle.row_changes.proofs.DelLemmas.{none_lost_by_del}
-use Rattle.row_changes.specs.Dels.{Dels}
-use Rattle.row_changes.specs.declared.ways.Unmade.{Unmade}
+use Rattle.row_room.proofs.row_changes.DelLemmas.{none_lost_by_del}
+use Rattle.row_room.specs.row_changes.Dels.{Dels}
+use Rattle.row_room.specs.row_changes.declared.ways.Unmade.{Unmade}
 use Rattle.paged_desks.specs.Machines.{view_of}
 use Rattle.paged_calls.proofs.deleting.del_hot.Goals as goal
 

@@ -1,6 +1,6 @@
 use Rattle.std.proofs.Common.{◌∙◌, Option, ℕ, ap, refl, sym, subst}
-use Rattle.row_changes.proofs.DelLemmas.{none_lost_by_del}
-use Rattle.row_changes.specs.Ways.{IsLost}
+use Rattle.row_room.proofs.row_changes.DelLemmas.{none_lost_by_del}
+use Rattle.row_room.specs.row_changes.Ways.{IsLost}
 use Rattle.paged_calls.proofs.ChangeWarms.{cause_try, dels_err, dels_ok, dels_on, may_same, met_cold, refused_works}
 use Rattle.paged_desks.proofs.EndingLemmas.{Grounds}
 use Rattle.paged_calls.proofs.WarmLemmas.{cause_at, come_none}

@@ -1,11 +1,12 @@
 use Rattle.std.proofs.Common.{◌∙◌, Ok, Err, None, ap, refl, sym, arith}
-use Rattle.row_growth.specs.declared.steps.Stepped.TheVariants as stepped
+use Rattle.row_room.specs.declared.steps.Stepped.TheVariants as stepped
 use Rattle.paged_desks.proofs.EndingLemmas.{Grounds}
+use Rattle.paged_desks.specs.session_state.declared.work.Work.{Work}
 use Rattle.paged_calls.specs.Rounds.{most_a_round}
 use Rattle.paged_calls.specs.declared.growing.Round.{Round}
 use Rattle.paged_calls.specs.declared.growing.Round.TheVariants as round
 use Rattle.paged_calls.proofs.PutCalls.{cause_step, ok_step}
-use Rattle.paged_calls.proofs.PutWarms.{done_round, going_of, grown_round, may_same_put, met_needs, most_a_step, needs_still, refused_round, rounds_from, rounds_up, step_works, stepped_as, warm_same}
+use Rattle.paged_calls.proofs.PutWarms.{done_round, going_of, grown_round, may_same_put, met_needs, most_a_step, needs_missed, refused_round, rounds_from, rounds_up, step_works, stepped_as, warm_same}
 use Rattle.paged_calls.proofs.WarmLemmas.{cause_at}
 use Rattle.paged_calls.proofs.growing.one_round.Goals as goal
 
@@ -82,14 +83,15 @@ round_into-requires-clause-may g c κs within =
     let m = c.args.machine.now in
     let u = c.step_hot.new.machine in
     let d = c.in-Ok-Needs.ensures in
-    may_same_put g.D.Disk.story c.args.key m u (needs_still g.D.Disk.story c.args.key c.args.value None m u c.in-Ok-Needs.field-0 _ c.in-Ok-Needs.field-0-is d.aside d.steps) c.requires.may
+    let q = needs_missed g.D.Disk.story c.args.key c.args.value None m u c.in-Ok-Needs.field-0 _ c.in-Ok-Needs.field-0-is d.steps in
+    may_same_put c.args.key m u q.0 q.1 c.requires.may
 
 pub round_into-requires-clause-warm : goal.round_into-requires-clause-warm
 round_into-requires-clause-warm g c κs within =
     let m = c.args.machine.now in
     let u = c.step_hot.new.machine in
     let d = c.in-Ok-Needs.ensures in
-    warm_same g.D.Disk.story c.args.key m u (needs_still g.D.Disk.story c.args.key c.args.value None m u c.in-Ok-Needs.field-0 _ c.in-Ok-Needs.field-0-is d.aside d.steps) c.requires.warm
+    warm_same c.args.key m u (needs_missed g.D.Disk.story c.args.key c.args.value None m u c.in-Ok-Needs.field-0 _ c.in-Ok-Needs.field-0-is d.steps).0 c.requires.warm
 
 pub round_into-requires-clause-wanted : goal.round_into-requires-clause-wanted
 round_into-requires-clause-wanted g c κs within =
@@ -103,7 +105,7 @@ returns-in-Ok-Needs-clause-rounds g c =
     let m = c.args.machine.now in
     let u = c.step_hot.new.machine in
     let d = c.in-Ok-Needs.ensures in
-    rounds_from l b.residence g.D.Disk.story lawful c.args.key c.args.value most_a_round m u c.round_into.new.machine (needs_still g.D.Disk.story c.args.key c.args.value None m u c.in-Ok-Needs.field-0 _ c.in-Ok-Needs.field-0-is d.aside d.steps) c.round_into.result c.round_into.ensures.rounds
+    rounds_from l b.residence g.D.Disk.story lawful c.args.key c.args.value m u c.round_into.new.machine d.aside (needs_missed g.D.Disk.story c.args.key c.args.value None m u c.in-Ok-Needs.field-0 _ c.in-Ok-Needs.field-0-is d.steps) c.round_into.result c.round_into.ensures.rounds
 
 pub returns-in-Ok-Needs-clause-session : goal.returns-in-Ok-Needs-clause-session
 returns-in-Ok-Needs-clause-session g c = let d = c.in-Ok-Needs.ensures.session in let b = c.round_into.ensures.session in (b.0 ∙ d.1, b.1 ∙ d.2)
@@ -116,7 +118,7 @@ returns-in-Ok-Needs-clause-cause_disk_fault g c =
     let m = c.args.machine.now in
     let u = c.step_hot.new.machine in
     let d = c.in-Ok-Needs.ensures in
-    cause_at _ _ _ _ _ (ap g.D.Disk.faults (sym (needs_still g.D.Disk.story c.args.key c.args.value None m u c.in-Ok-Needs.field-0 _ c.in-Ok-Needs.field-0-is d.aside d.steps).beside.disk)) refl c.round_into.ensures.cause_disk_fault
+    cause_at _ _ _ _ _ (ap (λ (k : Work _). g.D.Disk.faults k.disk) (sym (needs_missed g.D.Disk.story c.args.key c.args.value None m u c.in-Ok-Needs.field-0 _ c.in-Ok-Needs.field-0-is d.steps).1)) refl c.round_into.ensures.cause_disk_fault
 
 pub round_into-requires-clause-ready : goal.round_into-requires-clause-ready
 round_into-requires-clause-ready g c κs within = c.in-Ok-Needs.ensures.ready refl

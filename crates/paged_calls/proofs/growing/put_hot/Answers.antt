@@ -1,7 +1,7 @@
 use Rattle.std.proofs.Common.{◌∙◌, ◌+◌, ◌*◌, Option, Ok, Err, ℕ, refl, sym, arith}
 use Rattle.paged_desks.proofs.EndingLemmas.{Grounds}
 use Rattle.paged_desks.specs.Machines.{view_of}
-use Rattle.row_changes.proofs.TakesLemmas.{takes_most}
+use Rattle.row_room.proofs.row_changes.TakesLemmas.{takes_most}
 use Rattle.paged_desks.specs.row_words.Openings.{opening}
 use Rattle.paged_desks.specs.rows_trait.Views.{state}
 use Rattle.paged_calls.specs.Rounds.{most_a_round, most_rounds}

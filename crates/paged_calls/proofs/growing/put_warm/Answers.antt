@@ -5,7 +5,7 @@ use Rattle.paged_desks.specs.engine_trait.declared.unserved.Unserved.TheVariants
 use Rattle.paged_desks.proofs.EndingLemmas.{Grounds}
 use Rattle.paged_desks.specs.Pages.{most_a_level}
 use Rattle.paged_desks.specs.declared.warming.Unwarmed.TheVariants as stopped
-use Rattle.row_changes.proofs.StepLemmas.{clock_at_end, clock_below, not_fault}
+use Rattle.row_room.proofs.row_changes.StepLemmas.{clock_at_end, clock_below, not_fault}
 use Rattle.paged_calls.specs.Rounds.{Rounds, most_a_put, most_a_round, most_rounds, round_of}
 use Rattle.paged_calls.proofs.ChangeWarms.{cause_warm, fits_unwarmed, ready_unwarmed, same_unwarmed, turn_unwarmed, works_unwarmed}
 use Rattle.paged_calls.proofs.DelCalls.{clock_works}
@@ -55,7 +55,7 @@ returns-in-Some-clause-rounds g c =
     let k = c.warm.new.self in
     let q = clock_at_end k.machine.work.session.clock.clock c.in-Some.why (sym c.clock_refusal.ensures ∙ c.in-Some.is) in
     subst (λ (why : Refusal). Rounds story c.args.key c.args.value most_a_put (Err (unserved.Refused why)) m k) (sym q.is)
-    (stopped_round l b.residence story lawful c.args.key c.args.value m k c.requires.ready (9 * most_a_level m.machine.work.session.workers) (way_few story m c.requires.ready) (c.in_default.ensures.gone refl) most_a_put (let f = way_few story m c.requires.ready in omega arith) (going_of c.args.key m (may_first c.args.key m c.requires.may)) q.spent)
+    (stopped_round l b.residence story lawful c.args.key c.args.value m k c.requires.ready (9 * most_a_level m.machine.work.session.workers) most_a_round (way_few story m c.requires.ready) (c.in_default.ensures.gone refl) most_a_put (let f = way_few story m c.requires.ready in omega arith) (going_of c.args.key m (may_first c.args.key m c.requires.may)) q.spent)
 
 pub returns-in-Some-clause-works : goal.returns-in-Some-clause-works
 returns-in-Some-clause-works g c = c.in_default.ensures.works ∙ sym (clock_works (Option ℕ) c.warm.new.self.machine.work.session.clock.clock c.in-Some.why (sym c.clock_refusal.ensures ∙ c.in-Some.is))

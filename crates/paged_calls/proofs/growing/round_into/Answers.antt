@@ -4,10 +4,10 @@ use Rattle.paged_desks.specs.engine_trait.declared.unserved.Unserved.{Unserved}
 use Rattle.paged_desks.specs.engine_trait.declared.unserved.Unserved.TheVariants as unserved
 use Rattle.paged_desks.specs.Pages.{most_a_level}
 use Rattle.paged_desks.specs.declared.warming.Unwarmed.TheVariants as stopped
-use Rattle.row_changes.proofs.StepLemmas.{clock_at_end, clock_below, not_fault}
-use Rattle.row_growth.specs.declared.steps.Stepped.TheVariants as stepped
+use Rattle.row_room.proofs.row_changes.StepLemmas.{clock_at_end, clock_below, not_fault}
+use Rattle.row_room.specs.declared.steps.Stepped.TheVariants as stepped
 use Rattle.paged_desks.proofs.EndingLemmas.{Grounds}
-use Rattle.paged_calls.specs.Rounds.{Rounds, most_a_round}
+use Rattle.paged_calls.specs.Rounds.{Rounds, most_behind_wish}
 use Rattle.paged_calls.specs.declared.growing.Round.{Round}
 use Rattle.paged_calls.specs.declared.growing.Round.TheVariants as round
 use Rattle.paged_calls.proofs.ChangeWarms.{cause_warm, fits_unwarmed, ready_unwarmed, same_unwarmed, turn_unwarmed, works_unwarmed}
@@ -31,8 +31,8 @@ returns-in-Err-clause-rounds g c =
     let m = c.args.machine.now in
     let n = c.frame_for.new.self in
     let w = c.in-Err.ensures in
-    subst (λ (why : Unserved). Rounds story c.args.key c.args.value most_a_round (Err why) m n) (sym c.unserved_of.ensures)
-    (unwarmed_rounds l b.residence story lawful c.args.key c.args.value m n (most_a_level m.machine.work.session.workers) most_a_round (let f = level_few story m c.requires.ready in omega arith) c.in-Err.why w.gone w.failed (spent_as ℕ _ c.in-Err.why w.spent) (damaged_as ℕ _ c.in-Err.why w.damaged))
+    subst (λ (why : Unserved). Rounds story c.args.key c.args.value most_behind_wish (Err why) m n) (sym c.unserved_of.ensures)
+    (unwarmed_rounds l b.residence story lawful c.args.key c.args.value m n (most_a_level m.machine.work.session.workers) most_behind_wish (let f = level_few story m c.requires.ready in omega arith) c.in-Err.why w.gone w.failed (spent_as ℕ _ c.in-Err.why w.spent) (damaged_as ℕ _ c.in-Err.why w.damaged))
 
 pub returns-in-Err-clause-works : goal.returns-in-Err-clause-works
 returns-in-Err-clause-works g c = works_unwarmed g.D.Disk.story c.args.key 0 c.args.machine.now c.frame_for.new.self c.in-Err.why c.unserved_of.result c.unserved_of.ensures c.in-Err.ensures.works
@@ -63,8 +63,8 @@ returns-in-Some-clause-rounds g c =
     let m = c.args.machine.now in
     let k = c.frame_for.new.self in
     let q = clock_at_end k.machine.work.session.clock.clock c.in-Some.why (sym c.clock_refusal.ensures ∙ c.in-Some.is) in
-    subst (λ (why : Refusal). Rounds story c.args.key c.args.value most_a_round (Err (unserved.Refused why)) m k) (sym q.is)
-    (stopped_round l b.residence story lawful c.args.key c.args.value m k c.requires.ready (most_a_level m.machine.work.session.workers) (level_few story m c.requires.ready) (c.in-Ok.ensures.gone refl) most_a_round (let f = level_few story m c.requires.ready in omega arith) (going_of c.args.key m c.requires.may) q.spent)
+    subst (λ (why : Refusal). Rounds story c.args.key c.args.value most_behind_wish (Err (unserved.Refused why)) m k) (sym q.is)
+    (stopped_round l b.residence story lawful c.args.key c.args.value m k c.requires.ready (most_a_level m.machine.work.session.workers) most_behind_wish (level_few story m c.requires.ready) (c.in-Ok.ensures.gone refl) most_behind_wish (let f = level_few story m c.requires.ready in omega arith) (going_of c.args.key m c.requires.may) q.spent)
 
 pub returns-in-Some-clause-works : goal.returns-in-Some-clause-works
 returns-in-Some-clause-works g c = c.in-Ok.ensures.works ∙ sym (clock_works Round c.frame_for.new.self.machine.work.session.clock.clock c.in-Some.why (sym c.clock_refusal.ensures ∙ c.in-Some.is))
@@ -104,7 +104,7 @@ returns-in-Err-step_hot-clause-rounds g c =
     let n = c.step_hot.new.machine in
     let d = c.in-Err-step_hot.ensures in
     let gone = c.in-Ok.ensures.gone refl in
-    into_round l b.residence story lawful c.args.key c.args.value m k c.requires.ready (most_a_level m.machine.work.session.workers) (level_few story m c.requires.ready) gone c.requires.wanted.leaf c.requires.wanted.unfit n (Err c.in-Err-step_hot.why)
+    into_round l b.residence story lawful c.args.key c.args.value m k c.requires.ready (most_a_level m.machine.work.session.workers) most_behind_wish (level_few story m c.requires.ready) gone c.requires.wanted.leaf c.requires.wanted.unfit n (Err c.in-Err-step_hot.why)
     (refused_round l b.residence story lawful c.args.key c.args.value k n (c.in-Ok.ensures.ready refl) d.aside d.session c.in-Err-step_hot.why (Some (record { page = c.args.page; frame = c.in-Ok.frame })) (λ on. d.is_half_aborted (d.works ∙ on))
     (going_gone story c.args.key _ m k c.requires.ready gone.paged (going_of c.args.key m c.requires.may)) (clock_below k.machine.work.session.clock.clock (sym c.clock_refusal.ensures ∙ c.in_default.is)) d.steps)
 
@@ -133,7 +133,7 @@ returns-in-Ok-Done-clause-rounds g c =
     let k = c.frame_for.new.self in
     let n = c.step_hot.new.machine in
     let d = c.in-Ok-Done.ensures in
-    into_round l b.residence story lawful c.args.key c.args.value m k c.requires.ready (most_a_level m.machine.work.session.workers) (level_few story m c.requires.ready) (c.in-Ok.ensures.gone refl) c.requires.wanted.leaf c.requires.wanted.unfit n (Ok (round.Done c.in-Ok-Done.before))
+    into_round l b.residence story lawful c.args.key c.args.value m k c.requires.ready (most_a_level m.machine.work.session.workers) most_behind_wish (level_few story m c.requires.ready) (c.in-Ok.ensures.gone refl) c.requires.wanted.leaf c.requires.wanted.unfit n (Ok (round.Done c.in-Ok-Done.before))
     (done_round l b.residence story lawful c.args.key c.args.value k n (c.in-Ok.ensures.ready refl) d.aside d.session c.in-Ok-Done.before (d.is_half_aborted d.works) (Some (record { page = c.args.page; frame = c.in-Ok.frame }))
     (stepped_as story c.args.key c.args.value (Some (record { page = c.args.page; frame = c.in-Ok.frame })) k n c.in-Ok-Done.field-0 (stepped.Done c.in-Ok-Done.before) c.in-Ok-Done.field-0-is d.steps))
 
@@ -156,7 +156,7 @@ returns-in-Ok-Grown-clause-rounds g c =
     let k = c.frame_for.new.self in
     let n = c.step_hot.new.machine in
     let d = c.in-Ok-Grown.ensures in
-    into_round l b.residence story lawful c.args.key c.args.value m k c.requires.ready (most_a_level m.machine.work.session.workers) (level_few story m c.requires.ready) (c.in-Ok.ensures.gone refl) c.requires.wanted.leaf c.requires.wanted.unfit n (Ok round.Grown)
+    into_round l b.residence story lawful c.args.key c.args.value m k c.requires.ready (most_a_level m.machine.work.session.workers) most_behind_wish (level_few story m c.requires.ready) (c.in-Ok.ensures.gone refl) c.requires.wanted.leaf c.requires.wanted.unfit n (Ok round.Grown)
     (grown_round l b.residence story lawful c.args.key c.args.value k n (c.in-Ok.ensures.ready refl) d.aside d.session (d.is_half_aborted d.works) c.in-Ok.ensures.home.warm (Some (record { page = c.args.page; frame = c.in-Ok.frame }))
     (stepped_as story c.args.key c.args.value (Some (record { page = c.args.page; frame = c.in-Ok.frame })) k n c.in-Ok-Grown.field-0 stepped.Grown c.in-Ok-Grown.field-0-is d.steps))
 

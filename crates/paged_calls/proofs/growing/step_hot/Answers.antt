@@ -1,5 +1,5 @@
 use Rattle.std.proofs.Common.{Err, subst}
-use Rattle.row_changes.specs.declared.ways.Unmade.{Unmade}
+use Rattle.row_room.specs.row_changes.declared.ways.Unmade.{Unmade}
 use Rattle.paged_calls.proofs.PutWarms.{HasStepped, none_lost}
 use Rattle.paged_calls.proofs.growing.step_hot.Goals as goal
 

@@ -1,8 +1,8 @@
 use Rattle.std.proofs.Common.{◌≡◌, ◌∙◌, false, refl, sym, subst}
-use Rattle.row_changes.specs.Paths.{LeadsToFull}
-use Rattle.row_changes.specs.Puts.{MayChange}
-use Rattle.row_changes.proofs.DelLemmas.{same_then}
-use Rattle.row_changes.proofs.StepLemmas.{cause_from, ok_calm}
+use Rattle.row_growth.specs.row_changes.Paths.{LeadsToFull}
+use Rattle.row_growth.specs.row_changes.Puts.{MayChange}
+use Rattle.row_growth.proofs.row_changes.DelLemmas.{same_then}
+use Rattle.row_growth.proofs.row_changes.StepLemmas.{cause_from, ok_calm}
 use Rattle.row_growth.specs.Rooms.{Grew}
 use Rattle.row_room.proofs.FullLemmas.{can_purge, path_end, path_some}
 use Rattle.row_room.proofs.SpaceLemmas.{behind_told, cleared_done, cleared_spared, leads_same, may_same, may_tidy, missed_core, placed_same, purge_told, roomed_by, space_behind, space_refused}

@@ -1,9 +1,9 @@
 use Rattle.std.proofs.Common.{◌≡◌, ◌∙◌, false, Ok, Err, sym, subst}
-use Rattle.row_changes.specs.Paths.{LeadsToFull}
-use Rattle.row_changes.specs.Puts.{MayChange}
-use Rattle.row_changes.proofs.DelLemmas.{same_then}
-use Rattle.row_changes.proofs.SeenLemmas.{still}
-use Rattle.row_changes.proofs.StepLemmas.{calm_then, ok_calm}
+use Rattle.row_growth.specs.row_changes.Paths.{LeadsToFull}
+use Rattle.row_growth.specs.row_changes.Puts.{MayChange}
+use Rattle.row_growth.proofs.row_changes.DelLemmas.{same_then}
+use Rattle.row_growth.proofs.row_changes.SeenLemmas.{still}
+use Rattle.row_growth.proofs.row_changes.StepLemmas.{calm_then, ok_calm}
 use Rattle.row_room.specs.Rooms.{IsRoomed, MadeSpace}
 use Rattle.row_growth.specs.declared.room.Growth.TheVariants as growth
 use Rattle.row_growth.proofs.RoomLemmas.{may_on, placed_on}

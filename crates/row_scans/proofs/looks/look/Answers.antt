@@ -1,6 +1,6 @@
 use Rattle.std.proofs.Common.{refl}
-use Rattle.session_state.proofs.HoldLemmas.{holds_as}
-use Rattle.session_state.proofs.StageLemmas.{but_clock, clock_set}
+use Rattle.row_changes.proofs.session_state.HoldLemmas.{holds_as}
+use Rattle.row_changes.proofs.session_state.StageLemmas.{but_clock, clock_set}
 use Rattle.row_changes.proofs.TakeLemmas.{holds_still}
 use Rattle.row_scans.specs.declared.meets.Met.TheVariants as met
 use Rattle.row_scans.proofs.LookLemmas.{after_walk, has_walked, may_walk, met_cold_first, next_entry, pair_in, still_next}

@@ -1,5 +1,5 @@
 use Rattle.std.proofs.Common.{◌∙◌, ap, arith, subst, sym}
-use Rattle.session_state.specs.declared.session.Session.{Session}
+use Rattle.row_changes.specs.session_state.declared.session.Session.{Session}
 use Rattle.row_changes.proofs.WayLemmas.{warm_met}
 use Rattle.row_scans.specs.Inside.{AreHeld, HasWalked}
 use Rattle.row_scans.proofs.MeetLemmas.{cold_first, few_more, has_met, meets_refused, no_conflict, rows_taken, rows_then, turn_more}

@@ -1,5 +1,5 @@
 use Rattle.std.proofs.Common.{◌≡◌, ◌≤◌, length, []}
-use Rattle.session_state.specs.Holds.{Holds}
+use Rattle.row_changes.specs.session_state.Holds.{Holds}
 use Rattle.row_scans.specs.Inside.{AreFirst, AreHeld}
 use Rattle.row_scans.specs.Meets.{HasTaken, IsButRows}
 use Rattle.row_scans.proofs.MeetLemmas.{rows_of}

@@ -1,5 +1,5 @@
 use Rattle.std.proofs.Common.{refl}
-use Rattle.session_state.proofs.HoldLemmas.{holds_as}
+use Rattle.row_changes.proofs.session_state.HoldLemmas.{holds_as}
 use Rattle.row_ends.proofs.BeginLemmas.{looked_holds}
 use Rattle.row_tidying.proofs.FloorLemmas.{few_logs, floor_is, is_floor}
 use Rattle.row_tidying.proofs.floors.floor_of.Goals as goal
