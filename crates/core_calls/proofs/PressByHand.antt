@@ -68,6 +68,6 @@ worked every = record {
   pressed_where = (tight, tt);
   four = opening;
   frames_four = refl;
-  early = ((refl, (refl, (refl, (refl, (refl, (refl, (refl, (refl, tt)))))))), λ w. (every opening (crowded ++ Event.Lock 1 4 Mode.Alone ∷ []) 4).loose 3 (omega arith) (IsLoose.Empty refl) w.0);
+  early = ((refl, (refl, (refl, (refl, (refl, (refl, (refl, (refl, tt)))))))), λ w. (every opening (crowded ++ Event.Lock 1 4 Mode.Alone ∷ []) 4).loose 3 (omega arith) (IsLoose.Empty refl) w.0.taken);
   unsaved = refl;
 }

@@ -15,18 +15,18 @@ use Rattle.core_crash.specs.core_state.Steps.{AllMet, happens, run, state_after,
 use Rattle.core_crash.proofs.core_state.Runs.{run_more}
 use Rattle.core_crash.specs.core_paging.Paging.{EveryResidence, EverySaved, Residence}
 use Rattle.core_crash.proofs.core_paging.Places.{below}
-use Rattle.core_calls.specs.LogEvents.{IsTaken, IsTight}
+use Rattle.core_calls.specs.LogEvents.{AreTaken, IsTaken, IsTight}
 use Rattle.core_calls.specs.Presses.{EveryPress, IsLoose, KeepsWay, is_load, is_move}
 
-none_loose : (g : Opening) (s : State) (key frame : ℕ) → Residence g s → frame < g.frames → IsLoose g s key frame → IsTight g s key → ⊥
+none_loose : (g : Opening) (s : State) (key frame : ℕ) → Residence g s → frame < g.frames → IsLoose g s key frame → AreTaken g s key → ⊥
 none_loose g s key frame r lt (IsLoose.Empty e) t =
-    let k = t.taken frame lt in
+    let k = t frame lt in
     let w = r.within k.page frame k.here in
     true≢false (sym (below g.format.pages (λ p. not (in_frame (s.place p) frame)) e k.page w.0) ∙ ap not k.here)
 none_loose g s key frame r lt (IsLoose.Ready page here out low) t = go k.stays
   where
     k : IsTaken g s key frame
-    k = t.taken frame lt
+    k = t frame lt
 
     same : k.page ≡ page
     same = r.one k.page page frame k.here here
@@ -109,7 +109,7 @@ one_move g s key (Event.Load p f) r saved move met keeps t =
     let b = and_parts (ltb f g.frames) (is_cold (s.place p) && (has_hot_parent g s p && is_empty_frame g s f)) a.1 in
     let c = and_parts (is_cold (s.place p)) (has_hot_parent g s p && is_empty_frame g s f) b.1 in
     let d = and_parts (has_hot_parent g s p) (is_empty_frame g s f) c.1 in
-    absurd (none_loose g s key f r (ltb-true f g.frames b.0) (IsLoose.Empty d.1) t)
+    absurd (none_loose g s key f r (ltb-true f g.frames b.0) (IsLoose.Empty d.1) t.taken)
 one_move g s key (Event.Fetch p pairs) r saved move met keeps t = (fetched g s key p pairs r (and_parts (is_cold (s.place p)) (may_have g (s.saved p).node pairs) (and_parts (ltb p g.format.pages) (is_cold (s.place p) && may_have g (s.saved p).node pairs) met).1).0 t, refl)
 one_move g s key (Event.Cool p) r saved move met keeps t =
     let hot = (and_parts (is_hot (s.place p)) true (and_parts (is_hot (s.place p) && true) (not (p == 0) && not (has_hot_child g s p)) met).0).0 in (

@@ -6,6 +6,7 @@ use Rattle.map_model.specs.declared.call.Refusal.{Refusal}
 use Rattle.map_model.specs.declared.call.Refusal.TheVariants as refusal
 use Rattle.map_model.specs.Lists.{any, keep}
 use Rattle.core_crash.specs.image_model.Entries.{is_commit}
+use Rattle.page_model.specs.Check.{names_page}
 use Rattle.page_model.specs.Nodes.{covers}
 use Rattle.core_crash.specs.core_state.Openings.{Opening}
 use Rattle.core_crash.specs.core_state.States.{State, flushed_by_all, in_frame, is_cold}
@@ -65,23 +66,40 @@ pub record IsTaken (g : Opening) (s : State) (key frame : ℕ) : Type 0 where
   pub here : in_frame (s.place page) frame ≡ true
   pub stays : (covers (s.page page).node key ≡ true) ⊎ (flushed_by_all g s < (s.page page).gsn)
 
+-- so it is of each: none can be given to another page
+abbrev pub AreTaken : Opening → State → (key : ℕ) → Type 0
+AreTaken g s key = (frame : ℕ) → frame < g.frames → IsTaken g s key frame
+
 -- a page of the key's way, or a free one, stands in no frame, and none can be given to it
 pub record IsTight (g : Opening) (s : State) (key : ℕ) : Type 0 where
   pub page : ℕ
   pub below : page < g.format.pages
   pub needed : (covers (s.page page).node key ≡ true) ⊎ ((s.page page).node.live ≡ false)
   pub cold : is_cold (s.place page) ≡ true
-  pub taken : (frame : ℕ) → frame < g.frames → IsTaken g s key frame
+  pub taken : AreTaken g s key
+
+-- this page, which a page of the key's way names, stands in no frame, and none can be given to it
+pub record IsTightBeside (key page : ℕ) (g : Opening) (s : State) : Type 0 where
+  pub parent : ℕ
+  pub below : parent < g.format.pages
+  pub on : covers (s.page parent).node key ≡ true
+  pub names : names_page (s.page parent).node page ≡ true
+  pub cold : is_cold (s.place page) ≡ true
+  pub taken : AreTaken g s key
+
+-- a page of the key's way, a free one, or one beside the way, as a join needs it, finds no frame
+abbrev pub IsTightAround : (key : ℕ) → Opening → State → Type 0
+IsTightAround key g s = IsTight g s key ⊎ ((page : ℕ) × IsTightBeside key page g s)
 
 -- so it is for some key
 abbrev pub IsTightSomewhere : Opening → State → Type 0
 IsTightSomewhere g s = (key : ℕ) × IsTight g s key
 
--- so it is for a key to which the call comes: a scan and an abort come to several
+-- so it is for a key to which the call comes: a del comes to pages beside its way too, a scan and an abort come to several keys
 abbrev pub IsPressed : Opening → Call → State → Type 0
 IsPressed g (call.Get k) s = IsTight g s k
 IsPressed g (call.Put k v) s = IsTight g s k
-IsPressed g (call.Del k) s = IsTight g s k
+IsPressed g (call.Del k) s = IsTightAround k g s
 IsPressed g (call.Scan from to) s = IsTightSomewhere g s
 IsPressed g call.Abort s = IsTightSomewhere g s
 IsPressed g c s = ⊥

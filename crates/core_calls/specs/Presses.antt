@@ -7,7 +7,7 @@ use Rattle.core_crash.specs.core_state.Events.{Event, Mode}
 use Rattle.core_crash.specs.core_state.Needs.{is_empty_frame, may}
 use Rattle.core_crash.specs.core_state.States.{State, flushed_by_all, in_frame}
 use Rattle.core_crash.specs.core_state.Steps.{AllMet, run, state_after, step}
-use Rattle.core_calls.specs.LogEvents.{IsTight, SyncsWhere}
+use Rattle.core_calls.specs.LogEvents.{AreTaken, IsTight, SyncsWhere}
 
 -- The frame is empty, or its page is none of the key's way and not above the number up to which all logs are flushed.
 pub data IsLoose (g : Opening) (s : State) (key frame : ℕ) : Type 0 where
@@ -37,8 +37,8 @@ KeepsWay g s key (e ∷ es) = ((p f : ℕ) → covers (s.page p).node key ≡ tr
 
 -- after a list of events
 pub record PressLaws (g : Opening) (es : List Event) (key : ℕ) : Type 0 where
-  -- where one frame could be given, a sync is not due
-  pub loose : (frame : ℕ) → frame < g.frames → IsLoose g (state_after g es) key frame → IsTight g (state_after g es) key → ⊥
+  -- where one frame could be given, a sync is not due, for whatever page
+  pub loose : (frame : ℕ) → frame < g.frames → IsLoose g (state_after g es) key frame → AreTaken g (state_after g es) key → ⊥
   -- where none can, no move of pages changes that, and no page comes into a frame: a sync is due
   pub stuck : (moves : List Event) → all is_move moves ≡ true → AllMet g (state_after g es) moves → KeepsWay g (state_after g es) key moves → IsTight g (state_after g es) key
       → IsTight g (run g (state_after g es) moves) key × (any is_load moves ≡ false)

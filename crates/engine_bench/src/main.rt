@@ -1,4 +1,4 @@
-// How long gets, scans and puts of an engine take, over a tree of three levels. With no argument a handful of each, and what they add up to; with
+// How long gets, scans, puts and dels of an engine take, over a tree of three levels. With no argument a handful of each, and what they add up to; with
 // a number N, N rounds, with times.
 #![tactic(auto)]
 
@@ -30,6 +30,9 @@ const SIZE: Size = Size {
 const KEYS: u64 = 16000;
 
 const PUTS: u64 = 20;
+
+/// Of so many keys one is deleted at first: no leaf gets thin by that.
+const APART: u64 = 8;
 
 /// As many pairs as one scan tells, and one call more.
 const PAIRS: u64 = 65;
@@ -111,6 +114,23 @@ fn puts(engine: &mut Engine<MemDisk>, first: u64) -> u64
     sum
 }
 
+// Deletes some of the keys, so far apart, in order. How many had a value.
+fn dels(engine: &mut Engine<MemDisk>, first: u64, apart: u64) -> u64
+    requires first { first < 2 ^ 32 }
+    requires apart { apart < 2 ^ 16 }
+{
+    let mut sum = 0u64;
+    for turn in 0..PUTS {
+        if !is_ready(engine) {
+            return sum;
+        }
+        if let Ok(Some(_)) = engine.del(1, (first + turn * apart) % KEYS) {
+            sum = sum.wrapping_add(1);
+        }
+    }
+    sum
+}
+
 // Gets random keys. What they add up to.
 fn gets(engine: &mut Engine<MemDisk>, times: u64) -> u64 {
     let mut state = 1u64;
@@ -181,6 +201,27 @@ fn fill(rt: &HostRuntime, engine: &mut Engine<MemDisk>) -> io::Result<(u64, u128
     Ok((sum, took / 1000))
 }
 
+// Deletes keys that are so far apart, without the time of begins and commits. How many had a value, and the microseconds.
+fn thin(rt: &HostRuntime, engine: &mut Engine<MemDisk>, apart: u64) -> io::Result<(u64, u128)>
+    requires apart { apart < 2 ^ 16 }
+{
+    let mut sum = 0u64;
+    let mut took = 0u128;
+    let mut first = 0u64;
+    for _ in 0..KEYS / PUTS {
+        if first >= KEYS {
+            break;
+        }
+        begin(engine);
+        let start = Instant::now(rt)?;
+        sum = sum.wrapping_add(dels(engine, first, apart));
+        took = took.wrapping_add(start.elapsed(rt)?.as_nanos());
+        commit(engine);
+        first += PUTS * apart;
+    }
+    Ok((sum, took / 1000))
+}
+
 // The argument, up to a thousand.
 fn argument(rt: &HostRuntime) -> io::Result<u64>
     ensures { IfOk result (λ times. times ≤ 1000) }
@@ -212,6 +253,9 @@ fn round(rt: &HostRuntime, times: u64) -> io::Result<()> {
     let filled = fill(rt, &mut engine);
     let looked = look(rt, &mut engine, times);
     let walked = walk(rt, &mut engine, times / KEYS);
+    commit(&mut engine);
+    let thinned = thin(rt, &mut engine, APART);
+    let emptied = thin(rt, &mut engine, 1);
     let Closed {
         disk: _disk,
         front: _,
@@ -221,7 +265,11 @@ fn round(rt: &HostRuntime, times: u64) -> io::Result<()> {
     let (sum, took) = looked?;
     println!(rt; "gets {sum} {took} us")?;
     let (sum, took) = walked?;
-    println!(rt; "pairs {sum} {took} us")
+    println!(rt; "pairs {sum} {took} us")?;
+    let (sum, took) = thinned?;
+    println!(rt; "keys gone {sum} {took} us")?;
+    let (sum, took) = emptied?;
+    println!(rt; "all keys gone {sum} {took} us")
 }
 
 // A handful, with no times.
@@ -231,11 +279,12 @@ fn handful(rt: &HostRuntime) -> io::Result<()> {
     let new = puts(&mut engine, 0);
     let sum = gets(&mut engine, 1000);
     let pairs = scans(&mut engine, 1);
+    let gone = dels(&mut engine, 0, APART);
     let Closed {
         disk: _disk,
         front: _,
     } = engine.close();
-    println!(rt; "{new} {sum} {pairs}")
+    println!(rt; "{new} {sum} {pairs} {gone}")
 }
 
 fn main(rt: HostRuntime) -> io::Result<()> {

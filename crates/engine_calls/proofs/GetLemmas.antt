@@ -1,5 +1,7 @@
 -- A get, and a del of an absent key.
 use Rattle.std.proofs.Common.{◌≡◌, ℕ, Bool, true, false, cond, ◌==◌, List, [], ◌∷◌, ◌++◌, Option, None, refl, sym, ap, ◌∙◌, true≢false}
+use Rattle.map_model.specs.declared.call.Call.{Call}
+use Rattle.map_model.specs.declared.call.Call.TheVariants as call
 use Rattle.map_model.specs.Lists.{any, keep}
 use Rattle.map_model.specs.Maps.{MapCall, MapAnswer}
 use Rattle.run_crashes.specs.core_state.Openings.{Opening}
@@ -12,7 +14,7 @@ use Rattle.lean_disk.specs.Story.{Story}
 use Rattle.run_crashes.specs.core_disk.Versions.{EveryVersion}
 use Rattle.run_crashes.specs.core_calls.Deeds.{Absent, Got}
 use Rattle.run_crashes.specs.core_calls.Fronts.{AreFresh, Done, front, outcomes}
-use Rattle.run_crashes.specs.core_calls.LogEvents.{IsTight}
+use Rattle.run_crashes.specs.core_calls.LogEvents.{IsPressed}
 use Rattle.run_crashes.proofs.core_calls.WhereLemmas.{syncs_more}
 use Rattle.run_crashes.specs.core_calls.Marks.{Called, marks}
 use Rattle.run_crashes.specs.core_calls.Refusals.{Limits}
@@ -24,7 +26,7 @@ use Rattle.engine_calls.proofs.ComingLemmas.{follows, goes_on}
 use Rattle.engine_calls.proofs.MarkLemmas.{any_append, first_none, first_steps, fresh_append, marks_last}
 use Rattle.engine_calls.proofs.PartLemmas.{quiet}
 
-module _ (l : Limits) (g : Opening) (group : ℕ) (xs : List Done) (mode : Mode) (before between : List Event) (w page key : ℕ) (value : Option ℕ) (i : IsRead g xs mode before between w page key value) where
+module _ (l : Limits) (g : Opening) (group : ℕ) (xs : List Done) (c : Call) (mode : Mode) (before between : List Event) (w page key : ℕ) (value : Option ℕ) (i : IsRead g xs c mode before between w page key value) where
   abbrev first : List Event
   first = taking g w key mode before between
 
@@ -57,42 +59,42 @@ module _ (l : Limits) (g : Opening) (group : ℕ) (xs : List Done) (mode : Mode)
   structure = any_append is_structure first (event ∷ []) i.structure refl
 
 pub get_tells : (l : Limits) (g : Opening) (group : ℕ) (xs : List Done) (before between : List Event) (w page key : ℕ) (value : Option ℕ)
-    → IsRead g xs Mode.Shared before between w page key value → let first = taking g w key Mode.Shared before between in
+    → IsRead g xs (call.Get key) Mode.Shared before between w page key value → let first = taking g w key Mode.Shared before between in
     Tells l g group xs (read_by (Got key value (is_alone g xs first w key)) first w page key value)
 get_tells l g group xs before between w page key value i =
     let first = taking g w key Mode.Shared before between in
     let done = read_by (Got key value (is_alone g xs first w key)) first w page key value in
     record {
       met = i.met;
-      fresh = fresh l g group xs Mode.Shared before between w page key value i;
-      told = told l g group xs Mode.Shared before between w page key value i (is_alone g xs first w key) refl;
+      fresh = fresh l g group xs (call.Get key) Mode.Shared before between w page key value i;
+      told = told l g group xs (call.Get key) Mode.Shared before between w page key value i (is_alone g xs first w key) refl;
       in_turn = i.whole;
-      steps = (refl, page, steps l g group xs Mode.Shared before between w page key value i);
+      steps = (refl, page, steps l g group xs (call.Get key) Mode.Shared before between w page key value i);
       hindered = follows (outcomes xs) done.outcome i.line tt;
       goes_on = goes_on (outcomes xs) done.outcome i.line;
-      structure = λ e. structure l g group xs Mode.Shared before between w page key value i;
-      logs = syncs_more (λ s. IsTight g s key) g first (Event.Read w page key value ∷ []) (state_after g (front xs)) false i.syncs tt;
+      structure = λ e. structure l g group xs (call.Get key) Mode.Shared before between w page key value i;
+      logs = syncs_more (IsPressed g (call.Get key)) g first (Event.Read w page key value ∷ []) (state_after g (front xs)) false i.syncs tt;
       refused = tt;
       scans = tt;
       released = λ e. absurd (true≢false (sym e));
     }
 
 pub absent_tells : (l : Limits) (g : Opening) (group : ℕ) (xs : List Done) (before between : List Event) (w page key : ℕ)
-    → IsRead g xs Mode.Alone before between w page key None → let first = taking g w key Mode.Alone before between in is_alone g xs first w key ≡ true
+    → IsRead g xs (call.Del key) Mode.Alone before between w page key None → let first = taking g w key Mode.Alone before between in is_alone g xs first w key ≡ true
     → Tells l g group xs (read_by (Absent key) first w page key None)
 absent_tells l g group xs before between w page key i alone =
     let first = taking g w key Mode.Alone before between in
     let done = read_by (Absent key) first w page key None in
     record {
       met = i.met;
-      fresh = fresh l g group xs Mode.Alone before between w page key None i;
-      told = told l g group xs Mode.Alone before between w page key None i true alone;
+      fresh = fresh l g group xs (call.Del key) Mode.Alone before between w page key None i;
+      told = told l g group xs (call.Del key) Mode.Alone before between w page key None i true alone;
       in_turn = i.whole;
-      steps = (refl, page, steps l g group xs Mode.Alone before between w page key None i);
+      steps = (refl, page, steps l g group xs (call.Del key) Mode.Alone before between w page key None i);
       hindered = follows (outcomes xs) done.outcome i.line tt;
       goes_on = goes_on (outcomes xs) done.outcome i.line;
-      structure = λ e. structure l g group xs Mode.Alone before between w page key None i;
-      logs = syncs_more (λ s. IsTight g s key) g first (Event.Read w page key None ∷ []) (state_after g (front xs)) false i.syncs tt;
+      structure = λ e. structure l g group xs (call.Del key) Mode.Alone before between w page key None i;
+      logs = syncs_more (IsPressed g (call.Del key)) g first (Event.Read w page key None ∷ []) (state_after g (front xs)) false i.syncs tt;
       refused = tt;
       scans = tt;
       released = λ e. absurd (true≢false (sym e));

@@ -1,6 +1,8 @@
 -- A put, and a del of a key that is there.
 use Rattle.std.proofs.Common.{◌≡◌, ℕ, Bool, true, false, cond, ◌==◌, ltb, List, [], ◌∷◌, ◌++◌, Option, Some, refl, sym, ap, ◌∙◌, subst, arith, true≢false}
 use Rattle.std.proofs.lemmas.Bool.{lt-ltb, le-ltb}
+use Rattle.map_model.specs.declared.call.Call.{Call}
+use Rattle.map_model.specs.declared.call.Call.TheVariants as call
 use Rattle.map_model.specs.Lists.{keep}
 use Rattle.map_model.specs.Maps.{MapCall, MapAnswer}
 use Rattle.run_crashes.specs.image_model.Entries.{Entry, is_record}
@@ -28,13 +30,13 @@ use Rattle.engine_calls.specs.Parts.{Gone, behind_first}
 use Rattle.engine_calls.specs.Clauses.{Nothing}
 use Rattle.engine_calls.specs.Puts.{EveryPut, IsWrite, WriteLaws, changed_by, taking}
 use Rattle.engine_calls.proofs.ComingLemmas.{follows, goes_on}
-use Rattle.run_crashes.specs.core_calls.LogEvents.{IsTight}
+use Rattle.run_crashes.specs.core_calls.LogEvents.{IsPressed}
 use Rattle.run_crashes.proofs.core_calls.WhereLemmas.{syncs_more}
 use Rattle.engine_calls.proofs.MarkLemmas.{commits_none, first_none, first_steps, fresh_append, marks_last}
 use Rattle.engine_calls.proofs.PartLemmas.{on_log, stage, whole}
 use Rattle.engine_calls.proofs.UnlockLemmas.{if_met}
 
-module _ (l : Limits) (g : Opening) (group : ℕ) (xs : List Done) (before between : List Event) (w page key word : ℕ) (was : Option ℕ) (r : Record) (i : IsWrite g xs before between w page key word was r) where
+module _ (l : Limits) (g : Opening) (group : ℕ) (xs : List Done) (c : Call) (before between : List Event) (w page key word : ℕ) (was : Option ℕ) (r : Record) (i : IsWrite g xs c before between w page key word was r) where
   abbrev first : List Event
   first = taking g w key Mode.Alone before between
 
@@ -100,42 +102,42 @@ pub not_below : (n : ℕ) → ltb n n ≡ false
 not_below n = le-ltb n n (omega arith)
 
 pub put_tells : (l : Limits) (g : Opening) (group : ℕ) (xs : List Done) (before between : List Event) (w page key value : ℕ) (was : Option ℕ) (r : Record)
-    → IsWrite g xs before between w page key value was r → write_call g.format key value ≡ MapCall.Put key value
+    → IsWrite g xs (call.Put key value) before between w page key value was r → write_call g.format key value ≡ MapCall.Put key value
     → Tells l g group xs (changed_by (Changed key value was) (taking g w key Mode.Alone before between) w page key value)
 put_tells l g group xs before between w page key value was r i q =
     let first = taking g w key Mode.Alone before between in
     let done = changed_by (Changed key value was) first w page key value in
     record {
       met = i.met;
-      fresh = fresh l g group xs before between w page key value was r i;
-      told = told l g group xs before between w page key value was r i (MapCall.Put key value) q;
+      fresh = fresh l g group xs (call.Put key value) before between w page key value was r i;
+      told = told l g group xs (call.Put key value) before between w page key value was r i (MapCall.Put key value) q;
       in_turn = i.whole;
-      steps = (refl, page, steps l g group xs before between w page key value was r i);
+      steps = (refl, page, steps l g group xs (call.Put key value) before between w page key value was r i);
       hindered = follows (outcomes xs) done.outcome i.line tt;
       goes_on = goes_on (outcomes xs) done.outcome i.line;
       structure = λ e. absurd (true≢false e);
-      logs = syncs_more (λ s. IsTight g s key) g first (Event.Change w page key value ∷ []) (state_after g (front xs)) false i.syncs tt;
+      logs = syncs_more (IsPressed g (call.Put key value)) g first (Event.Change w page key value ∷ []) (state_after g (front xs)) false i.syncs tt;
       refused = tt;
       scans = tt;
       released = λ e. absurd (true≢false (sym e));
     }
 
 pub del_tells : (l : Limits) (g : Opening) (group : ℕ) (xs : List Done) (before between : List Event) (w page key was : ℕ) (r : Record)
-    → IsWrite g xs before between w page key g.format.dead (Some was) r → write_call g.format key g.format.dead ≡ MapCall.Del key
+    → IsWrite g xs (call.Del key) before between w page key g.format.dead (Some was) r → write_call g.format key g.format.dead ≡ MapCall.Del key
     → Tells l g group xs (changed_by (Deleted key was) (taking g w key Mode.Alone before between) w page key g.format.dead)
 del_tells l g group xs before between w page key was r i q =
     let first = taking g w key Mode.Alone before between in
     let done = changed_by (Deleted key was) first w page key g.format.dead in
     record {
       met = i.met;
-      fresh = fresh l g group xs before between w page key g.format.dead (Some was) r i;
-      told = told l g group xs before between w page key g.format.dead (Some was) r i (MapCall.Del key) q;
+      fresh = fresh l g group xs (call.Del key) before between w page key g.format.dead (Some was) r i;
+      told = told l g group xs (call.Del key) before between w page key g.format.dead (Some was) r i (MapCall.Del key) q;
       in_turn = i.whole;
-      steps = (refl, page, steps l g group xs before between w page key g.format.dead (Some was) r i);
+      steps = (refl, page, steps l g group xs (call.Del key) before between w page key g.format.dead (Some was) r i);
       hindered = follows (outcomes xs) done.outcome i.line tt;
       goes_on = goes_on (outcomes xs) done.outcome i.line;
       structure = λ e. absurd (true≢false e);
-      logs = syncs_more (λ s. IsTight g s key) g first (Event.Change w page key g.format.dead ∷ []) (state_after g (front xs)) false i.syncs tt;
+      logs = syncs_more (IsPressed g (call.Del key)) g first (Event.Change w page key g.format.dead ∷ []) (state_after g (front xs)) false i.syncs tt;
       refused = tt;
       scans = tt;
       released = λ e. absurd (true≢false (sym e));
@@ -145,10 +147,10 @@ pub every_put : (old mid new : Story) → EveryPut old mid new
 every_put old mid new l g group xs s0 k before between w page key b = record {
   put = λ a value was r gone i within.
       let first = taking g w key Mode.Alone before between in
-      write_laws l g group xs before between w page key value was r i s0 k old mid new b a gone (changed_by (Changed key value was) first w page key value) refl
+      write_laws l g group xs (call.Put key value) before between w page key value was r i s0 k old mid new b a gone (changed_by (Changed key value was) first w page key value) refl
       (put_tells l g group xs before between w page key value was r i (ap (λ (c : Bool). cond c (MapCall.Put key value) (MapCall.Del key)) (lt-ltb value g.format.dead within)));
   del = λ a was r gone i.
       let first = taking g w key Mode.Alone before between in
-      write_laws l g group xs before between w page key g.format.dead (Some was) r i s0 k old mid new b a gone (changed_by (Deleted key was) first w page key g.format.dead) refl
+      write_laws l g group xs (call.Del key) before between w page key g.format.dead (Some was) r i s0 k old mid new b a gone (changed_by (Deleted key was) first w page key g.format.dead) refl
       (del_tells l g group xs before between w page key was r i (ap (λ (c : Bool). cond c (MapCall.Put key g.format.dead) (MapCall.Del key)) (not_below g.format.dead)));
 }

@@ -2,6 +2,7 @@
 use Rattle.std.specs.Prelude.{◌≡◌, ◌≤◌, ◌<◌, ℕ, suc, Bool, true, List, [], ◌∷◌, Option, None, Some}
 use Rattle.map_model.specs.Lists.{keep}
 use Rattle.map_model.specs.declared.call.Call.{Call}
+use Rattle.map_model.specs.declared.call.Call.TheVariants as call
 use Rattle.map_model.specs.declared.call.Refusal.{Refusal}
 use Rattle.run_crashes.specs.core_state.Openings.{Opening}
 use Rattle.run_crashes.specs.core_state.Events.{Event, Mode}
@@ -22,13 +23,13 @@ use Rattle.engine_calls.specs.Scans.{IsPair, IsScan, pair_behind, scanned_by, un
 -- Behind these outcomes, by call.
 pub record AnswerLaws (l : Limits) (g : Opening) (group : ℕ) (xs : List Done) : Type 0 where
   pub begin : (before : List Event) (w number f : ℕ) → IsBegin l g xs before w number f → Tells l g group xs (begun_by before w number f)
-  pub get : (before between : List Event) (w page key : ℕ) (value : Option ℕ) → let first = taking g w key Mode.Shared before between in IsRead g xs Mode.Shared before between w page key value
+  pub get : (before between : List Event) (w page key : ℕ) (value : Option ℕ) → let first = taking g w key Mode.Shared before between in IsRead g xs (call.Get key) Mode.Shared before between w page key value
       → Tells l g group xs (read_by (Got key value (is_alone g xs first w key)) first w page key value)
-  pub absent : (before between : List Event) (w page key : ℕ) → let first = taking g w key Mode.Alone before between in IsRead g xs Mode.Alone before between w page key None → is_alone g xs first w key ≡ true
+  pub absent : (before between : List Event) (w page key : ℕ) → let first = taking g w key Mode.Alone before between in IsRead g xs (call.Del key) Mode.Alone before between w page key None → is_alone g xs first w key ≡ true
       → Tells l g group xs (read_by (Absent key) first w page key None)
-  pub put : (before between : List Event) (w page key value : ℕ) (was : Option ℕ) (r : Record) → IsWrite g xs before between w page key value was r → value < g.format.dead
+  pub put : (before between : List Event) (w page key value : ℕ) (was : Option ℕ) (r : Record) → IsWrite g xs (call.Put key value) before between w page key value was r → value < g.format.dead
       → Tells l g group xs (changed_by (Changed key value was) (taking g w key Mode.Alone before between) w page key value)
-  pub del : (before between : List Event) (w page key was : ℕ) (r : Record) → IsWrite g xs before between w page key g.format.dead (Some was) r
+  pub del : (before between : List Event) (w page key was : ℕ) (r : Record) → IsWrite g xs (call.Del key) before between w page key g.format.dead (Some was) r
       → Tells l g group xs (changed_by (Deleted key was) (taking g w key Mode.Alone before between) w page key g.format.dead)
   -- a pair of a scan
   pub met : (first : List Event) (w page at from to key v : ℕ) → let es = pair_behind first w page at key v in let x = scanned_by w (Met from to key v (is_alone g xs first w key)) [] es in

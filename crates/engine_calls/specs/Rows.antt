@@ -52,7 +52,7 @@ pub record Rows : Type 0 where
   pub limits : Limits
   pub begin_shown : IsBegin limits opening [] [] 1 1 0
   pub put_events : (put opening).events ≡ Event.Lock 1 5 Mode.Alone ∷ Event.Change 1 0 5 7 ∷ []
-  pub put_shown : IsWrite opening (begun ∷ []) [] [] 1 0 5 7 None put_record
+  pub put_shown : IsWrite opening (begun ∷ []) (call.Put 5 7) [] [] 1 0 5 7 None put_record
   -- in groups of one there is a flush, in groups of two there is none
   pub flush_events : (committed true).events ≡ Event.End 1 true 0 ∷ Event.Unlock 1 5 ∷ Event.Flush 1 2 ∷ []
   pub flush_shown : IsCommit opening 1 (put opening ∷ begun ∷ []) [] 1 1 2 0 (5 ∷ []) true end_record

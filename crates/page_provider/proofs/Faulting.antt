@@ -57,6 +57,7 @@ use Rattle.page_provider.proofs.Unsaved.{misses_none, misses_quiet}
 use Rattle.page_provider.proofs.Keeping.{keeps_ran, ran_stood}
 use Rattle.page_provider.proofs.Moving.{halts_refused, missed_halts, moved_none, moved_then, moved_up, path_none, path_then, refused_then, refused_up, same_none}
 use Rattle.page_provider.proofs.Pools.{found_entry}
+use Rattle.page_provider.proofs.Standing.{core_none}
 use Rattle.page_provider.proofs.Running.{disked_quiet}
 use Rattle.page_provider.proofs.Shares.{needed_before, share_before}
 use Rattle.page_provider.proofs.Sightings.{missed_before, state_same}
@@ -215,6 +216,16 @@ module _ (z : Shape) {v u : View} (r : Ran z.alone v [] u) where
     parent = moment_is only (λ g m. has_hot_parent (opening g) m.core page ≡ false) a.parent;
   }
 
+  page_before : z.alone ≡ true → (p : ℕ) → (state u).core.page p ≡ (state v).core.page p
+  page_before alone p = ap (λ (s : State). s.page p) (core_none r alone)
+
+  pub cause_before : (path : List ℕ) (k is : Provider) (page : ℕ) (s : Story) (w : View) (why : Refusal) → FaultCause z path u k page s w is why → FaultCause z path v k page s w is why
+  cause_before path k is page s w (refusal.PoolFull on latched above held) d = record { full = d.full; cold = d.cold; others = λ alone p other. d.others alone p other ∙ page_before alone p }
+  cause_before path k is page s w refusal.NoPages d = d
+  cause_before path k is page s w (refusal.Damaged p counts other) d = d
+  cause_before path k is page s w (refusal.Altered p) d = d
+  cause_before path k is page s w _ d = tt
+
   module _ {k : Provider} (laws : RowLaws) (c : Keeps z v k) where
     pub stood_look : Stood v u
     stood_look = ran_stood laws.stood c tt r
@@ -240,7 +251,7 @@ module _ (z : Shape) {v u : View} (r : Ran z.alone v [] u) where
     refused_before {n} {path} none held h = refused_up (omega arith) (refused_then (moved_look none held) (path_look path) refl h)
 
     pub faulted_before : (n : ℕ) (path : List ℕ) (page : ℕ) (w : View) (is : Provider) → v.held ≡ [] → u.held ≡ v.held → (come : Option ℕ) → Faulted n z path u k page come w is → Faulted n z path v k page come w is
-    faulted_before n path page w is none held (Some f) h = record { moved = moved_up (omega arith) (moved_then (moved_look none held) h.moved); keeps = path_then path v u w (path_look path) h.keeps; hot = h.hot; broken = h.broken; needed = λ alone. needed_before r (h.needed alone); enough = λ alone cold. share_before k is r (h.enough alone (stood_look.cold page ∙ cold)) }
+    faulted_before n path page w is none held (Some f) h = record { moved = moved_up (omega arith) (moved_then (moved_look none held) h.moved); keeps = path_then path v u w (path_look path) h.keeps; hot = h.hot; broken = h.broken; needed = λ alone. needed_before r (h.needed alone); enough = λ alone cold. share_before k is r (h.enough alone (stood_look.cold page ∙ cold)); others = λ alone p other. h.others alone p other ∙ page_before alone p }
     faulted_before n path page w is none held None h =
         let off = sym (stood_look.hot page) ∙ h.hot in
         record {
@@ -264,7 +275,7 @@ pub standing_faulted : {z : Shape} {v u : View} (w : View) {k : Provider} {page 
     → Ran z.alone v [] u → (z.alone ≡ true → NoneNames frames page u) → (come : Option ℕ) → Standing z u page come w → Faulted 5 z path v k page come w k
 standing_faulted {z = z} {v = v} {u = u} w {page = page} path laws c none held all below used r names (Some f) h =
     let t = ran_append z.alone v [] u [] w r h.0 in
-    record { moved = moved_up (omega arith) (moved_look z t laws c none held); keeps = path_look z t laws c path; hot = h.1; broken = refl; needed = λ alone. record { events = []; ran = t; few = inl refl }; enough = λ alone cold. absurd (true≢false (sym cold ∙ hot_cold ((state v).core.place page) (sym ((stood_look z t laws c).hot page) ∙ ap is_hot h.1))) }
+    record { moved = moved_up (omega arith) (moved_look z t laws c none held); keeps = path_look z t laws c path; hot = h.1; broken = refl; needed = λ alone. record { events = []; ran = t; few = inl refl }; enough = λ alone cold. absurd (true≢false (sym cold ∙ hot_cold ((state v).core.place page) (sym ((stood_look z t laws c).hot page) ∙ ap is_hot h.1))); others = λ alone p other. page_before z t alone p }
 standing_faulted {z = z} {v = v} {u = u} w {k = k} {page = page} {frames = frames} path laws c none held all below used r names None h =
     let t = ran_append z.alone v [] u [] w r h.0 in
     let off = sym ((stood_look z t laws c).hot page) ∙ h.1 in
@@ -375,11 +386,11 @@ broken_refused {z = z} {v = v} {k = k} path c none well = record {
 pub quiet_disk : {alone : Bool} {v u : View} {k is : Provider} {s : Story} → DiskLaws → IsLawful s → IsUnseen alone v k u is → Disked alone k v is u s s
 quiet_disk disk law q = disked_quiet disk law q.ran q.quiet q.slots q.generation
 
-pub row_cause : (z : Shape) (path : List ℕ) (k is : Provider) (page : ℕ) (s : Story) (u : View) (why : Refusal) → IsOfRow why → FaultCause z path k page s u is why
-row_cause z path k is page s u (refusal.Moved m) o = tt
-row_cause z path k is page s u (refusal.Latched l) o = tt
-row_cause z path k is page s u (refusal.RowSpent row) o = tt
-row_cause z path k is page s u _ o = absurd o
+pub row_cause : (z : Shape) (path : List ℕ) (v : View) (k is : Provider) (page : ℕ) (s : Story) (u : View) (why : Refusal) → IsOfRow why → FaultCause z path v k page s u is why
+row_cause z path v k is page s u (refusal.Moved m) o = tt
+row_cause z path v k is page s u (refusal.Latched l) o = tt
+row_cause z path v k is page s u (refusal.RowSpent row) o = tt
+row_cause z path v k is page s u _ o = absurd o
 
 -- so the device did not fail
 pub row_calm : {A : Type 0} (r : Result A Refusal) → IfErr r IsOfRow → r ≡ Err refusal.DiskFault → ⊥

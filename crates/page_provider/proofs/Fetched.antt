@@ -1,5 +1,5 @@
 -- A page that was read is what the core has of it from then on.
-use Rattle.std.proofs.Common.{◌≡◌, ◌<◌, ◌≤◌, ◌+◌, ◌^◌, ◌==◌, ◌&&◌, ◌||◌, not, leb, ltb, inl, inr, ℕ, Bool, true, false, List, [], ◌∷◌, ◌++◌, length, Option, Some, None, refl, sym, ap, subst, ◌∙◌, arith, true≢false}
+use Rattle.std.proofs.Common.{◌≡◌, ◌≢◌, ◌<◌, ◌≤◌, ◌+◌, ◌^◌, ◌==◌, ◌&&◌, ◌||◌, not, leb, ltb, inl, inr, ℕ, Bool, true, false, List, [], ◌∷◌, ◌++◌, length, Option, Some, None, refl, sym, ap, subst, ◌∙◌, arith, true≢false}
 use Rattle.std.specs.Prelude.{if◌then◌else◌}
 use Rattle.std.proofs.lemmas.Bool.{and_from, and_parts, cases_eq, cond-true, cond-false, eq-eqb, eqb-true, le-leb, lt-ltb}
 use Rattle.map_model.specs.Lists.{all, upd}
@@ -43,7 +43,7 @@ use Rattle.page_moves.specs.Moves.{contents_of}
 use Rattle.page_pool.specs.Pools.{Agrees, Pool}
 use Rattle.page_provider.specs.Comes.{HasContents, PlaceCause}
 use Rattle.page_provider.specs.Ends.{HasRefused}
-use Rattle.page_provider.specs.Faults.{FaultCause, Faulted, IsAltered, IsDescent, LeadsTo}
+use Rattle.page_provider.specs.Faults.{FaultCause, Faulted, IsAltered, IsDescent, KeepsOthers, LeadsTo}
 use Rattle.page_provider.specs.Fetches.{EveryGivenKept, HasTold, IsFound, WasRead, fetch_of, fetching}
 use Rattle.page_calls.specs.Calls.{bounds_of}
 use Rattle.disk_runs.specs.page_store.Slots.{IsOf}
@@ -186,6 +186,7 @@ pub record Fetched (z : Shape) (v : View) (k : Provider) (page : ℕ) (n : store
   pub place : z.alone ≡ true → (q : ℕ) → (state u).core.place q ≡ (state v).core.place q
   pub buts : z.alone ≡ true → (q : ℕ) → IsButEntries ((state v).core.page q) ((state u).core.page q)
   pub saved : (q : ℕ) → (state u).core.saved q ≡ upd (state v).core.saved page (contents_of n) q
+  pub others : KeepsOthers z page v u
 
 -- with its entries a leaf is what was read
 filled_is : (x : Contents) (n : stored.Page) → IsButEntries x (contents_of n) → with_pairs n.node.pairs x ≡ contents_of n
@@ -298,6 +299,10 @@ module _ {z : Shape} {v u : View} {k : Provider} {page : ℕ} {n : stored.Page} 
     step_buts true p = buts_fetched (state v).core page (pairs_of (entries_of n.node.pairs)) same_page (sym (ap is_leaf but_saved.fields) ∙ leaf) p
     step_buts false p = but_none refl
 
+    step_others : (b : Bool) (p : ℕ) → p ≢ page → (if b then happens (opening v.given) (state v).core (event_of e) else (state v).core).page p ≡ (state v).core.page p
+    step_others true p other = upd_other (state v).core.page page (with_pairs (pairs_of (entries_of n.node.pairs)) ((state v).core.saved page)) p other
+    step_others false p other = refl
+
     fetched_leaf : Fetched z v k page n u
     fetched_leaf = record {
       moved = record {
@@ -327,6 +332,7 @@ module _ {z : Shape} {v u : View} {k : Provider} {page : ℕ} {n : stored.Page} 
       place = λ alone p. ap (λ (s : State). s.place p) (alone_is alone) ∙ step_place (core.may (opening v.given) (state v).core (event_of e)) p;
       buts = λ alone p. subst (λ (s : State). IsButEntries ((state v).core.page p) (s.page p)) (sym (alone_is alone)) (step_buts (core.may (opening v.given) (state v).core (event_of e)) p);
       saved = saved_on;
+      others = λ alone p other. ap (λ (s : State). s.page p) (alone_is alone) ∙ step_others (core.may (opening v.given) (state v).core (event_of e)) p other;
     }
 
   -- ## Another page
@@ -367,6 +373,7 @@ module _ {z : Shape} {v u : View} {k : Provider} {page : ℕ} {n : stored.Page} 
         | inl same ↦ st.saved p ∙ (ap (λ i. (state v).core.saved i) same ∙ (sym whole ∙ sym (upd_same (state v).core.saved page (contents_of n) p same)))
         | inr ne ↦ st.saved p ∙ sym (upd_other (state v).core.saved page (contents_of n) p ne)
       ];
+      others = λ alone p other. ap (λ (s : State). s.page p) (alone_same alone);
     }
 
   fetched_as : (b : Bool) → is_leaf n.node ≡ b → Fetched z v k page n u
@@ -433,6 +440,7 @@ module _ {z : Shape} {v u : View} {k : Provider} {page : ℕ} {n : stored.Page} 
     broken = h.broken;
     needed = λ alone. needed_from (h.needed alone);
     enough = λ alone cold. share_from is (h.enough alone (x.cold page ∙ cold));
+    others = λ alone p other. h.others alone p other ∙ x.others alone p other;
   }
   faulted_fetched path w is parent None h = record {
     moved = moved_up (let few : 1 + 4 ≤ 5 = omega arith in few) (moved_then x.moved h.moved);
@@ -496,9 +504,9 @@ given_kept s z v k page n c below cold gives holds =
 
 -- ## Why it did not come
 
-pub place_fault : (z : Shape) (path : List ℕ) (was : Provider) (page : ℕ) (s : Story) (u : View) (is : Provider) (why : Refusal) → PlaceCause z path page u is why → FaultCause z path was page s u is why
-place_fault z path was page s u is (refusal.PoolFull on latched above held) k = k
-place_fault z path was page s u is refusal.NoPages k = absurd k
-place_fault z path was page s u is (refusal.Damaged p counts other) k = absurd k
-place_fault z path was page s u is (refusal.Altered p) k = absurd k
-place_fault z path was page s u is _ k = tt
+pub place_fault : {z : Shape} {v u : View} {k : Provider} {page : ℕ} {n : stored.Page} → Fetched z v k page n u → (path : List ℕ) (was : Provider) (s : Story) (w : View) (is : Provider) (why : Refusal) → PlaceCause z path u page w is why → FaultCause z path v was page s w is why
+place_fault x path was s w is (refusal.PoolFull on latched above held) k = record { full = k.full; cold = k.cold; others = λ alone p other. k.others alone p other ∙ x.others alone p other }
+place_fault x path was s w is refusal.NoPages k = absurd k
+place_fault x path was s w is (refusal.Damaged p counts other) k = absurd k
+place_fault x path was s w is (refusal.Altered p) k = absurd k
+place_fault x path was s w is _ k = tt

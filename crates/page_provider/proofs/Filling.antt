@@ -1,13 +1,18 @@
 -- A cold page that was read comes into a frame that is made empty for it.
-use Rattle.std.proofs.Common.{◌≡◌, ◌<◌, ◌≤◌, ◌+◌, ◌==◌, ◌||◌, not, inl, inr, ℕ, zero, suc, Bool, true, false, List, [], ◌∷◌, append-nil, Option, Some, None, refl, sym, ap, subst, ◌∙◌, arith, true≢false}
-use Rattle.std.specs.Prelude.{Result, Err, IfErr}
+use Rattle.std.proofs.Common.{◌≡◌, ◌≢◌, ◌<◌, ◌≤◌, ◌+◌, ◌==◌, ◌||◌, not, inl, inr, ℕ, zero, suc, Bool, true, false, List, [], ◌∷◌, append-nil, Option, Some, None, refl, sym, ap, subst, ◌∙◌, arith, true≢false}
+use Rattle.std.specs.Prelude.{Result, Err, IfErr, if◌then◌else◌}
 use Rattle.std.proofs.lemmas.Bool.{eqb-true, and_from}
 use Rattle.map_model.specs.Lists.{Has, any}
+use Rattle.map_model.proofs.ListLemmas.{upd_other}
 use Rattle.page_model.specs.Page as stored
 use Rattle.page_model.specs.Check.{names_page}
 use Rattle.btree_descent.specs.core_state.Lists.{all_below}
+use Rattle.btree_descent.specs.core_state.Events as happening
+use Rattle.btree_descent.specs.core_state.Needs as core
 use Rattle.btree_descent.specs.core_state.Needs.{has_hot_parent}
-use Rattle.btree_descent.specs.core_state.States.{Place, is_cold, is_cooling, is_hot}
+use Rattle.btree_descent.specs.core_state.Openings.{Opening}
+use Rattle.btree_descent.specs.core_state.States.{Place, State, is_cold, is_cooling, is_hot}
+use Rattle.btree_descent.specs.core_state.Steps.{happens, step}
 use Rattle.btree_descent.specs.row_words.declared.given.Given.{Given}
 use Rattle.btree_descent.specs.row_words.declared.event.Event.TheVariants.{Load}
 use Rattle.btree_descent.specs.row_words.Openings.{opening}
@@ -36,6 +41,7 @@ use Rattle.page_pool.specs.Full.{NoneRipe}
 use Rattle.page_provider.proofs.Placing.{none_lost}
 use Rattle.page_provider.proofs.Shares.{loaded_long, needed_behind, none_sunk, share_behind, sinks_ran}
 use Rattle.page_provider.proofs.Joins.{ran_still}
+use Rattle.page_provider.proofs.Standing.{core_one}
 
 -- ## Refusals
 
@@ -57,8 +63,8 @@ pub counted_room : (k : Provider) (path : List ℕ) (held : ℕ) (why : Refusal)
 counted_room k path held (refusal.PoolFull on latched above h) c = tt
 counted_room k path held _ c = absurd c
 
-pub room_cause : (z : Shape) (path : List ℕ) (page : ℕ) (v u : View) (is : Provider) (why : Refusal) → IsOfRoom why → FullCause z path u is why → StaysCold v why u → is_cold ((state v).core.place page) ≡ true → PlaceCause z path page u is why
-room_cause z path page v u is (refusal.PoolFull on latched above held) k f stays cold = (f, stays page cold)
+pub room_cause : (z : Shape) (path : List ℕ) (page : ℕ) (v u : View) (is : Provider) (why : Refusal) → IsOfRoom why → FullCause z path u is why → StaysCold z v why u → is_cold ((state v).core.place page) ≡ true → PlaceCause z path v page u is why
+room_cause z path page v u is (refusal.PoolFull on latched above held) k f stays cold = record { full = f; cold = stays.cold page cold; others = λ alone p other. stays.pages alone p }
 room_cause z path page v u is (refusal.Moved m) k f stays cold = tt
 room_cause z path page v u is (refusal.Latched l) k f stays cold = tt
 room_cause z path page v u is (refusal.RowSpent row) k f stays cold = tt
@@ -69,15 +75,15 @@ room_cause z path page v u is (refusal.Damaged p counts other) k f stays cold = 
 room_cause z path page v u is (refusal.Altered p) k f stays cold = absurd k
 
 -- pages that rested are cold still
-pub stays_cold : {z : Shape} {v u : View} (why : Refusal) → Rested z v u → StaysCold v why u
-stays_cold (refusal.PoolFull on latched above held) r = r.cold
+pub stays_cold : {z : Shape} {v u : View} (why : Refusal) → Rested z v u → StaysCold z v why u
+stays_cold (refusal.PoolFull on latched above held) r = r
 stays_cold _ r = tt
 
-pub row_place : (z : Shape) (path : List ℕ) (page : ℕ) (u : View) (is : Provider) (why : Refusal) → IsOfRow why → PlaceCause z path page u is why
-row_place z path page u is (refusal.Moved m) k = tt
-row_place z path page u is (refusal.Latched l) k = tt
-row_place z path page u is (refusal.RowSpent row) k = tt
-row_place z path page u is _ k = absurd k
+pub row_place : (z : Shape) (path : List ℕ) (v : View) (page : ℕ) (u : View) (is : Provider) (why : Refusal) → IsOfRow why → PlaceCause z path v page u is why
+row_place z path v page u is (refusal.Moved m) k = tt
+row_place z path v page u is (refusal.Latched l) k = tt
+row_place z path v page u is (refusal.RowSpent row) k = tt
+row_place z path v page u is _ k = absurd k
 
 pub row_fault : (why : Refusal) → IsOfRow why → why ≡ refusal.DiskFault → ⊥
 row_fault (refusal.Moved m) k e = cc
@@ -107,6 +113,14 @@ lost_once path {v = v} {page = page} laws c come live h =
 
 -- ## Behind the room
 
+-- the page that came is as it was saved, and each other one as it was
+loaded : (g : Opening) (s : State) (q f p : ℕ) → p ≢ q → (step g s (happening.Event.Load q f)).page p ≡ s.page p
+loaded g s q f p other = go (core.may g s (happening.Event.Load q f))
+  where
+    go : (b : Bool) → (if b then happens g s (happening.Event.Load q f) else s).page p ≡ s.page p
+    go true = upd_other s.page q (s.saved q) p other
+    go false = refl
+
 has_any : (path : List ℕ) (f : ℕ) → any (λ i. i == f) path ≡ true → Has f path
 has_any [] f a = absurd (true≢false (sym a))
 has_any (i ∷ path) f a = one (i == f) refl a (has_any path f)
@@ -134,6 +148,7 @@ module _ {z : Shape} {path : List ℕ} {v u : View} {was mid : Provider} {frame 
     broken = ap (λ (p : Provider). p.broken) h.memory ∙ room.broken;
     needed = λ alone. needed_behind refl h.goes.ran (still alone) (room.needed alone);
     enough = λ alone cold. share_behind was mid is h.goes.ran (loaded_long room.moved.goes.keeps h.goes.keeps h.goes.ran alone) (room.enough alone);
+    others = λ alone p other. ap (λ (s : State). s.page p) (core_one h.goes.ran alone) ∙ (loaded (opening u.given) (state u).core page f p other ∙ room.rested.pages alone p);
   }
     where
       still : z.alone ≡ true → NoneRipe (opening u.given) (state u).core → NoneRipe (opening w.given) (state w).core

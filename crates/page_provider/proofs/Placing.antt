@@ -1,8 +1,13 @@
 -- A page that comes into a frame, or is in none: what a fault says of it.
 use Rattle.std.proofs.Common.{◌≡◌, ◌<◌, ◌≤◌, ◌&&◌, ◌⊎◌, inl, inr, not, ℕ, Bool, true, false, List, [], ◌∷◌, length, Some, refl, sym, ap, subst, ◌∙◌, arith, true≢false}
 use Rattle.btree_descent.proofs.row_words.Stays.{and_true}
+use Rattle.std.specs.Prelude.{if◌then◌else◌}
+use Rattle.btree_descent.specs.core_state.Events as happening
+use Rattle.btree_descent.specs.core_state.Needs as core
 use Rattle.btree_descent.specs.core_state.Needs.{has_hot_parent}
-use Rattle.btree_descent.specs.core_state.States.{Place, is_cold, is_cooling, is_hot}
+use Rattle.btree_descent.specs.core_state.Openings.{Opening}
+use Rattle.btree_descent.specs.core_state.States.{Place, State, is_cold, is_cooling, is_hot}
+use Rattle.btree_descent.specs.core_state.Steps.{happens, step}
 use Rattle.cooling_stage.specs.declared.stage.Cooling.{Cooling}
 use Rattle.cooling_stage.specs.Queue.{found}
 use Rattle.free_pages.specs.Pages.{is_in}
@@ -24,15 +29,15 @@ use Rattle.page_provider.specs.Faults.{HasLost, HasPlaced, IsWanted}
 use Rattle.page_provider.specs.Finds.{Halts}
 use Rattle.page_provider.specs.Disks.{Disked}
 use Rattle.page_provider.specs.Laws.{DiskLaws, RowLaws}
-use Rattle.page_provider.specs.Moves.{AreMet, is_pagers, others_in}
+use Rattle.page_provider.specs.Moves.{AreMet}
 use Rattle.page_provider.specs.Providers.{Provider, Keeps}
-use Rattle.page_provider.specs.Shares.{cools_in}
 use Rattle.page_provider.proofs.Hands.{idle_is, idle_path}
 use Rattle.page_provider.specs.Mirrored.{sets_saved}
 use Rattle.page_provider.proofs.Unsaved.{misses_none, misses_quiet}
 use Rattle.page_provider.proofs.Running.{disked_quiet}
 use Rattle.page_provider.proofs.Moving.{come_moved, halts_refused, moved_up, refused_up}
 use Rattle.page_provider.proofs.Pools.{found_entry}
+use Rattle.page_provider.proofs.Standing.{core_one}
 
 -- ## A page of the queue
 
@@ -76,14 +81,22 @@ module _ {z : Shape} {v : View} {k : Provider} {entry : Cooling} (c : Keeps z v 
 
 -- ## It comes, or not
 
-pub come_placed : (path : List ℕ) {z : Shape} {v u : View} {k is : Provider} {page frame : ℕ} {e : Event} → is_pagers e ≡ true → others_in (e ∷ []) ≡ 1 → cools_in (e ∷ []) ≡ 0 → is_cold ((state v).core.place page) ≡ false → HasCome z e page frame v k u is → HasPlaced 5 z path v k page frame u is
-come_placed path {e = e} pagers one none off h = record {
-  moved = moved_up (omega arith) (come_moved pagers one h);
+rescued : (g : Opening) (s : State) (q p : ℕ) → (step g s (happening.Event.Rescue q)).page p ≡ s.page p
+rescued g s q p = go (core.may g s (happening.Event.Rescue q))
+  where
+    go : (b : Bool) → (if b then happens g s (happening.Event.Rescue q) else s).page p ≡ s.page p
+    go true = refl
+    go false = refl
+
+pub come_placed : (path : List ℕ) {z : Shape} {v u : View} {k is : Provider} {page frame : ℕ} → is_cold ((state v).core.place page) ≡ false → HasCome z (Rescue page) page frame v k u is → HasPlaced 5 z path v k page frame u is
+come_placed path {v = v} {page = page} off h = record {
+  moved = moved_up (let few : 1 ≤ 5 = omega arith in few) (come_moved refl refl h);
   keeps = λ f p has hot. h.others p (ap is_hot hot) ∙ hot;
   hot = h.hot;
   broken = ap (λ (p : Provider). p.broken) h.memory;
-  needed = λ alone. record { events = e ∷ []; ran = h.goes.ran; few = inl none };
+  needed = λ alone. record { events = Rescue page ∷ []; ran = h.goes.ran; few = inl refl };
   enough = λ alone cold. absurd (true≢false (sym cold ∙ off));
+  others = λ alone p other. ap (λ (s : State). s.page p) (core_one h.goes.ran alone) ∙ rescued (opening v.given) (state v).core page p;
 }
 
 pub none_lost : (path : List ℕ) {z : Shape} {v u : View} {k is : Provider} {page : ℕ} → RowLaws → Keeps z v k → is_hot ((state v).core.place page) ≡ false → ((state v).core.page page).node.live ≡ true

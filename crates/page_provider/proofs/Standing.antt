@@ -69,6 +69,13 @@ core_miss v m w = refl
 pub ran_state : {alone : Bool} {v u : View} {es : List Event} → (r : Ran alone v es u) → state u ≡ state (onward v r.more)
 ran_state r = (λ i. after_all (r.given i) (r.seen i))
 
+-- where nobody else steps: behind no event, and behind one
+pub core_none : {alone : Bool} {v u : View} → Ran alone v [] u → alone ≡ true → (state u).core ≡ (state v).core
+core_none {v = v} r one = ap (λ m. m.core) (ran_state r ∙ (ap (λ es. state (onward v es)) (r.all one) ∙ state_on v []))
+
+pub core_one : {alone : Bool} {v u : View} {e : Event} → Ran alone v (e ∷ []) u → alone ≡ true → (state u).core ≡ steps.step (opening v.given) (state v).core (event_of e)
+core_one {v = v} {e = e} r one = ap (λ m. m.core) (ran_state r ∙ (ap (λ es. state (onward v es)) (r.all one) ∙ state_on v (e ∷ []))) ∙ core_step v.given (state v) e
+
 -- ## Events of others, and misses
 
 -- as the only seat would see it

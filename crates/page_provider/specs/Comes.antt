@@ -19,7 +19,7 @@ use Rattle.lean_disk.specs.Story.{Crash, Story}
 use Rattle.disk_runs.specs.Stands.{Known, LeavesRun}
 use Rattle.page_provider.specs.declared.refusal.Refusal.{Refusal}
 use Rattle.page_provider.specs.declared.refusal.Refusal.TheVariants as refusal
-use Rattle.page_provider.specs.Faults.{FullCause, HasLost, LostCause}
+use Rattle.page_provider.specs.Faults.{HasLost, LacksFrame, LostCause}
 use Rattle.page_provider.specs.Cools.{Idle}
 use Rattle.page_provider.specs.Disks.{Runs, told}
 use Rattle.page_provider.specs.Mirrored.{NoSaves}
@@ -108,9 +108,9 @@ pub record HasContents (v : View) (page : ℕ) (n : stored.Page) : Type 0 where
   pub contents : contents_of n ≡ (state v).core.saved page
 
 -- why it did not come
-abbrev pub PlaceCause : Shape → List ℕ → (page : ℕ) → View → Provider → Refusal → Type 0
-PlaceCause z path page u is (refusal.PoolFull on latched above held) = FullCause z path u is (refusal.PoolFull on latched above held) × (is_cold ((state u).core.place page) ≡ true)
-PlaceCause z path page u is (refusal.NoPages) = ⊥
-PlaceCause z path page u is (refusal.Damaged p counts other) = ⊥
-PlaceCause z path page u is (refusal.Altered p) = ⊥
-PlaceCause z path page u is why = Unit {0}
+abbrev pub PlaceCause : Shape → List ℕ → View → (page : ℕ) → View → Provider → Refusal → Type 0
+PlaceCause z path v page u is (refusal.PoolFull on latched above held) = LacksFrame z path v page u is (refusal.PoolFull on latched above held)
+PlaceCause z path v page u is (refusal.NoPages) = ⊥
+PlaceCause z path v page u is (refusal.Damaged p counts other) = ⊥
+PlaceCause z path v page u is (refusal.Altered p) = ⊥
+PlaceCause z path v page u is why = Unit {0}

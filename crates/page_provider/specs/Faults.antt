@@ -1,5 +1,5 @@
 -- A page that is brought into a frame: what is asked, what comes, and why no frame could be given.
-use Rattle.std.specs.Prelude.{◌≡◌, ◌≤◌, ◌<◌, ◌+◌, ◌⊎◌, ℕ, true, false, List, length, Option, Some, None}
+use Rattle.std.specs.Prelude.{◌≡◌, ◌≢◌, ◌≤◌, ◌<◌, ◌+◌, ◌⊎◌, ℕ, true, false, List, length, Option, Some, None}
 use Rattle.map_model.specs.Lists.{Has}
 use Rattle.page_model.specs.Check.{names_page}
 use Rattle.btree_descent.specs.core_state.Needs.{has_hot_parent}
@@ -19,7 +19,7 @@ use Rattle.page_provider.specs.declared.refusal.Refusal.{Refusal}
 use Rattle.page_provider.specs.declared.refusal.Refusal.TheVariants as refusal
 use Rattle.page_provider.specs.Disks.{Runs}
 use Rattle.page_provider.specs.Gives.{Holds}
-use Rattle.page_provider.specs.Moves.{KeepsPath, Moved, way}
+use Rattle.page_provider.specs.Moves.{KeepsPath, Moved, Rested, way}
 use Rattle.page_provider.specs.Providers.{Keeps, Provider}
 use Rattle.page_provider.specs.Shares.{AreNeeded, HasShare}
 
@@ -48,7 +48,11 @@ pub record IsWanted (z : Shape) (v : View) (page : ℕ) : Type 0 where
 
 -- ## What comes
 
--- The page stands hot in the frame, and each page of the path where it stood.
+-- where nobody else steps each page but this one is as it was
+abbrev pub KeepsOthers : Shape → (page : ℕ) → View → View → Type 0
+KeepsOthers z page v u = z.alone ≡ true → (p : ℕ) → p ≢ page → (state u).core.page p ≡ (state v).core.page p
+
+-- The page stands hot in the frame, and each page of the path where it stood; and no other page changed.
 pub record HasPlaced (most : ℕ) (z : Shape) (path : List ℕ) (v : View) (was : Provider) (page frame : ℕ) (u : View) (is : Provider) : Type 0 where
   pub moved : Moved most z v was u is
   pub keeps : KeepsPath path v u
@@ -57,6 +61,7 @@ pub record HasPlaced (most : ℕ) (z : Shape) (path : List ℕ) (v : View) (was 
   -- where nobody else steps, no page cooled that had not to, and where a cold page came the queue has its share
   pub needed : z.alone ≡ true → AreNeeded z.alone v was u
   pub enough : z.alone ≡ true → is_cold ((state v).core.place page) ≡ true → HasShare path z.alone v was u is
+  pub others : KeepsOthers z page v u
 
 -- It stands in none, and is no free one. Where nobody else steps no hot page names it, and nothing was done.
 pub record HasLost (most : ℕ) (z : Shape) (path : List ℕ) (v : View) (was : Provider) (page : ℕ) (u : View) (is : Provider) : Type 0 where
@@ -86,10 +91,16 @@ abbrev pub FullCause : Shape → List ℕ → View → Provider → Refusal → 
 FullCause z path u is (refusal.PoolFull on latched above held) = (on + latched + above + held ≡ is.frames) × (z.alone ≡ true → (latched ≡ 0) × IsFull z path on above held u)
 FullCause z path u is _ = Unit {0}
 
--- then no page came: one that was cold is so still
-abbrev pub StaysCold : View → Refusal → View → Type 0
-StaysCold v (refusal.PoolFull on latched above held) u = (p : ℕ) → is_cold ((state v).core.place p) ≡ true → is_cold ((state u).core.place p) ≡ true
-StaysCold v _ u = Unit {0}
+-- then no page came: one that was cold is so still, and no page changed
+abbrev pub StaysCold : Shape → View → Refusal → View → Type 0
+StaysCold z v (refusal.PoolFull on latched above held) u = Rested z v u
+StaysCold z v _ u = Unit {0}
+
+-- So the page is cold. It may have been read: the entries of a leaf that was are what was read, and no other page changed.
+pub record LacksFrame (z : Shape) (path : List ℕ) (v : View) (page : ℕ) (u : View) (is : Provider) (why : Refusal) : Type 0 where
+  pub full : FullCause z path u is why
+  pub cold : is_cold ((state u).core.place page) ≡ true
+  pub others : KeepsOthers z page v u
 
 -- ## Why a page could not be read
 
@@ -116,14 +127,14 @@ abbrev pub EveryFound : (s : Story) → Type 0
 EveryFound s = (g : Opening) (s0 : Crash) (x : Known) (z : Shape) (k : Provider) (v : View) (page : ℕ) (why : Refusal) → Keeps z v k → Runs g s0 x k v s → page < (opening v.given).format.pages → is_cold ((state v).core.place page) ≡ true
     → LostCause k page s why → why ≡ refusal.DiskFault
 
--- ## Why no page came: s is what the device told before. Where no frame could be given the page is cold.
+-- ## Why no page came: s is what the device told before. Where no frame could be given the page is cold, and no other one changed.
 
-abbrev pub FaultCause : Shape → List ℕ → Provider → (page : ℕ) → Story → View → Provider → Refusal → Type 0
-FaultCause z path was page s u is (refusal.PoolFull on latched above held) = FullCause z path u is (refusal.PoolFull on latched above held) × (is_cold ((state u).core.place page) ≡ true)
-FaultCause z path was page s u is (refusal.Damaged p counts other) = LostCause was page s (refusal.Damaged p counts other)
-FaultCause z path was page s u is (refusal.Altered p) = LostCause was page s (refusal.Altered p)
-FaultCause z path was page s u is (refusal.NoPages) = ⊥
-FaultCause z path was page s u is _ = Unit {0}
+abbrev pub FaultCause : Shape → List ℕ → View → Provider → (page : ℕ) → Story → View → Provider → Refusal → Type 0
+FaultCause z path v was page s u is (refusal.PoolFull on latched above held) = LacksFrame z path v page u is (refusal.PoolFull on latched above held)
+FaultCause z path v was page s u is (refusal.Damaged p counts other) = LostCause was page s (refusal.Damaged p counts other)
+FaultCause z path v was page s u is (refusal.Altered p) = LostCause was page s (refusal.Altered p)
+FaultCause z path v was page s u is (refusal.NoPages) = ⊥
+FaultCause z path v was page s u is _ = Unit {0}
 
 -- ## Why no page was given out
 

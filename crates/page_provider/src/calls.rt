@@ -115,7 +115,7 @@ impl Pager {
         ensures fits { R.fits rows.new seat.new × (R.shape rows.new ≡ R.shape rows.old) }
         ensures ok { IfOk result (λ come. Faulted 4 (R.shape rows.old) path.now (R.view seat.old) self.old page come (R.view seat.new) self.new) }
         ensures err { IfErr result (λ why. HasRefused 4 (R.shape rows.old) path.now (R.view seat.old) self.old why (R.view seat.new) self.new) }
-        ensures cause { IfErr result (PlaceCause (R.shape rows.old) path.now page (R.view seat.new) self.new) }
+        ensures cause { IfErr result (PlaceCause (R.shape rows.old) path.now (R.view seat.old) page (R.view seat.new) self.new) }
         ensures disk { Disked (R.shape rows.old).alone self.old (R.view seat.old) self.new (R.view seat.new) (P.story dev.old) (P.story dev.new) }
         ensures mirrors { KeepsMirrored (R.view seat.old) self.old (R.view seat.new) self.new (P.story dev.old) (P.story dev.new) }
         ensures within { KeepsWithin (P.story dev.old) (P.story dev.new) }
@@ -152,7 +152,7 @@ impl Pager {
         ensures fits { R.fits rows.new seat.new × (R.shape rows.new ≡ R.shape rows.old) }
         ensures ok { IfOk result (λ come. Faulted 5 (R.shape rows.old) path.now (R.view seat.old) self.old page come (R.view seat.new) self.new) }
         ensures err { IfErr result (λ why. HasRefused 5 (R.shape rows.old) path.now (R.view seat.old) self.old why (R.view seat.new) self.new) }
-        ensures cause { IfErr result (FaultCause (R.shape rows.old) path.now self.old page (P.story dev.old) (R.view seat.new) self.new) }
+        ensures cause { IfErr result (FaultCause (R.shape rows.old) path.now (R.view seat.old) self.old page (P.story dev.old) (R.view seat.new) self.new) }
         ensures cold { IfErr result (ColdCause (R.view seat.old) page) }
         ensures disk { Disked (R.shape rows.old).alone self.old (R.view seat.old) self.new (R.view seat.new) (P.story dev.old) (P.story dev.new) }
         ensures mirrors { KeepsMirrored (R.view seat.old) self.old (R.view seat.new) self.new (P.story dev.old) (P.story dev.new) }
@@ -192,7 +192,7 @@ impl Pager {
         ensures fits { R.fits rows.new seat.new × (R.shape rows.new ≡ R.shape rows.old) }
         ensures ok { IfOk result (λ come. Faulted 5 (R.shape rows.old) path.now (R.view seat.old) self.old page come (R.view seat.new) self.new) }
         ensures err { IfErr result (λ why. HasRefused 5 (R.shape rows.old) path.now (R.view seat.old) self.old why (R.view seat.new) self.new) }
-        ensures cause { IfErr result (FaultCause (R.shape rows.old) path.now self.old page (P.story dev.old) (R.view seat.new) self.new) }
+        ensures cause { IfErr result (FaultCause (R.shape rows.old) path.now (R.view seat.old) self.old page (P.story dev.old) (R.view seat.new) self.new) }
         ensures cold { IfErr result (ColdCause (R.view seat.old) page) }
         ensures disk { Disked (R.shape rows.old).alone self.old (R.view seat.old) self.new (R.view seat.new) (P.story dev.old) (P.story dev.new) }
         ensures mirrors { KeepsMirrored (R.view seat.old) self.old (R.view seat.new) self.new (P.story dev.old) (P.story dev.new) }
@@ -240,7 +240,7 @@ impl Pager {
         ensures fits { R.fits rows.new seat.new × (R.shape rows.new ≡ R.shape rows.old) }
         ensures ok { IfOk result (λ come. Faulted 5 (R.shape rows.old) path.now (R.view seat.old) self.old page come (R.view seat.new) self.new) }
         ensures err { IfErr result (λ why. HasRefused 5 (R.shape rows.old) path.now (R.view seat.old) self.old why (R.view seat.new) self.new) }
-        ensures cause { IfErr result (FaultCause (R.shape rows.old) path.now self.old page (P.story dev.old) (R.view seat.new) self.new) }
+        ensures cause { IfErr result (FaultCause (R.shape rows.old) path.now (R.view seat.old) self.old page (P.story dev.old) (R.view seat.new) self.new) }
         ensures cold { IfErr result (ColdCause (R.view seat.old) page) }
         ensures disk { Disked (R.shape rows.old).alone self.old (R.view seat.old) self.new (R.view seat.new) (P.story dev.old) (P.story dev.new) }
         ensures mirrors { KeepsMirrored (R.view seat.old) self.old (R.view seat.new) self.new (P.story dev.old) (P.story dev.new) }
@@ -287,7 +287,7 @@ impl Pager {
         ensures fits { R.fits rows.new seat.new × (R.shape rows.new ≡ R.shape rows.old) }
         ensures ok { IfOk result (λ frame. HasPlaced 5 (R.shape rows.old) path.now (R.view seat.old) self.old page frame (R.view seat.new) self.new) }
         ensures err { IfErr result (λ why. HasRefused 5 (R.shape rows.old) path.now (R.view seat.old) self.old why (R.view seat.new) self.new) }
-        ensures cause { IfErr result (FaultCause (R.shape rows.old) path.now self.old page (P.story dev.old) (R.view seat.new) self.new) }
+        ensures cause { IfErr result (FaultCause (R.shape rows.old) path.now (R.view seat.old) self.old page (P.story dev.old) (R.view seat.new) self.new) }
         ensures cold { IfErr result (ColdCause (R.view seat.old) page) }
         ensures disk { Disked (R.shape rows.old).alone self.old (R.view seat.old) self.new (R.view seat.new) (P.story dev.old) (P.story dev.new) }
         ensures mirrors { KeepsMirrored (R.view seat.old) self.old (R.view seat.new) self.new (P.story dev.old) (P.story dev.new) }

@@ -13,16 +13,16 @@ use std::marker::Model;
 /// workers'. It reserves all its memory when it is made.
 #[derive(Drop)]
 pub struct Pager {
-    pub(crate) stage: CoolingStage,
-    pub(crate) slots: Slots,
+    pub stage: CoolingStage,
+    pub slots: Slots,
     pub(crate) kept: ColdPages,
     pub(crate) free: FreePages,
     pub(crate) empty: Vec<u32>,
     pub(crate) hand: u32,
     pub(crate) workers: u32,
-    pub(crate) generation: u64,
+    pub generation: u64,
     pub(crate) broken: bool,
-    pub(crate) buffer: Vec<u8>,
+    pub buffer: Vec<u8>,
 }
 
 impl Model for Pager {

@@ -129,7 +129,7 @@ impl Pager {
         ensures err { IfErr result (λ why. HasRefused 3 (R.shape rows.old) path.now (R.view seat.old) self.old why (R.view seat.new) self.new) }
         ensures kind { IfErr result IsOfRoom }
         ensures full { IfErr result (λ why. FullCause (R.shape rows.old) path.now (R.view seat.new) self.new why) }
-        ensures cold { IfErr result (λ why. StaysCold (R.view seat.old) why (R.view seat.new)) }
+        ensures cold { IfErr result (λ why. StaysCold (R.shape rows.old) (R.view seat.old) why (R.view seat.new)) }
         ensures disk { Disked (R.shape rows.old).alone self.old (R.view seat.old) self.new (R.view seat.new) (P.story dev.old) (P.story dev.new) }
         ensures mirrors { KeepsMirrored (R.view seat.old) self.old (R.view seat.new) self.new (P.story dev.old) (P.story dev.new) }
         ensures within { KeepsWithin (P.story dev.old) (P.story dev.new) }

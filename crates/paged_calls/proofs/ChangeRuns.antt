@@ -10,10 +10,11 @@ use Rattle.map_model.specs.declared.call.Call.{Call}
 use Rattle.map_model.specs.declared.call.Call.TheVariants as call
 use Rattle.map_model.specs.declared.call.Refusal.{Refusal}
 use Rattle.map_model.specs.declared.call.Refusal.TheVariants as refusal
+use Rattle.paged_desks.proofs.core_calls.WhereLemmas.{syncs_weaker}
 use Rattle.paged_desks.specs.engine_trait.declared.unserved.Unserved.TheVariants as unserved
 use Rattle.paged_desks.specs.core_calls.Deeds.{Absent, Deed, answered, asked, marks_by, marks_of, reads_of}
 use Rattle.paged_desks.specs.core_calls.Fronts.{Done, front, outcomes}
-use Rattle.paged_desks.specs.core_calls.LogEvents.{IsTight, RefusedLogs, SyncsWhere}
+use Rattle.paged_desks.specs.core_calls.LogEvents.{IsPressed, IsTight, RefusedLogs, SyncsWhere}
 use Rattle.paged_desks.specs.core_calls.Marks.{Mark, is_half}
 use Rattle.paged_desks.specs.core_state.Local.{is_sync}
 use Rattle.paged_desks.specs.core_calls.Refusals.{Hinders, IsCause}
@@ -294,6 +295,10 @@ module _ (l : Grounds) (answers : EveryAnswer) (coming : EveryComing) {D : Type 
       pub tight : SyncsWhere (λ s. IsTight g s key) g at false (lock ∷ moves)
       tight = keys.tight l answers coming story lawful m ready key Alone c of_key g xs workers tied halves line u t n come
 
+      -- as a del says it
+      pub pressed : SyncsWhere (IsPressed g (call.Del key)) g at false (lock ∷ moves)
+      pressed = syncs_weaker (λ s. IsTight g s key) (IsPressed g (call.Del key)) (λ s t. inl t) g (lock ∷ moves) at false tight
+
       no_step : any is_step moves ≡ false
       no_step = keys.no_step l answers coming story lawful m ready key Alone c of_key g xs workers tied halves line u t n come
 
@@ -328,8 +333,8 @@ module _ (l : Grounds) (answers : EveryAnswer) (coming : EveryComing) {D : Type 
       core_there : (state (view_of n)).core ≡ there
       core_there = core_is l.reached l.needs g xs (lock ∷ moves) (view_of n) b2 ∙ ap (λ i. behind_first g xs (happening.Event.Lock own i happening.Mode.Alone ∷ moves)) (sym row_is)
 
-      tight_first : SyncsWhere (λ s. IsTight g s key) g at false first
-      tight_first = subst (λ i. SyncsWhere (λ s. IsTight g s key) g at false (happening.Event.Lock own i happening.Mode.Alone ∷ moves)) (sym row_is) tight
+      pressed_first : SyncsWhere (IsPressed g (call.Del key)) g at false first
+      pressed_first = subst (λ i. SyncsWhere (IsPressed g (call.Del key)) g at false (happening.Event.Lock own i happening.Mode.Alone ∷ moves)) (sym row_is) pressed
 
       log_here : (memory n).log own ≡ n.machine.work.log
       log_here = ap (λ (d : Desk). d.log) (desk_own (here n.machine) n.machine.desks.items own (sym own_here))
@@ -389,13 +394,13 @@ module _ (l : Grounds) (answers : EveryAnswer) (coming : EveryComing) {D : Type 
         abbrev absent : Done
         absent = read_by (Absent key) first own a.page key None
 
-        is_read : IsRead g xs happening.Mode.Alone [] moves own a.page key None
+        is_read : IsRead g xs (call.Del key) happening.Mode.Alone [] moves own a.page key None
         is_read = record {
           line = line;
           before_steps = refl;
           between_steps = no_step;
           structure = no_structure;
-          syncs = tight_first;
+          syncs = pressed_first;
           met = subst (AllMet g at) read_events (read_whole.logged g xs [] b0).met;
           value_is = a.told ∙ (λ i. value_in (format_is i) ((core_there i).page a.page).node key);
           whole = half_is ∙ (free_of x log ready.works none).whole;
@@ -476,14 +481,14 @@ module _ (l : Grounds) (answers : EveryAnswer) (coming : EveryComing) {D : Type 
         record_there : change_of (opening (view_of n).given) (state (view_of n)).core own a.page key word ≡ change_record g there worker_there a.page key word
         record_there i = let s = core_there i in let b = at_pages s own (s.worker own) (a.page ∷ []) in record_in (format_is i) s.page b.txn b.clock a.page key word
 
-        is_write : IsWrite g xs [] moves own a.page key word before a.entry
+        is_write : IsWrite g xs (call.Del key) [] moves own a.page key word before a.entry
         is_write = record {
           line = line;
           low = low;
           high = let p = high in let q = workers in omega arith;
           before_steps = refl;
           between_steps = no_step;
-          syncs = tight_first;
+          syncs = pressed_first;
           met = subst (AllMet g at) change_events (change_whole.logged g xs [] b0).met;
           was_is = a.told ∙ (λ i. value_in (format_is i) ((core_there i).page a.page).node key);
           whole = half_is ∙ (free_of x log ready.works none).whole;
@@ -501,7 +506,7 @@ module _ (l : Grounds) (answers : EveryAnswer) (coming : EveryComing) {D : Type 
 
         -- and answered so, by a deed of the call
         pub changed : (d : Deed) (b : Answer) → asked d ≡ c → answered d ≡ b → ((why : Refusal) → answered d ≡ answer.Refused why → ⊥) → ((ms : List Mark) → is_half ((marks_of d ++ reads_of []) ++ ms) ≡ is_half ms)
-            → ((page : ℕ) (r : Record) → IsWrite g xs [] moves own page key word before r → Tells limits g x.group xs (changed_by d first own page key word)) → ((why : Refusal) → refusal_in g at own is_half_aborted log c ≡ Some why → ⊥) → HasLogs k.machine → AreAsMany m.machine k.machine
+            → ((page : ℕ) (r : Record) → IsWrite g xs (call.Del key) [] moves own page key word before r → Tells limits g x.group xs (changed_by d first own page key word)) → ((why : Refusal) → refusal_in g at own is_half_aborted log c ≡ Some why → ⊥) → HasLogs k.machine → AreAsMany m.machine k.machine
             → DoesTied g x.group xs own c b (memory m) k (story m.machine.work.disk) (story k.machine.work.disk)
         changed d b asked_is answer_is no_refusal half_kept tells unrefused logged many_too = does_tied l m k (story m.machine.work.disk) (story k.machine.work.disk) (lawful m.machine.work.disk) g xs workers tied halves (told.Lock own row (event_mode Alone) ∷ (come.events ++ seen_change ∷ [])) change_whole logged many_too own c b
             (changed_by d first own a.page key word) (sym change_events) refl asked_is answer_is (tells a.page a.entry is_write) how

@@ -97,7 +97,7 @@ module _ (l : Grounds) (answers : EveryAnswer) (coming : EveryComing) {D : Type 
       stopped : (n : PagedMachine D) → IsReady story n → HasCome story key u n → MayStill key n → 2 ^ 62 ≤ n.machine.work.session.clock.clock → Did (Ok (answer.Refused refusal.ClockSpent)) n
       stopped n now come may spent g xs workers tied halves line = runs.stopped l answers coming story lawful m ready key (call.Del key) refl g xs workers tied halves line (in_memory None none) u t taken n come now may spent
           (subst (λ d. SyncsWhere (IsPressedYet g d refusal.ClockSpent) g (state_after g (front xs)) false (happening.Event.Lock x.own (key % x.held.count) happening.Mode.Alone ∷ events_of come.events)) (sym (runs.asks l answers coming story lawful m ready key (call.Del key) refl g xs workers tied halves line))
-          (runs.tight l answers coming story lawful m ready key (call.Del key) refl g xs workers tied halves line (in_memory None none) u t taken n come))
+          (runs.pressed l answers coming story lawful m ready key (call.Del key) refl g xs workers tied halves line (in_memory None none) u t taken n come))
 
       pub del_stopped : (why : Refusal) → HasCome story key u u → MayStill key u → clock_refusal u.machine.work.session.clock.clock None ≡ Some why → Did (Ok (answer.Refused why)) u
       del_stopped why come may e = let q = clock_at_end u.machine.work.session.clock.clock why e in subst (λ p. Did (Ok (answer.Refused p)) u) (sym q.is) (stopped u taken come may q.spent)
@@ -109,10 +109,10 @@ module _ (l : Grounds) (answers : EveryAnswer) (coming : EveryComing) {D : Type 
             ∙ ap (λ b. cond b (Some refusal.ClockSpent) None) (lt-leb (2 ^ 62) u.machine.work.session.clock.clock small)) ∙ e)
 
         -- a tombstone is the word of no value
-        deleted : (g : Opening) (xs : List Done) (tied : Tied g x.group xs (view_of m) (memory m)) (k : PagedMachine D) (come : HasCome story key u k) (before page : ℕ) (r : Record) → IsWrite g xs [] (events_of come.events) x.own page key TOMBSTONE (Some before) r
+        deleted : (g : Opening) (xs : List Done) (tied : Tied g x.group xs (view_of m) (memory m)) (k : PagedMachine D) (come : HasCome story key u k) (before page : ℕ) (r : Record) → IsWrite g xs (call.Del key) [] (events_of come.events) x.own page key TOMBSTONE (Some before) r
             → Tells limits g x.group xs (changed_by (Deleted key before) (taking g x.own key happening.Mode.Alone [] (events_of come.events)) x.own page key TOMBSTONE)
         deleted g xs tied k come before page r is_write = subst (λ w. Tells limits g x.group xs (changed_by (Deleted key before) (taking g x.own key happening.Mode.Alone [] (events_of come.events)) x.own page key w)) (sym dead_is)
-            ((answers limits g x.group xs).del [] (events_of come.events) x.own page key before r (subst (λ w. IsWrite g xs [] (events_of come.events) x.own page key w (Some before) r) dead_is is_write))
+            ((answers limits g x.group xs).del [] (events_of come.events) x.own page key before r (subst (λ w. IsWrite g xs (call.Del key) [] (events_of come.events) x.own page key w (Some before) r) dead_is is_write))
           where
             dead_is : TOMBSTONE ≡ g.format.dead
             dead_is = sym (ap (λ (f : Format). f.dead) (tied.ties x.own).opens.format)

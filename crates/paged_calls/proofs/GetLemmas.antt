@@ -220,7 +220,7 @@ module _ (l : Grounds) (answers : EveryAnswer) (coming : EveryComing) {D : Type 
         value_is = read.told ∙ ((λ j. value_in (sym b2.opens.format j) ((core_is l.reached l.needs g xs (lock ∷ moves) (view_of n) b2 j).page read.page).node key)
             ∙ ap (λ i. value_in g.format ((behind_first g xs (happening.Event.Lock own i happening.Mode.Shared ∷ moves)).page read.page).node key) (sym row_is))
 
-        is_read : IsRead g xs happening.Mode.Shared [] moves own read.page key value
+        is_read : IsRead g xs (call.Get key) happening.Mode.Shared [] moves own read.page key value
         is_read = record {
           line = line;
           before_steps = refl;

@@ -544,7 +544,7 @@ module _ (l : Grounds) (residence : EveryResidence) (answers : EveryAnswer) (com
         record_there : change_of (opening (view_of n).given) (state (view_of n)).core own a.page key value ≡ change_record g at_first worker_there a.page key value
         record_there i = let s = core_first i in let b = at_pages s own (s.worker own) (a.page ∷ []) in record_in (format_is i) s.page b.txn b.clock a.page key value
 
-        is_write : IsWrite g xs [] moves own a.page key value before a.entry
+        is_write : IsWrite g xs (call.Put key value) [] moves own a.page key value before a.entry
         is_write = record {
           line = line;
           low = low;

@@ -7,9 +7,10 @@ use Rattle.map_model.specs.declared.call.Call.{Call}
 use Rattle.map_model.specs.declared.call.Call.TheVariants as call
 use Rattle.map_model.specs.declared.call.Refusal.{Refusal}
 use Rattle.map_model.specs.declared.call.Refusal.TheVariants as refusal
+use Rattle.paged_desks.proofs.core_calls.WhereLemmas.{syncs_weaker}
 use Rattle.paged_desks.specs.core_calls.Deeds.{marks_by}
 use Rattle.paged_desks.specs.core_calls.Fronts.{Done, front, outcomes}
-use Rattle.paged_desks.specs.core_calls.LogEvents.{IsPressedYet, IsTight, RefusedLogs, SyncsWhere}
+use Rattle.paged_desks.specs.core_calls.LogEvents.{IsPressed, IsPressedYet, IsTight, RefusedLogs, SyncsWhere}
 use Rattle.paged_desks.specs.core_calls.Marks.{is_half}
 use Rattle.paged_desks.specs.core_calls.Refusals.{IsCause}
 use Rattle.paged_desks.specs.core_calls.Runs.{EachTells}
@@ -116,7 +117,8 @@ module _ (g : Opening) (xs : List Done) (own : ℕ) where
       key_of : (mode : happening.Mode) → IsOfKey (call.Put k value) key mode → k ≡ key
       key_of happening.Mode.Alone e = e
       key_of happening.Mode.Shared e = absurd e
-  due_spent (call.Del k) key mode e asks es t = subst (λ d. SyncsWhere (IsPressedYet g d refusal.RowSpent) g (state_after g (front xs)) false es) (sym asks) (subst (λ j. SyncsWhere (λ s. IsTight g s j) g (state_after g (front xs)) false es) (sym (key_of mode e)) t)
+  due_spent (call.Del k) key mode e asks es t = subst (λ d. SyncsWhere (IsPressedYet g d refusal.RowSpent) g (state_after g (front xs)) false es) (sym asks)
+      (syncs_weaker (λ s. IsTight g s k) (IsPressed g (call.Del k)) (λ s h. inl h) g es (state_after g (front xs)) false (subst (λ j. SyncsWhere (λ s. IsTight g s j) g (state_after g (front xs)) false es) (sym (key_of mode e)) t))
     where
       key_of : (mode : happening.Mode) → IsOfKey (call.Del k) key mode → k ≡ key
       key_of happening.Mode.Alone e = e

@@ -2,7 +2,7 @@
 use Rattle.std.proofs.Common.{◌≡◌, ◌∙◌, ◌≤◌, ◌<◌, ◌+◌, ◌++◌, ◌||◌, ◌⊎◌, inl, inr, ℕ, zero, suc, Bool, true, false, List, [], ◌∷◌, Some, None, ap, refl, sym, subst, arith, true≢false}
 use Rattle.desk_parts.specs.core_calls.Fronts.{Done}
 use Rattle.desk_parts.proofs.core_calls.WhereLemmas.{syncs_due}
-use Rattle.desk_parts.specs.core_calls.LogEvents.{IsTaken, IsTight}
+use Rattle.desk_parts.specs.core_calls.LogEvents.{IsTaken, IsTight, IsTightBeside}
 use Rattle.core_covers.specs.Lows.{EveryLow, IsAllFlushed}
 use Rattle.desk_parts.specs.core_state.Events as happening
 use Rattle.rfa_model.specs.Reaches.{least}
@@ -29,7 +29,7 @@ use Rattle.desk_parts.specs.session_desks.Syncs.{HasOpening}
 use Rattle.desk_parts.proofs.session_desks.SyncViews.{core_is}
 use Rattle.desk_parts.specs.session_state.Ties.{Behind}
 use Rattle.paged_desks.specs.Machines.{IsNobodyInside, view_of}
-use Rattle.paged_desks.specs.Pages.{HasPagedWhere, IsTightBeside, IsTightFor, hot_in}
+use Rattle.paged_desks.specs.Pages.{HasPagedWhere, IsTightFor, hot_in}
 use Rattle.paged_desks.specs.Syncs.{IsSynced}
 use Rattle.paged_desks.specs.declared.machine.PagedMachine.{PagedMachine}
 use Rattle.paged_desks.proofs.Going.{any_join}
@@ -55,7 +55,7 @@ module _ (key : ℕ) (wanted : Wanted) (on above held : ℕ) (q : Paged) (outsid
   tight_for : (w : Wanted) → IsNeeded key w c.page q → IsTightFor w key (opening q.view.given) (state q.view).core
   tight_for want.Way n = record { page = c.page; below = c.below; needed = inl n; cold = c.cold; taken = λ f lt. taken f (c.kept f lt) }
   tight_for (want.Free page) n = record { page = c.page; below = c.below; needed = inr n.1; cold = c.cold; taken = λ f lt. taken f (c.kept f lt) }
-  tight_for (want.Beside page) n = record { named = subst (IsNamedIn (opening q.view.given) (state q.view).core key) n.0 n.1; cold = subst (λ p. is_cold ((state q.view).core.place p) ≡ true) n.0 c.cold; taken = λ f lt. taken f (c.kept f lt) }
+  tight_for (want.Beside page) n = let b = subst (IsNamedIn (opening q.view.given) (state q.view).core key) n.0 n.1 in record { parent = b.parent; below = b.below; on = b.on; names = b.names; cold = subst (λ p. is_cold ((state q.view).core.place p) ≡ true) n.0 c.cold; taken = λ f lt. taken f (c.kept f lt) }
 
   pub tight_is : IsTightFor wanted key (opening q.view.given) (state q.view).core
   tight_is = tight_for wanted c.needed
@@ -75,7 +75,10 @@ tight_in g h s key workers frames format t = record {
 
 beside_in : (g h : Opening) (s : State) (key page : ℕ) → h.workers ≡ g.workers → h.frames ≡ g.frames → h.format ≡ g.format → IsTightBeside key page g s → IsTightBeside key page h s
 beside_in g h s key page workers frames format t = record {
-  named = record { parent = t.named.parent; below = subst (λ (f : Format). t.named.parent < f.pages) (sym format) t.named.below; on = t.named.on; names = t.named.names };
+  parent = t.parent;
+  below = subst (λ (f : Format). t.parent < f.pages) (sym format) t.below;
+  on = t.on;
+  names = t.names;
   cold = t.cold;
   taken = λ f lt. taken_in g h s key f workers (t.taken f (subst (λ k. f < k) frames lt));
 }

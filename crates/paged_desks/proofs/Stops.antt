@@ -6,7 +6,7 @@ use Rattle.desk_parts.specs.page_provider.declared.refusal.Refusal.{Refusal}
 use Rattle.desk_parts.specs.page_provider.declared.refusal.Refusal.TheVariants as refusal
 use Rattle.desk_parts.specs.page_provider.Refusals.{breaks}
 use Rattle.paged_rows.specs.Paged.{IsPaged, Paged}
-use Rattle.paged_rows.specs.Warms.{CrowdedCause, IsCrowded, IsRefusedTo}
+use Rattle.paged_rows.specs.Warms.{CrowdedCause, IsCrowded, IsRefusedTo, KeepsRest, RestCause}
 use Rattle.paged_rows.specs.declared.wanted.Wanted.{Wanted}
 use Rattle.desk_parts.specs.rows_trait.declared.view.View.{View}
 use Rattle.desk_parts.specs.rows_trait.Views.{Shape}
@@ -42,6 +42,11 @@ of_page key wanted p q refusal.Broken i well full e = true≢false (sym (e.refus
 pub too_full : {D : Type 0} (key : ℕ) (wanted : Wanted) (m : PagedMachine D) (why : Refusal) → is_full why ≡ true → CrowdedCause key wanted why (pages m) → IsTooFull key wanted m
 too_full key wanted m (refusal.PoolFull on latched above held) full c = record { on = on; above = above; held = held; crowded = c }
 too_full key wanted m _ full c = absurd (true≢false (sym full))
+
+-- and what is known of the other pages then
+pub full_rest : (wanted : Wanted) (p q : Paged) (why : Refusal) → is_full why ≡ true → RestCause wanted p why q → KeepsRest wanted p q
+full_rest wanted p q (refusal.PoolFull on latched above held) full k = k
+full_rest wanted p q _ full k = absurd (true≢false (sym full))
 
 pub full_calm : (why : Refusal) → is_full why ≡ true → breaks why ≡ false
 full_calm (refusal.PoolFull on latched above held) full = refl

@@ -15,7 +15,7 @@ use Rattle.desk_parts.specs.page_provider.declared.refusal.Refusal.{Refusal}
 use Rattle.desk_parts.specs.page_provider.Moves.{Moved}
 use Rattle.desk_parts.specs.page_provider.Sequels.{EverySequel}
 use Rattle.paged_rows.specs.Paged.{IsNamed, IsPaged, IsWarm, Paged}
-use Rattle.paged_rows.specs.Warms.{Brings, CanBring, HasCome, IsRefusedTo, most_a_page}
+use Rattle.paged_rows.specs.Warms.{Brings, CanBring, HasCome, IsRefusedTo, KeepsRest, most_a_page}
 use Rattle.paged_rows.specs.declared.wanted.Wanted.{Wanted}
 use Rattle.paged_rows.specs.declared.wanted.Wanted.TheVariants as want
 use Rattle.desk_parts.specs.row_words.declared.given.Given.{Given}
@@ -79,7 +79,7 @@ comes_of key want.Way m n every seq i j (Some frame) h = warmer key frame (pages
 comes_of key (want.Free page) m n every seq i j None h = absurd h
 comes_of key (want.Free page) m n every seq i j (Some frame) h = record { hot = h.hot; same = h.same; warm = h.warm; frees = frees_of (pages m) (pages n) seq i h.moved.moved }
 comes_of key (want.Beside page) m n every seq i j None h = absurd h
-comes_of key (want.Beside page) m n every seq i j (Some frame) h = record { hot = h.hot; named = h.named; like = h.like; same = h.same; warm = h.warm; frees = frees_of (pages m) (pages n) seq i h.moved.moved }
+comes_of key (want.Beside page) m n every seq i j (Some frame) h = record { hot = h.hot; named = h.named; like = h.like; same = h.same; others = h.others; warm = h.warm; frees = frees_of (pages m) (pages n) seq i h.moved.moved }
 
 -- a page more of the way
 pub warmer_of : {D : Type 0} (key : ℕ) (m n : PagedMachine D) {come : Option ℕ} {frame : ℕ} → come ≡ Some frame → Comes key want.Way come m n → IsWarmer key m n
@@ -121,6 +121,12 @@ warm_synced key {m = m} {n = n} s = record {
 page_is : (a b : Contents) → IsButEntries a b → a.node.live ≡ false → b ≡ a
 page_is a b c dead = let n = c.other (ap (λ x. x && (a.node.level == 0)) dead) in λ i. record { gsn = c.gsn i; last = c.last i; node = n i }
 
+-- and so each page is as it was
+pub rest_synced : {D : Type 0} {story : D → Story} (wanted : Wanted) {m n : PagedMachine D} {number : ℕ} → IsSynced story m n number → KeepsRest wanted (pages m) (pages n)
+rest_synced want.Way s = tt
+rest_synced (want.Free page) s = tt
+rest_synced (want.Beside page) s = λ p other. ap (λ (x : State). x.page p) s.rest
+
 pub warm_refused : {D : Type 0} (key : ℕ) (wanted : Wanted) (l m : PagedMachine D) (why : Refusal) → EverySequel → IsPaged (pages l) → IsRefusedTo key wanted (pages l) why (pages m) → IsAsWarm key l m
 warm_refused key wanted l m why seq i e = let n = e.refused.moved in record {
   given = n.goes.ran.given;
@@ -147,24 +153,25 @@ can_after key want.Way l m a c = tt
 can_after key (want.Free page) l m a c = ((subst (λ (g : Given). page < (opening g).format.pages) (sym a.given) c.0.0, a.frees page ∙ c.0.1), a.warm 0 c.1)
 can_after key (want.Beside page) l m a c = (named_after key page l m a c.0, a.warm 0 c.1)
 
-comes_after : {D : Type 0} (key : ℕ) (wanted : Wanted) (l m n : PagedMachine D) → IsAsWarm key l m → CanBring key wanted (pages l) → (come : Option ℕ) → Comes key wanted come m n → Comes key wanted come l n
-comes_after key want.Way l m n a c None h = h
-comes_after key want.Way l m n a c (Some frame) h = λ level w. h level (a.warm level w)
-comes_after key (want.Free page) l m n a c None h = absurd h
-comes_after key (want.Free page) l m n a c (Some frame) h = record { hot = h.hot; same = h.same ∙ a.same page c.0.1; warm = h.warm; frees = λ p. h.frees p ∙ a.frees p }
-comes_after key (want.Beside page) l m n a c None h = absurd h
-comes_after key (want.Beside page) l m n a c (Some frame) h = record {
+comes_after : {D : Type 0} (key : ℕ) (wanted : Wanted) (l m n : PagedMachine D) → IsAsWarm key l m → KeepsRest wanted (pages l) (pages m) → CanBring key wanted (pages l) → (come : Option ℕ) → Comes key wanted come m n → Comes key wanted come l n
+comes_after key want.Way l m n a rest c None h = h
+comes_after key want.Way l m n a rest c (Some frame) h = λ level w. h level (a.warm level w)
+comes_after key (want.Free page) l m n a rest c None h = absurd h
+comes_after key (want.Free page) l m n a rest c (Some frame) h = record { hot = h.hot; same = h.same ∙ a.same page c.0.1; warm = h.warm; frees = λ p. h.frees p ∙ a.frees p }
+comes_after key (want.Beside page) l m n a rest c None h = absurd h
+comes_after key (want.Beside page) l m n a rest c (Some frame) h = record {
   hot = h.hot;
   named = h.named;
   like = but_then ((state (view_of l)).core.page page) ((state (view_of m)).core.page page) ((state (view_of n)).core.page page) (a.like page) h.like;
   same = λ faithful. h.same (ap (λ (g : Given). g.faithful) a.given ∙ faithful) ∙ a.alike faithful page;
+  others = λ p other. h.others p other ∙ rest p other;
   warm = h.warm;
   frees = λ p. h.frees p ∙ a.frees p;
 }
 
-pub comes_behind : {D E : Type 0} (key : ℕ) (wanted : Wanted) (l m n : PagedMachine D) → IsAsWarm key l m → CanBring key wanted (pages l) → (r : Result (Option ℕ) E) → IfOk r (λ come. Comes key wanted come m n) → IfOk r (λ come. Comes key wanted come l n)
-comes_behind key wanted l m n a c (Ok come) h = comes_after key wanted l m n a c come h
-comes_behind key wanted l m n a c (Err why) h = tt
+pub comes_behind : {D E : Type 0} (key : ℕ) (wanted : Wanted) (l m n : PagedMachine D) → IsAsWarm key l m → KeepsRest wanted (pages l) (pages m) → CanBring key wanted (pages l) → (r : Result (Option ℕ) E) → IfOk r (λ come. Comes key wanted come m n) → IfOk r (λ come. Comes key wanted come l n)
+comes_behind key wanted l m n a rest c (Ok come) h = comes_after key wanted l m n a rest c come h
+comes_behind key wanted l m n a rest c (Err why) h = tt
 
 -- a page came: the pager is not broken
 pub well_of : (key : ℕ) (wanted : Wanted) (p q : Paged) (come : Option ℕ) → Brings key wanted come p q → p.pager.broken ≡ false → q.pager.broken ≡ false
@@ -189,4 +196,4 @@ pub home_of : {D : Type 0} {story : D → Story} (key page frame : ℕ) {m n : P
 home_of key page frame i j given h = record { hot = h.hot; same = h.same; free = free_kept i j given h.frees; warm = h.warm }
 
 pub near_of : {D : Type 0} {story : D → Story} (key page frame : ℕ) {m n : PagedMachine D} → IsReady story m → IsReady story n → (view_of n).given ≡ (view_of m).given → IsDrawn key page frame m n → IsNear key page frame m n
-near_of key page frame i j given h = record { hot = h.hot; named = h.named; like = h.like; same = h.same; free = free_kept i j given h.frees; warm = h.warm }
+near_of key page frame i j given h = record { hot = h.hot; named = h.named; like = h.like; same = h.same; others = h.others; free = free_kept i j given h.frees; warm = h.warm }

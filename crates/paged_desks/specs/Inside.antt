@@ -1,5 +1,5 @@
 -- Words of private functions.
-use Rattle.std.specs.Prelude.{◌≡◌, ◌≤◌, ◌<◌, ◌+◌, ◌*◌, ◌-◌, ℕ, Bool, true, false, List, length, Option, Some, None}
+use Rattle.std.specs.Prelude.{◌≡◌, ◌≢◌, ◌≤◌, ◌<◌, ◌+◌, ◌*◌, ◌-◌, ℕ, Bool, true, false, List, length, Option, Some, None}
 use Rattle.cold_pages.specs.Laws.{IsButEntries}
 use Rattle.desk_parts.specs.call_parts.Parts.{Failed, Part}
 use Rattle.desk_parts.specs.call_parts.Rooms as rooms
@@ -120,12 +120,13 @@ pub record IsHoused {D : Type 0} (key page frame : ℕ) (m n : PagedMachine D) :
   pub warm : IsWarm (pages n) key 0
   pub frees : (p : ℕ) → ((state (view_of n)).core.page p).node.live ≡ ((state (view_of m)).core.page p).node.live
 
--- The page that a page of the way names stands hot in the frame, as it was, and is named still; the way is hot, and the same pages are free.
+-- The page that a page of the way names stands hot in the frame, as it was, and is named still; each other page is as it was, the way is hot, and the same pages are free.
 pub record IsDrawn {D : Type 0} (key page frame : ℕ) (m n : PagedMachine D) : Type 0 where
   pub hot : (state (view_of n)).core.place page ≡ Place.Hot frame
   pub named : IsNamed (pages n) key page
   pub like : IsButEntries ((state (view_of m)).core.page page) ((state (view_of n)).core.page page)
   pub same : (view_of m).given.faithful ≡ true → (state (view_of n)).core.page page ≡ (state (view_of m)).core.page page
+  pub others : (p : ℕ) → p ≢ page → (state (view_of n)).core.page p ≡ (state (view_of m)).core.page p
   pub warm : IsWarm (pages n) key 0
   pub frees : (p : ℕ) → ((state (view_of n)).core.page p).node.live ≡ ((state (view_of m)).core.page p).node.live
 

@@ -1,18 +1,18 @@
 -- What the coming of pages into frames has done.
-use Rattle.std.specs.Prelude.{◌≡◌, ◌≤◌, ◌<◌, ◌+◌, ◌*◌, ◌++◌, ℕ, suc, Bool, true, false, List, [], ◌∷◌, length, Result, Ok, Err}
+use Rattle.std.specs.Prelude.{◌≡◌, ◌≢◌, ◌≤◌, ◌<◌, ◌+◌, ◌*◌, ◌++◌, ℕ, suc, Bool, true, false, List, [], ◌∷◌, length, Result, Ok, Err}
 use Rattle.map_model.specs.Lists.{any}
 use Rattle.desk_parts.specs.core_calls.Fronts.{Done}
 use Rattle.cold_pages.specs.Laws.{IsButEntries}
-use Rattle.desk_parts.specs.core_calls.LogEvents.{IsTaken, IsTight, SyncsWhere}
+use Rattle.desk_parts.specs.core_calls.LogEvents.{IsTight, IsTightBeside, SyncsWhere}
 use Rattle.desk_parts.specs.core_state.Events as happening
 use Rattle.desk_parts.specs.core_state.Local.{is_sync}
 use Rattle.desk_parts.specs.core_state.Openings.{Opening}
-use Rattle.desk_parts.specs.core_state.States.{Place, State, is_cold}
+use Rattle.desk_parts.specs.core_state.States.{Place, State}
 use Rattle.desk_parts.specs.engine_calls.Parts.{behind_first}
 use Rattle.desk_parts.specs.engine_trait.Logs.{Logs}
 use Rattle.page_pool.specs.Counts.{hot_pages}
 use Rattle.desk_parts.specs.page_provider.Moves.{is_pagers}
-use Rattle.paged_rows.specs.Paged.{IsNamed, IsNamedIn, IsWarm}
+use Rattle.paged_rows.specs.Paged.{IsNamed, IsWarm}
 use Rattle.paged_rows.specs.Warms.{most_a_page}
 use Rattle.paged_rows.specs.declared.wanted.Wanted.{Wanted}
 use Rattle.paged_rows.specs.declared.wanted.Wanted.TheVariants as want
@@ -57,13 +57,7 @@ AreKept m n = (w : ℕ) → 0 < w → w ≤ m.work.session.workers → IsKept (d
 
 -- ## A page that finds no frame
 
--- this page, which a page of the key's way names, stands in no frame, and none can be given to it
-pub record IsTightBeside (key page : ℕ) (g : Opening) (s : State) : Type 0 where
-  pub named : IsNamedIn g s key page
-  pub cold : is_cold (s.place page) ≡ true
-  pub taken : (frame : ℕ) → frame < g.frames → IsTaken g s key frame
-
--- so it is of what is wanted
+-- what is wanted stands in no frame, and none can be given to it
 abbrev pub IsTightFor : Wanted → (key : ℕ) → Opening → State → Type 0
 IsTightFor want.Way key g s = IsTight g s key
 IsTightFor (want.Free page) key g s = IsTight g s key
@@ -113,12 +107,13 @@ pub record IsHome {D : Type 0} (key page frame : ℕ) (m n : PagedMachine D) : T
 -- ## A page beside the way
 
 -- A page that a page of the key's way names stands hot in the frame, and is named still. It is as it was, but for the entries of a leaf, and where rows began
--- faithful these too. The session's free pages are those that they were, and the pages of the key's way are hot.
+-- faithful these too. Each other page is as it was. The session's free pages are those that they were, and the pages of the key's way are hot.
 pub record IsNear {D : Type 0} (key page frame : ℕ) (m n : PagedMachine D) : Type 0 where
   pub hot : (state (view_of n)).core.place page ≡ Place.Hot frame
   pub named : IsNamed (pages n) key page
   pub like : IsButEntries ((state (view_of m)).core.page page) ((state (view_of n)).core.page page)
   pub same : (view_of m).given.faithful ≡ true → (state (view_of n)).core.page page ≡ (state (view_of m)).core.page page
+  pub others : (p : ℕ) → p ≢ page → (state (view_of n)).core.page p ≡ (state (view_of m)).core.page p
   pub free : n.machine.work.session.free ≡ m.machine.work.session.free
   pub warm : IsWarm (pages n) key 0
 

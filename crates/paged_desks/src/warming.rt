@@ -7,7 +7,7 @@ ghost use Rattle.desk_parts.specs.rows_trait.Views.{state};
 ghost use Rattle.paged_rows.specs.Paged.{IsFree, IsNamed, IsWarm};
 ghost use Rattle.paged_rows.specs.Warms.{CanBring, most_a_page};
 ghost use Rattle.paged_desks.specs.Machines.{IsReady, pages};
-ghost use Rattle.paged_desks.specs.Pages.{IsHome, IsNear, IsTightBeside, IsTightFor, goes_on, most_a_level};
+ghost use Rattle.paged_desks.specs.Pages.{IsHome, IsNear, IsTightFor, goes_on, most_a_level};
 ghost use Rattle.paged_desks.specs.Parts.{HasFailed, HasGone, HasGoneWhere, IsLate, IsLateOrStuck, IsLateOrStuckWhere, IsSpent, StandsNowhere};
 ghost use Rattle.paged_desks.specs.Inside.{Comes, HasBroken, HasDone, IsOfPage, IsStopped, IsTooFull, UnreadCause, stopped_by};
 ghost use Rattle.paged_desks.specs.declared.warming.Unwarmed.TheVariants as refused;

@@ -26,14 +26,14 @@ use Rattle.page_provider.specs.Mirrored.{KeepsMirrored}
 use Rattle.lean_disk.specs.Moments.{Framed}
 use Rattle.std.specs.Prelude.{IsTrue}
 use Rattle.paged_rows.specs.Paged.{paged}
-use Rattle.paged_rows.specs.Warms.{CrowdedCause, HasCome, HasComeBeside, HasJoined, HasMoved, IsKept, IsLost, IsNeeded, IsOfPage, IsRefusedTo, LostTo, most_a_page}
+use Rattle.paged_rows.specs.Warms.{CrowdedCause, HasCome, HasComeBeside, HasJoined, HasMoved, IsKept, IsLost, IsNeeded, IsOfPage, IsRefusedTo, KeepsRest, LostTo, RestCause, most_a_page}
 use Rattle.paged_rows.specs.declared.wanted.Wanted.{Wanted}
 use Rattle.paged_rows.specs.declared.wanted.Wanted.TheVariants as want
 use Rattle.btree_descent.specs.image_model.Entries.{Contents}
 use Rattle.page_model.specs.Check.{names_page}
 use Rattle.page_model.specs.Pairs.{Span, spans}
 use Rattle.page_provider.specs.Moves.{KeepsPath}
-use Rattle.std.proofs.Common.{true≢false}
+use Rattle.std.proofs.Common.{true≢false, ◌≢◌}
 use Rattle.std.proofs.lemmas.Bool.{ltb-true}
 use Rattle.map_model.specs.Lists.{any}
 use Rattle.map_model.proofs.ListLemmas.{any_has, has_any}
@@ -59,7 +59,7 @@ use Rattle.btree_descent.specs.declared.reach.Way.TheVariants.{Cold, Leaf}
 use Rattle.btree_descent.specs.Descents.{Sized}
 use Rattle.page_provider.specs.Descents.{EveryDescent}
 use Rattle.page_provider.specs.Ends.{HasRefused}
-use Rattle.page_provider.specs.Faults.{ColdCause, FaultCause, HasPlaced, IsDescent, IsWanted, LeadsTo, LostCause}
+use Rattle.page_provider.specs.Faults.{ColdCause, FaultCause, HasPlaced, IsDescent, IsWanted, KeepsOthers, LeadsTo, LostCause}
 use Rattle.page_provider.specs.Providers.{Keeps}
 use Rattle.page_provider.specs.declared.refusal.Refusal.TheVariants as refusal
 
@@ -190,16 +190,16 @@ module _ (key : ℕ) (path : List ℕ) (v u : View) (behind : Sound u.given (sta
   kept : (z : Shape) (is : Provider) (f : ℕ) → IsTaken (opening u.given) (state u).core (way path (state u).core) f → IsKept key f (paged z u is)
   kept z is f t = record { page = t.page; here = t.here; why = elim t.why [ inl on ↦ inl (on_path t.page on) | inr e ↦ inr e ] }
 
-  crowded_by : (x z : Shape) (k is : Provider) (page : ℕ) (wanted : Wanted) (s : Story) (why : Refusal) → x.alone ≡ true → length path ≤ 8 → page < (opening u.given).format.pages → IsNeeded key wanted page (paged z u is) → FaultCause x path k page s u is why → CrowdedCause key wanted why (paged z u is)
+  crowded_by : (x z : Shape) (k is : Provider) (page : ℕ) (wanted : Wanted) (s : Story) (why : Refusal) → x.alone ≡ true → length path ≤ 8 → page < (opening u.given).format.pages → IsNeeded key wanted page (paged z u is) → FaultCause x path v k page s u is why → CrowdedCause key wanted why (paged z u is)
   crowded_by x z k is page wanted s (refusal.PoolFull on latched above held) alone short below needed c =
-      let full = c.0.1 alone in
+      let full = c.full.1 alone in
       let none = full.0 in
-      let sum = c.0.0 in
+      let sum = c.full.0 in
       let few = full.1.on_few in record {
         page = page;
         below = below;
         needed = needed;
-        cold = c.1;
+        cold = c.cold;
         kept = λ f lt. kept z is f (full.1.taken f lt);
         sum = omega arith;
         few = omega arith;
@@ -208,6 +208,11 @@ module _ (key : ℕ) (path : List ℕ) (v u : View) (behind : Sound u.given (sta
       }
   crowded_by x z k is page wanted s refusal.NoPages alone short below needed c = absurd c
   crowded_by x z k is page wanted s _ alone short below needed c = tt
+
+-- what is known of the other pages
+rest_from : (wanted : Wanted) (p q : Paged) (why : Refusal) → KeepsRest wanted p q → RestCause wanted p why q
+rest_from wanted p q (refusal.PoolFull on latched above held) k = k
+rest_from wanted p q _ k = tt
 
 -- ## A page that a page of the way names
 
@@ -313,7 +318,7 @@ module _ {x y : Shape} {v w : View} {k : Provider} (same : x ≡ y) (i : IsPaged
   refused_from {u = u} {is = is} {path = path} {why = why} h = seq.refused 0 most_a_page most_a_page y path v w u k k is why (omega arith) rested refl (subst (λ (q : Shape). HasRefused most_a_page q path w k why u is) same h)
 
   -- a page that is cold was so before the search too
-  pub lost_from : (page : ℕ) (path : List ℕ) (u : View) (is : Provider) → page < (opening w.given).format.pages → (s : Story) (why : Refusal) → FaultCause x path k page s u is why → ColdCause w page why → LostTo (paged y v k) s why
+  pub lost_from : (page : ℕ) (path : List ℕ) (u : View) (is : Provider) → page < (opening w.given).format.pages → (s : Story) (why : Refusal) → FaultCause x path w k page s u is why → ColdCause w page why → LostTo (paged y v k) s why
   lost_from page path u is below s why c d = go why c d
     where
       as_lost : (r : Refusal) → LostCause k page s r → is_cold ((state w).core.place page) ≡ true → IsLost (paged y v k) page s r
@@ -323,7 +328,7 @@ module _ {x y : Shape} {v w : View} {k : Provider} (same : x ≡ y) (i : IsPaged
         cause = l;
       }
 
-      go : (r : Refusal) → FaultCause x path k page s u is r → ColdCause w page r → LostTo (paged y v k) s r
+      go : (r : Refusal) → FaultCause x path w k page s u is r → ColdCause w page r → LostTo (paged y v k) s r
       go (refusal.Damaged p counts other) l e = subst (λ q. IsLost (paged y v k) q s (refusal.Damaged q counts other)) (sym l.0) (as_lost (refusal.Damaged page counts other) (refl, l.1) e)
       go (refusal.Altered p) l e = subst (λ q. IsLost (paged y v k) q s (refusal.Altered q)) (sym l.0) (as_lost (refusal.Altered page) (refl, l.1) e)
       go _ l e = tt
@@ -388,15 +393,16 @@ module _ {x y : Shape} {v w : View} {k : Provider} (same : x ≡ y) (i : IsPaged
           ((warms (opening u.given) (state u).core key).up behind.tree behind.residence r.parent (subst (λ (q : Given). r.parent < (opening q).format.pages) (sym given) r.below)
           (ap (λ n. covers n key) (contents h.moved r.parent).fields ∙ routes_cover w.given (state w) key there.row sound r) hot)
 
-      pub lost_to : FaultCause x path k page s u is why → ColdCause w page why → LostTo (paged y v k) s why
+      pub lost_to : FaultCause x path w k page s u is why → ColdCause w page why → LostTo (paged y v k) s why
       lost_to = lost_from page path u is wanted_is.below s why
 
-      pub refused_to : FaultCause x path k page s u is why → IsRefusedTo key want.Way (paged y v k) why (paged z u is)
+      pub refused_to : FaultCause x path w k page s u is why → IsRefusedTo key want.Way (paged y v k) why (paged z u is)
       refused_to c = record {
         shape = later ∙ same;
         refused = refused_from h;
         warm = warm;
         crowded = crowded_by key path w u behind (root_on there.trail) h.keeps (contents h.moved) (stands there.trail last) x z k is page want.Way s why paged_now.alone there.trail.few (subst (λ (q : Given). page < (opening q).format.pages) (sym given) wanted_is.below) needed c;
+        rest = rest_from want.Way (paged y v k) (paged z u is) why tt;
       }
 
   -- ## Where the way is hot
@@ -434,13 +440,14 @@ module _ {x y : Shape} {v w : View} {k : Provider} (same : x ≡ y) (i : IsPaged
 
     module _ {z : Shape} {u : View} {is : Provider} (s : Story) (why : Refusal) (warms : EveryWarm) (later : z ≡ x) (h : HasRefused most_a_page x path w k why u is) where
       -- behind one that was refused, of a page that was wanted beside it
-      refused_hot : (page : ℕ) (wanted : Wanted) → page < (opening w.given).format.pages → IsNeeded key wanted page (paged z u is) → FaultCause x path k page s u is why → IsRefusedTo key wanted (paged y v k) why (paged z u is)
-      refused_hot page wanted below needed c = record {
+      refused_hot : (page : ℕ) (wanted : Wanted) → page < (opening w.given).format.pages → IsNeeded key wanted page (paged z u is) → RestCause wanted (paged y v k) why (paged z u is) → FaultCause x path w k page s u is why → IsRefusedTo key wanted (paged y v k) why (paged z u is)
+      refused_hot page wanted below needed rest c = record {
         shape = later ∙ same;
         refused = refused_from h;
         warm = λ level _. warm_up (opening u.given) (state u).core key (omega arith) (stays_warm warms later h.moved h.keeps);
         crowded = crowded_by key path w u (behind_hot warms later h.moved h.keeps) (root_on there.trail) h.keeps (contents h.moved) (stands there.trail leaf_last) x z k is page wanted s why paged_now.alone there.trail.few
             (subst (λ (q : Given). page < (opening q).format.pages) (sym h.moved.goes.ran.given) below) needed c;
+        rest = rest;
       }
 
     -- ## A free page
@@ -468,8 +475,8 @@ module _ {x y : Shape} {v w : View} {k : Provider} (same : x ≡ y) (i : IsPaged
         pub has_joined : {frame : ℕ} → Moved most_a_page x w k u is → KeepsPath path w u → (state u).core.place page ≡ Place.Hot frame → is.broken ≡ k.broken → HasJoined key page frame (paged y v k) (paged z u is)
         has_joined m keeps hot broken = record { moved = moved_from later m broken; hot = hot; same = page_same m; warm = stays_warm warms later m keeps }
 
-        pub refused_free : (s : Story) (why : Refusal) → HasRefused most_a_page x path w k why u is → FaultCause x path k page s u is why → IsRefusedTo key (want.Free page) (paged y v k) why (paged z u is)
-        refused_free s why h c = refused_hot s why warms later h page (want.Free page) below (refl, ap (λ (c : Contents). c.node.live) (page_same h.moved) ∙ unused.1) c
+        pub refused_free : (s : Story) (why : Refusal) → HasRefused most_a_page x path w k why u is → FaultCause x path w k page s u is why → IsRefusedTo key (want.Free page) (paged y v k) why (paged z u is)
+        refused_free s why h c = refused_hot s why warms later h page (want.Free page) below (refl, ap (λ (c : Contents). c.node.live) (page_same h.moved) ∙ unused.1) (rest_from (want.Free page) (paged y v k) (paged z u is) why tt) c
 
     -- ## A page that a page of the way names
 
@@ -527,18 +534,27 @@ module _ {x y : Shape} {v w : View} {k : Provider} (same : x ≡ y) (i : IsPaged
           }
 
       module _ {z : Shape} {u : View} {is : Provider} (warms : EveryWarm) (later : z ≡ x) where
-        pub has_come_beside : {frame : ℕ} → Moved most_a_page x w k u is → KeepsPath path w u → (state u).core.place page ≡ Place.Hot frame → is.broken ≡ k.broken → HasComeBeside key page frame (paged y v k) (paged z u is)
-        has_come_beside m keeps hot_there broken = record {
+        -- and no other page changed
+        others_kept : KeepsOthers x page w u → (p : ℕ) → p ≢ page → (state u).core.page p ≡ (state v).core.page p
+        others_kept others p other = others paged_now.alone p other ∙ ap (λ (s : Moment). s.core.page p) now
+
+        beside_kept : (s : Story) (why : Refusal) → FaultCause x path w k page s u is why → RestCause (want.Beside page) (paged y v k) why (paged z u is)
+        beside_kept s (refusal.PoolFull on latched above held) c = others_kept c.others
+        beside_kept s _ c = tt
+
+        pub has_come_beside : {frame : ℕ} → Moved most_a_page x w k u is → KeepsPath path w u → (state u).core.place page ≡ Place.Hot frame → is.broken ≡ k.broken → KeepsOthers x page w u → HasComeBeside key page frame (paged y v k) (paged z u is)
+        has_come_beside m keeps hot_there broken others = record {
           moved = moved_from later m broken;
           hot = hot_there;
           named = named_behind m;
           like = subst (λ (s : Moment). IsButEntries (s.core.page page) ((state u).core.page page)) now (contents m page);
           same = λ faithful. seq.contents most_a_page x w u k is paged_now.alone (ap (λ (g : Given). g.faithful) ran.given ∙ faithful) paged_now.keeps m page ∙ ap (λ (s : Moment). s.core.page page) now;
+          others = others_kept others;
           warm = stays_warm warms later m keeps;
         }
 
-        pub refused_beside : (s : Story) (why : Refusal) → HasRefused most_a_page x path w k why u is → FaultCause x path k page s u is why → IsRefusedTo key (want.Beside page) (paged y v k) why (paged z u is)
-        refused_beside s why h c = refused_hot s why warms later h page (want.Beside page) below_named (refl, named_behind h.moved) c
+        pub refused_beside : (s : Story) (why : Refusal) → HasRefused most_a_page x path w k why u is → FaultCause x path w k page s u is why → IsRefusedTo key (want.Beside page) (paged y v k) why (paged z u is)
+        refused_beside s why h c = refused_hot s why warms later h page (want.Beside page) below_named (refl, named_behind h.moved) (beside_kept s why c) c
 
   -- the slots hold what is saved still
   pub fed_now : (s : Story) → IsFedIfFaithful (paged y v k) s → IsFedIfFaithful (paged x w k) s
@@ -573,11 +589,11 @@ err_map P Q R (Ok a) f h j = tt
 err_map P Q R (Err e) f h j = f e h j
 
 -- it is this page that is not to be had
-of_page : (x : Shape) (path : List ℕ) (k : Provider) (page : ℕ) (s : Story) (u : View) (is : Provider) (why : Refusal) → FaultCause x path k page s u is why → IsOfPage page why
-of_page x path k page s u is (refusal.Damaged p counts other) c = c.0
-of_page x path k page s u is (refusal.Altered p) c = c.0
-of_page x path k page s u is _ c = tt
+of_page : (x : Shape) (path : List ℕ) (w : View) (k : Provider) (page : ℕ) (s : Story) (u : View) (is : Provider) (why : Refusal) → FaultCause x path w k page s u is why → IsOfPage page why
+of_page x path w k page s u is (refusal.Damaged p counts other) c = c.0
+of_page x path w k page s u is (refusal.Altered p) c = c.0
+of_page x path w k page s u is _ c = tt
 
-pub which_if : (x : Shape) (path : List ℕ) (k : Provider) (page : ℕ) (s : Story) (u : View) (is : Provider) (r : Result ℕ Refusal) → IfErr r (FaultCause x path k page s u is) → IfErr r (IsOfPage page)
-which_if x path k page s u is (Ok frame) c = tt
-which_if x path k page s u is (Err why) c = of_page x path k page s u is why c
+pub which_if : (x : Shape) (path : List ℕ) (w : View) (k : Provider) (page : ℕ) (s : Story) (u : View) (is : Provider) (r : Result ℕ Refusal) → IfErr r (FaultCause x path w k page s u is) → IfErr r (IsOfPage page)
+which_if x path w k page s u is (Ok frame) c = tt
+which_if x path w k page s u is (Err why) c = of_page x path w k page s u is why c

@@ -1,5 +1,5 @@
 -- A page of a key's way is brought into a frame, or a free one, or one beside the way.
-use Rattle.std.specs.Prelude.{◌≡◌, ◌<◌, ◌≤◌, ◌+◌, ◌⊎◌, ℕ, true, false, [], Option, Some, None}
+use Rattle.std.specs.Prelude.{◌≡◌, ◌≢◌, ◌<◌, ◌≤◌, ◌+◌, ◌⊎◌, ℕ, true, false, [], Option, Some, None}
 use Rattle.btree_descent.specs.core_state.States.{Place, flushed_by_all, in_frame, is_cold, is_cooling, is_hot}
 use Rattle.cold_pages.specs.Laws.{IsButEntries}
 use Rattle.page_model.specs.Nodes.{covers}
@@ -53,14 +53,19 @@ pub record HasJoined (key page frame : ℕ) (p q : Paged) : Type 0 where
   pub same : (state q.view).core.page page ≡ (state p.view).core.page page
   pub warm : IsWarm q key 0
 
+-- each page but this one is as it was
+abbrev pub KeepsOthers : (page : ℕ) → (p q : Paged) → Type 0
+KeepsOthers page p q = (other : ℕ) → other ≢ page → (state q.view).core.page other ≡ (state p.view).core.page other
+
 -- The page, which a page of the key's way names, stands hot in this frame, and is named still. It is as it was, but for the entries of a leaf, and where rows
--- began faithful these too; and the pages of the key's way are hot still.
+-- began faithful these too; each other page is as it was; and the pages of the key's way are hot still.
 pub record HasComeBeside (key page frame : ℕ) (p q : Paged) : Type 0 where
   pub moved : HasMoved most_a_page p q
   pub hot : (state q.view).core.place page ≡ Place.Hot frame
   pub named : IsNamed q key page
   pub like : IsButEntries ((state p.view).core.page page) ((state q.view).core.page page)
   pub same : p.view.given.faithful ≡ true → (state q.view).core.page page ≡ (state p.view).core.page page
+  pub others : KeepsOthers page p q
   pub warm : IsWarm q key 0
 
 -- what is asked: a free page, or one that a page of the way names, is brought where the key's way is hot
@@ -116,12 +121,23 @@ CrowdedCause key wanted (refusal.PoolFull on latched above held) q = IsCrowded k
 CrowdedCause key wanted refusal.NoPages q = ⊥
 CrowdedCause key wanted _ q = Unit {0}
 
+-- where one beside the way was wanted each other page is as it was
+abbrev pub KeepsRest : Wanted → (p q : Paged) → Type 0
+KeepsRest (want.Beside page) p q = KeepsOthers page p q
+KeepsRest _ p q = Unit {0}
+
+-- so it is too where no frame could be given
+abbrev pub RestCause : Wanted → Paged → Refusal → Paged → Type 0
+RestCause wanted p (refusal.PoolFull on latched above held) q = KeepsRest wanted p q
+RestCause wanted p _ q = Unit {0}
+
 -- It was refused; other pages may have cooled and left, and what was hot of the way is so still.
 pub record IsRefusedTo (key : ℕ) (wanted : Wanted) (p : Paged) (why : Refusal) (q : Paged) : Type 0 where
   pub shape : q.shape ≡ p.shape
   pub refused : HasRefused most_a_page p.shape [] p.view p.pager why q.view q.pager
   pub warm : (level : ℕ) → IsWarm p key level → IsWarm q key level
   pub crowded : CrowdedCause key wanted why q
+  pub rest : RestCause wanted p why q
 
 -- ## A page that is not to be had
 

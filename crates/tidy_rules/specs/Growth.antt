@@ -7,7 +7,6 @@ use Rattle.page_model.specs.Redo.{has_key}
 use Rattle.core_commit.specs.core_state.Events.{Event}
 use Rattle.core_commit.specs.core_state.Openings.{Opening}
 use Rattle.core_commit.specs.core_state.States.{State, nodes_of}
-use Rattle.core_commit.specs.core_state.Steps.{step}
 use Rattle.core_calls.specs.Room.{free_list, full_run, is_all_full}
 
 -- the leaf with the key in its fences has no room, and has not the key
@@ -28,8 +27,3 @@ IsNextRoom own g s key (Event.Join w l r q) = ⊥
 IsNextRoom own g s key (Event.Drop w c) = ⊥
 IsNextRoom own g s key (Event.Purge w p keys) = ⊥
 IsNextRoom own g s key _ = Unit {0}
-
--- so does each event, at its place
-abbrev pub MakesRoom : (own : ℕ) → Opening → State → (key : ℕ) → List Event → Type 0
-MakesRoom own g s key [] = Unit {0}
-MakesRoom own g s key (e ∷ es) = IsNextRoom own g s key e × MakesRoom own g (step g s e) key es

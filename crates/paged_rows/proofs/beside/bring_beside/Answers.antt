@@ -48,7 +48,7 @@ returns-clause-ok g c =
     let k = c.args.pager.now in
     let is = c.frame_for.new.self in
     ok_map (λ frame. HasPlaced most_a_page x c.reach.new.path w k c.args.page frame u is) (λ frame. HasComeBeside c.args.key c.args.page frame (paged (g.R.Rows.shape c.args.rows.now) (g.R.Rows.view c.args.seat.now) k) (paged (g.R.Rows.shape c.frame_for.new.rows) u is)) c.frame_for.result
-    (λ frame h. has_come_beside c.reach.ensures.fits.1 c.requires.paged c.every_sequel.ensures c.in-Leaf.ensures.went.ran c.reach.ensures.fits.2 c.in-Leaf.ensures.came c.in-Leaf.ensures.went c.every_descent.ensures c.frames-frames.ensures c.args.page c.requires.named c.requires.warm c.every_warm.ensures c.frame_for.ensures.fits.1 h.moved h.keeps h.hot h.broken)
+    (λ frame h. has_come_beside c.reach.ensures.fits.1 c.requires.paged c.every_sequel.ensures c.in-Leaf.ensures.went.ran c.reach.ensures.fits.2 c.in-Leaf.ensures.came c.in-Leaf.ensures.went c.every_descent.ensures c.frames-frames.ensures c.args.page c.requires.named c.requires.warm c.every_warm.ensures c.frame_for.ensures.fits.1 h.moved h.keeps h.hot h.broken h.others)
     c.frame_for.ensures.ok
 
 pub returns-clause-err : goal.returns-clause-err
@@ -59,7 +59,7 @@ returns-clause-err g c =
     let k = c.args.pager.now in
     let is = c.frame_for.new.self in
     let s = g.P.Part.story c.args.dev.now in
-    err_map (λ why. HasRefused most_a_page x c.reach.new.path w k why u is) (FaultCause x c.reach.new.path k c.args.page s u is)
+    err_map (λ why. HasRefused most_a_page x c.reach.new.path w k why u is) (FaultCause x c.reach.new.path w k c.args.page s u is)
     (λ why. IsRefusedTo c.args.key (want.Beside c.args.page) (paged (g.R.Rows.shape c.args.rows.now) (g.R.Rows.view c.args.seat.now) k) why (paged (g.R.Rows.shape c.frame_for.new.rows) u is)) c.frame_for.result
     (λ why h f. refused_beside c.reach.ensures.fits.1 c.requires.paged c.every_sequel.ensures c.in-Leaf.ensures.went.ran c.reach.ensures.fits.2 c.in-Leaf.ensures.came c.in-Leaf.ensures.went c.every_descent.ensures c.frames-frames.ensures c.args.page c.requires.named c.requires.warm c.every_warm.ensures c.frame_for.ensures.fits.1 s why h f)
     c.frame_for.ensures.err c.frame_for.ensures.cause
@@ -71,7 +71,7 @@ returns-clause-lost g c =
     let u = g.R.Rows.view c.frame_for.new.seat in
     let k = c.args.pager.now in
     let s = g.P.Part.story c.args.dev.now in
-    err_map (FaultCause x c.reach.new.path k c.args.page s u c.frame_for.new.self) (ColdCause w c.args.page) (LostTo (paged (g.R.Rows.shape c.args.rows.now) (g.R.Rows.view c.args.seat.now) k) s) c.frame_for.result
+    err_map (FaultCause x c.reach.new.path w k c.args.page s u c.frame_for.new.self) (ColdCause w c.args.page) (LostTo (paged (g.R.Rows.shape c.args.rows.now) (g.R.Rows.view c.args.seat.now) k) s) c.frame_for.result
     (λ why f d. lost_from c.reach.ensures.fits.1 c.requires.paged c.every_sequel.ensures c.in-Leaf.ensures.went.ran c.reach.ensures.fits.2 c.args.page c.reach.new.path u c.frame_for.new.self (wanted_named c.reach.ensures.fits.1 c.requires.paged c.every_sequel.ensures c.in-Leaf.ensures.went.ran c.reach.ensures.fits.2 c.in-Leaf.ensures.came c.in-Leaf.ensures.went c.every_descent.ensures c.frames-frames.ensures c.args.page c.requires.named c.requires.warm).below s why f d)
     c.frame_for.ensures.cause c.frame_for.ensures.cold
 
@@ -106,4 +106,4 @@ returns-clause-reads g c most m =
 
 pub returns-clause-which : goal.returns-clause-which
 returns-clause-which g c =
-    which_if (g.R.Rows.shape c.reach.new.rows) c.reach.new.path c.args.pager.now c.args.page (g.P.Part.story c.args.dev.now) (g.R.Rows.view c.frame_for.new.seat) c.frame_for.new.self c.frame_for.result c.frame_for.ensures.cause
+    which_if (g.R.Rows.shape c.reach.new.rows) c.reach.new.path (g.R.Rows.view c.reach.new.seat) c.args.pager.now c.args.page (g.P.Part.story c.args.dev.now) (g.R.Rows.view c.frame_for.new.seat) c.frame_for.new.self c.frame_for.result c.frame_for.ensures.cause

@@ -59,7 +59,7 @@ returns-clause-err g c =
     let k = c.args.pager.now in
     let is = c.frame_for.new.self in
     let s = g.P.Part.story c.args.dev.now in
-    err_map (λ why. HasRefused most_a_page x c.reach.new.path w k why u is) (FaultCause x c.reach.new.path k c.args.page s u is)
+    err_map (λ why. HasRefused most_a_page x c.reach.new.path w k why u is) (FaultCause x c.reach.new.path w k c.args.page s u is)
     (λ why. IsRefusedTo c.args.key (want.Free c.args.page) (paged (g.R.Rows.shape c.args.rows.now) (g.R.Rows.view c.args.seat.now) k) why (paged (g.R.Rows.shape c.frame_for.new.rows) u is)) c.frame_for.result
     (λ why h f. refused_free c.reach.ensures.fits.1 c.requires.paged c.every_sequel.ensures c.in-Leaf.ensures.went.ran c.reach.ensures.fits.2 c.in-Leaf.ensures.came c.in-Leaf.ensures.went c.every_descent.ensures c.frames-frames.ensures c.args.page c.requires.free c.every_warm.ensures c.frame_for.ensures.fits.1 s why h f)
     c.frame_for.ensures.err c.frame_for.ensures.cause
@@ -71,7 +71,7 @@ returns-clause-lost g c =
     let u = g.R.Rows.view c.frame_for.new.seat in
     let k = c.args.pager.now in
     let s = g.P.Part.story c.args.dev.now in
-    err_map (FaultCause x c.reach.new.path k c.args.page s u c.frame_for.new.self) (ColdCause w c.args.page) (LostTo (paged (g.R.Rows.shape c.args.rows.now) (g.R.Rows.view c.args.seat.now) k) s) c.frame_for.result
+    err_map (FaultCause x c.reach.new.path w k c.args.page s u c.frame_for.new.self) (ColdCause w c.args.page) (LostTo (paged (g.R.Rows.shape c.args.rows.now) (g.R.Rows.view c.args.seat.now) k) s) c.frame_for.result
     (λ why f d. lost_from c.reach.ensures.fits.1 c.requires.paged c.every_sequel.ensures c.in-Leaf.ensures.went.ran c.reach.ensures.fits.2 c.args.page c.reach.new.path u c.frame_for.new.self (wanted_free c.reach.ensures.fits.1 c.requires.paged c.every_sequel.ensures c.in-Leaf.ensures.went.ran c.reach.ensures.fits.2 c.in-Leaf.ensures.came c.in-Leaf.ensures.went c.every_descent.ensures c.frames-frames.ensures c.args.page c.requires.free).below s why f d)
     c.frame_for.ensures.cause c.frame_for.ensures.cold
 

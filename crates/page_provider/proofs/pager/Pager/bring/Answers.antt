@@ -118,11 +118,15 @@ returns-clause-err g c =
 pub returns-clause-cause : goal.returns-clause-cause
 returns-clause-cause g c =
     let z = g.R.Rows.shape c.args.rows.now in
+    let v = g.R.Rows.view c.args.seat.now in
+    let u = g.R.Rows.view c.fetch-node.new.seat in
     let w = g.R.Rows.view c.place.new.seat in
     let is = c.place.new.self in
-    let P : Refusal → Type 0 = λ why. PlaceCause (g.R.Rows.shape c.fetch-node.new.rows) c.args.path.now c.args.page w is why in
-    let Q : Refusal → Type 0 = λ why. FaultCause z c.args.path.now c.args.self.now c.args.page (g.P.Part.story c.args.dev.now) w is why in
-    IfErr-weaker c.place.result P Q (λ why h. place_fault z c.args.path.now c.args.self.now c.args.page (g.P.Part.story c.args.dev.now) w is why (subst (λ (s : Shape). PlaceCause s c.args.path.now c.args.page w is why) c.fetch-node.ensures.fits.1 h)) c.place.ensures.cause
+    let each = subst (λ (p : Provider). length p.slots ≡ length p.free) c.self.view_is c.self.invariant.each in
+    let x = fetched c.laws.ensures.rows c.requires.keeps c.requires.held (is_found c.requires.keeps c.requires.below c.requires.cold each (λ f. c.requires.gives f c.requires.cold) c.in_ok-found.ensures.ok) c.fetch-node.ensures.told in
+    let P : Refusal → Type 0 = λ why. PlaceCause (g.R.Rows.shape c.fetch-node.new.rows) c.args.path.now u c.args.page w is why in
+    let Q : Refusal → Type 0 = λ why. FaultCause z c.args.path.now v c.args.self.now c.args.page (g.P.Part.story c.args.dev.now) w is why in
+    IfErr-weaker c.place.result P Q (λ why h. place_fault x c.args.path.now c.args.self.now (g.P.Part.story c.args.dev.now) w is why (subst (λ (s : Shape). PlaceCause s c.args.path.now u c.args.page w is why) c.fetch-node.ensures.fits.1 h)) c.place.ensures.cause
 
 pub returns-clause-disk : goal.returns-clause-disk
 returns-clause-disk g c =

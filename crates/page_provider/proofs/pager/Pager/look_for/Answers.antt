@@ -4,12 +4,12 @@ use Rattle.btree_descent.specs.row_words.declared.given.Given.{Given}
 use Rattle.btree_descent.specs.rows_trait.Views.{Shape}
 use Rattle.page_provider.specs.Disks.{Disked}
 use Rattle.page_provider.specs.Ends.{HasRefused}
-use Rattle.page_provider.specs.Faults.{ColdCause, Faulted, IsDescent, LeadsTo}
+use Rattle.page_provider.specs.Faults.{ColdCause, FaultCause, Faulted, IsDescent, LeadsTo}
 use Rattle.page_provider.specs.Finds.{NamedIn, Standing}
 use Rattle.page_provider.specs.Inside.{Missed}
 use Rattle.page_provider.specs.Providers.{Provider}
 use Rattle.page_provider.specs.declared.refusal.Refusal.{Refusal}
-use Rattle.page_provider.proofs.Faulting.{cold_of, descent_on, faulted_before, gives_on, leads_on, missed_refused, named_on, no_astray, refused_before, settled, settled_disk, stood_look, unsettled}
+use Rattle.page_provider.proofs.Faulting.{cause_before, cold_of, descent_on, faulted_before, gives_on, leads_on, missed_refused, named_on, no_astray, refused_before, settled, settled_disk, stood_look, unsettled}
 use Rattle.page_provider.proofs.Keeping.{keeps_ran}
 use Rattle.page_provider.proofs.Losses.{cold_before, cold_row}
 use Rattle.page_provider.proofs.Parts.{disk_after, keeps_shape}
@@ -173,6 +173,21 @@ returns-in_default-clause-reads g c =
 
 pub returns-clause-reads : goal.returns-clause-reads
 returns-clause-reads g c = unsaved_then c.args.self.now c.requires.well (reads_untouched (g.met.P.Part.lawful c.args.dev.now) c.in_ok-named.ensures.kept.ran) c.bring.ensures.reads
+
+pub returns-clause-cause : goal.returns-clause-cause
+returns-clause-cause g c =
+    let z = g.R.Rows.shape c.args.rows.now in
+    let y = g.R.Rows.shape c.named.new.rows in
+    let v = g.R.Rows.view c.args.seat.now in
+    let u = g.R.Rows.view c.named.new.seat in
+    let w = g.R.Rows.view c.bring.new.seat in
+    let k = c.args.self.now in
+    let is = c.bring.new.self in
+    let s = g.P.Part.story c.args.dev.now in
+    let o = c.in_ok-named.ensures in
+    let P : Refusal → Type 0 = λ why. FaultCause y c.args.path.now u k c.args.page s w is why in
+    let Q : Refusal → Type 0 = λ why. FaultCause z c.args.path.now v k c.args.page s w is why in
+    IfErr-weaker c.bring.result P Q (λ why h. cause_before z o.kept.ran c.args.path.now k is c.args.page s w why (subst (λ (x : Shape). FaultCause x c.args.path.now u k c.args.page s w is why) o.fits.1 h)) c.bring.ensures.cause
 
 -- ## A page that could not be read
 

@@ -29,7 +29,7 @@ returns-in_err-rescue_free-clause-err g c =
     if_err c.from_residual.result p.0 P p.1 (subst P e (halts_as (omega arith) c.laws.ensures.rows c.requires.keeps c.requires.held c.in_err-rescue_free.ensures.same c.in_err-rescue_free.ensures.err))
 
 pub returns-then-contains-clause-ok : goal.returns-then-contains-clause-ok
-returns-then-contains-clause-ok g c = come_placed c.args.path.now refl refl refl (entry_cold c.requires.keeps c.requires.there) c.in_ok-rescue_free.ensures.ok
+returns-then-contains-clause-ok g c = come_placed c.args.path.now (entry_cold c.requires.keeps c.requires.there) c.in_ok-rescue_free.ensures.ok
 
 pub rescue_node-requires-clause-live : goal.rescue_node-requires-clause-live
 rescue_node-requires-clause-live g c = entry_live c.requires.keeps c.requires.there false (ap (λ (p : Provider). is_in p.free c.args.entry.page) (sym c.self.view_is) ∙ (sym c.contains.ensures ∙ c.if-contains.false))
@@ -51,7 +51,7 @@ returns-then-branch-clause-ok g c =
     let z = g.R.Rows.shape c.args.rows.now in
     let v = g.R.Rows.view c.args.seat.now in
     let w = g.R.Rows.view c.rescue_node.new.seat in
-    come_placed c.args.path.now refl refl refl (entry_cold c.requires.keeps c.requires.there) (subst (λ d. ComesOrNot d z (Rescue c.args.entry.page) c.args.entry.page c.args.entry.frame v c.args.self.now w c.rescue_node.new.self) c.if-branch.true c.in_ok-rescue_node.ensures.ok)
+    come_placed c.args.path.now (entry_cold c.requires.keeps c.requires.there) (subst (λ d. ComesOrNot d z (Rescue c.args.entry.page) c.args.entry.page c.args.entry.frame v c.args.self.now w c.rescue_node.new.self) c.if-branch.true c.in_ok-rescue_node.ensures.ok)
 
 pub returns-clause-ok : goal.returns-clause-ok
 returns-clause-ok g c =

@@ -11,7 +11,7 @@ use Rattle.paged_desks.proofs.Doing.{done_then, done_up}
 use Rattle.paged_desks.proofs.Late.{late_of}
 use Rattle.paged_desks.proofs.Losses.{unread_err, unread_of}
 use Rattle.paged_desks.proofs.Stopping.{stop_keeps}
-use Rattle.paged_desks.proofs.Stops.{err_same, refusing, full_calm, broken_is, of_page, stop_works, too_full}
+use Rattle.paged_desks.proofs.Stops.{err_same, refusing, full_calm, full_rest, broken_is, of_page, stop_works, too_full}
 use Rattle.paged_desks.proofs.Warmth.{can_after, comes_behind, comes_of, paged_is, warm_refused, well_of}
 use Rattle.paged_desks.proofs.machine.PagedMachine.bring_or_sync.Goals as goal
 
@@ -46,7 +46,8 @@ returns-then-is_full-clause-done g c on =
 
 pub returns-then-is_full-clause-comes : goal.returns-then-is_full-clause-comes
 returns-then-is_full-clause-comes g c =
-    comes_behind c.args.key c.args.wanted c.args.self.now c.bring.new.self c.sync_and_bring.new.self (warm_refused c.args.key c.args.wanted c.args.self.now c.bring.new.self c.in-Err.why c.laws.ensures.sequel (paged_is c.requires.ready) c.in-Err.ensures.err) c.requires.can c.sync_and_bring.result c.sync_and_bring.ensures.comes
+    comes_behind c.args.key c.args.wanted c.args.self.now c.bring.new.self c.sync_and_bring.new.self (warm_refused c.args.key c.args.wanted c.args.self.now c.bring.new.self c.in-Err.why c.laws.ensures.sequel (paged_is c.requires.ready) c.in-Err.ensures.err)
+    (full_rest c.args.wanted (pages c.args.self.now) (pages c.bring.new.self) c.in-Err.why (sym c.is_full.ensures ∙ c.if-is_full.true) c.in-Err.ensures.err.rest) c.requires.can c.sync_and_bring.result c.sync_and_bring.ensures.comes
 
 pub sync_and_bring-requires-clause-can : goal.sync_and_bring-requires-clause-can
 sync_and_bring-requires-clause-can g c κs within =

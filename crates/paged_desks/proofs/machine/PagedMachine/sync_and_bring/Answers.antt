@@ -7,7 +7,7 @@ use Rattle.paged_desks.proofs.Doing.{done_none, done_sync, done_then, done_up}
 use Rattle.paged_desks.proofs.Full.{tight_is}
 use Rattle.paged_desks.proofs.Late.{cramped_of}
 use Rattle.paged_desks.proofs.Losses.{unread_err}
-use Rattle.paged_desks.proofs.Warmth.{can_after, comes_behind, warm_synced}
+use Rattle.paged_desks.proofs.Warmth.{can_after, comes_behind, rest_synced, warm_synced}
 use Rattle.paged_desks.proofs.machine.PagedMachine.sync_and_bring.Goals as goal
 
 pub returns-then-not-may_sync-clause-done : goal.returns-then-not-may_sync-clause-done
@@ -30,7 +30,7 @@ returns-in-Ok-clause-done g c on =
 
 pub returns-in-Ok-clause-comes : goal.returns-in-Ok-clause-comes
 returns-in-Ok-clause-comes g c =
-    comes_behind c.args.key c.args.wanted c.args.self.now c.sync.new.self c.bring_again.new.self (warm_synced c.args.key c.in-Ok.ensures.synced) c.requires.can c.bring_again.result c.bring_again.ensures.comes
+    comes_behind c.args.key c.args.wanted c.args.self.now c.sync.new.self c.bring_again.new.self (warm_synced c.args.key c.in-Ok.ensures.synced) (rest_synced c.args.wanted c.in-Ok.ensures.synced) c.requires.can c.bring_again.result c.bring_again.ensures.comes
 
 pub bring_again-requires-clause-can : goal.bring_again-requires-clause-can
 bring_again-requires-clause-can g c κs within = can_after c.args.key c.args.wanted c.args.self.now c.sync.new.self (warm_synced c.args.key c.in-Ok.ensures.synced) c.requires.can
