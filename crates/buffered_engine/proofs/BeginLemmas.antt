@@ -142,7 +142,7 @@ none_wait_behind g group xs x n t deed long w = ap (λ (s : State). waiting g s 
     logs = subst (λ (d : Deed). LogsGo limits g group xs x.outcome.session d x.events) deed t.logs
 
     sync : (m : ℕ) × IsSync m (keep is_log x.events)
-    sync = subst (λ (b : Bool). PreparesBy false b (keep is_log x.events)) long logs.3
+    sync = subst (λ (b : Bool). PreparesBy false b (keep is_log x.events)) long logs.4
 
     l : Last is_log x.events (Event.Sync sync.0)
     l = last_in is_log x.events sync.1.0 (Event.Sync sync.0) sync.1.1

@@ -19,7 +19,7 @@ use Rattle.core_calls.specs.Refusals.{Limits}
 use Rattle.core_calls.specs.Fronts.{Done}
 
 abbrev pub limits : Limits
-limits = record { is_full = λ es s u l. false; is_half_full = λ es. false; clock_end = 1000; latch_end = 1000; waiting = 256; pairs = 64 }
+limits = record { is_full = λ es s u l. false; steps = false; clock_end = 1000; latch_end = 1000; waiting = 256; pairs = 64 }
 
 -- where it is known whether the events are of the session asked for
 abbrev pub marks_if : Opening → State → List Event → Bool → List Mark → List Mark

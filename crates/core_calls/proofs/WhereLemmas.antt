@@ -105,7 +105,7 @@ syncs_weaker P Q h g (e ∷ es) s true x = absurd x
 pub refused_kept : (l : Limits) (g : Opening) (earlier : List Done) (w : ℕ) (c : Call) (why : Refusal) (es : List Event) → RefusedLogs l g earlier w c why [] → keep is_log es ≡ [] → RefusedLogs l g earlier w c why es
 refused_kept l g earlier w call.Begin refusal.InTransaction es d n = n
 refused_kept l g earlier w call.Begin refusal.RowSpent es d n = n
-refused_kept l g earlier w call.Begin why es d n = subst (Prepares l g earlier w) (sym n) d
+refused_kept l g earlier w call.Begin why es d n = (d.0, subst (Prepares d.0 l g earlier w) (sym n) d.1)
 refused_kept l g earlier w c why es d n = syncs_kept (IsPressedYet g (call_behind (outcomes earlier) c) why) g es (state_after g (front earlier)) n
 
 pub every_where : EveryWhere

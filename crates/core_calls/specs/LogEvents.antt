@@ -54,9 +54,9 @@ PreparesBy true b es = (x : ℕ) × IsSyncAndCut x es
 PreparesBy false true es = (n : ℕ) × IsSync n es
 PreparesBy false false es = es ≡ []
 
--- so behind these outcomes
-abbrev pub Prepares : Limits → Opening → List Done → ℕ → List Event → Type 0
-Prepares l g earlier w es = PreparesBy (l.is_half_full (front earlier)) (leb l.waiting (waiting g (state_after g (front earlier)) w)) es
+-- So behind these outcomes, of an engine whose begins make the step at all. Whether a log is half full then no event shows, but by its bytes the engine.
+abbrev pub Prepares : (half : Bool) → Limits → Opening → List Done → ℕ → List Event → Type 0
+Prepares half l g earlier w es = PreparesBy (l.steps && half) (leb l.waiting (waiting g (state_after g (front earlier)) w)) es
 
 -- ## A page that finds no frame
 
@@ -154,12 +154,12 @@ IsPressedYet g c why s = ⊥
 abbrev pub RefusedLogs : Limits → Opening → List Done → ℕ → Call → Refusal → List Event → Type 0
 RefusedLogs l g earlier w call.Begin refusal.InTransaction es = keep is_log es ≡ []
 RefusedLogs l g earlier w call.Begin refusal.RowSpent es = keep is_log es ≡ []
-RefusedLogs l g earlier w call.Begin why es = Prepares l g earlier w (keep is_log es)
+RefusedLogs l g earlier w call.Begin why es = (half : Bool) × Prepares half l g earlier w (keep is_log es)
 RefusedLogs l g earlier w c why es = SyncsWhere (IsPressedYet g (call_behind (outcomes earlier) c) why) g (state_after g (front earlier)) false es
 
 -- What is done to the logs. Where it is not said a sync stands exactly where a page that is needed finds no frame.
 abbrev pub LogsGo : Limits → Opening → ℕ → List Done → ℕ → Deed → List Event → Type 0
-LogsGo l g group earlier w (Begun n) es = (before : List Event) × (f : ℕ) × (es ≡ before ++ Event.Begin w f ∷ []) × Prepares l g earlier w (keep is_log es)
+LogsGo l g group earlier w (Begun n) es = (before : List Event) × (f : ℕ) × (half : Bool) × (es ≡ before ++ Event.Begin w f ∷ []) × Prepares half l g earlier w (keep is_log es)
 LogsGo l g group earlier w (Committed n at) es = Flushes g group (state_after g (front earlier)) w at es
 LogsGo l g group earlier w (Aborted c n at backs) es = SyncsWhere (IsPressed g call.Abort) g (state_after g (front earlier)) false es
 LogsGo l g group earlier w (Refused c why backs) es = RefusedLogs l g earlier w c why es

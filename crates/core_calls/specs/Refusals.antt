@@ -14,12 +14,12 @@ use Rattle.core_crash.specs.core_state.Events.{Event, Mode}
 use Rattle.core_crash.specs.core_state.Needs.{is_held_by, is_free, is_reader, may_hold}
 use Rattle.core_calls.specs.Room.{is_all_full, room_takes, free_list}
 
--- What the core does not show. After some events: whether so many of a log's blocks are in use, of those that changes may use, and whether
--- some log is half full. Where clocks end; how many events must stand before a latch is spent; how many ends of a session may wait; and how
--- many pairs a scan prints.
+-- What the core does not show. After some events: whether so many of a log's blocks are in use, of those that changes may use. Whether a
+-- begin makes the step where a log is half full. Where clocks end; how many events must stand before a latch is spent; how many ends of a
+-- session may wait; and how many pairs a scan prints.
 pub record Limits : Type 0 where
   pub is_full : List Event → (session used limit : ℕ) → Bool
-  pub is_half_full : List Event → Bool
+  pub steps : Bool
   pub clock_end : ℕ
   pub latch_end : ℕ
   pub waiting : ℕ

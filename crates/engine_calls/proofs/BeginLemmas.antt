@@ -57,7 +57,7 @@ module _ (l : Limits) (g : Opening) (group : ℕ) (xs : List Done) (before : Lis
     hindered = follows (outcomes xs) done.outcome i.line tt;
     goes_on = goes_on (outcomes xs) done.outcome i.line;
     structure = λ e. any_append is_structure before (begin ∷ []) i.structure refl;
-    logs = (before, f, refl, subst (λ (es : List Event). Prepares l g xs w es) (sym (keep_append is_log before (begin ∷ []) ∙ append-nil (keep is_log before))) i.prepares);
+    logs = (before, f, i.half, refl, subst (λ (es : List Event). Prepares i.half l g xs w es) (sym (keep_append is_log before (begin ∷ []) ∙ append-nil (keep is_log before))) i.prepares);
     refused = tt;
     scans = tt;
     released = λ e. absurd (true≢false (sym e));

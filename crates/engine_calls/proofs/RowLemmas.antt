@@ -17,7 +17,7 @@ use Rattle.engine_calls.specs.Rows.{Rows, abort_record, backs, begun, committed,
 use Rattle.engine_calls.proofs.ComingLemmas.{follows, goes_on}
 
 begin_shown : IsBegin limits opening [] [] 1 1 0
-begin_shown = record { line = tt; steps = refl; structure = refl; prepares = refl; met = (refl, tt); flushed = refl; next = refl }
+begin_shown = record { line = tt; steps = refl; structure = refl; half = false; prepares = refl; met = (refl, tt); flushed = refl; next = refl }
 
 put_shown : IsWrite opening (begun ∷ []) (call.Put 5 7) [] [] 1 0 5 7 None put_record
 put_shown = record {

@@ -1,5 +1,5 @@
 -- A begin.
-use Rattle.std.specs.Prelude.{◌≡◌, ℕ, suc, false, List, [], ◌∷◌, ◌++◌}
+use Rattle.std.specs.Prelude.{◌≡◌, ℕ, suc, Bool, false, List, [], ◌∷◌, ◌++◌}
 use Rattle.map_model.specs.Lists.{any, keep}
 use Rattle.run_crashes.specs.core_state.Openings.{Opening}
 use Rattle.run_crashes.specs.core_state.States.{flushed_by_all}
@@ -26,7 +26,8 @@ pub record IsBegin (l : Limits) (g : Opening) (xs : List Done) (before : List Ev
   pub line : IsNewLine (outcomes xs)
   pub steps : any is_step before ≡ false
   pub structure : any is_structure before ≡ false
-  pub prepares : Prepares l g xs w (keep is_log before)
+  pub half : Bool
+  pub prepares : Prepares half l g xs w (keep is_log before)
   pub met : AllMet g (state_after g (front xs)) (begun_by before w number f).events
   pub flushed : f ≡ flushed_by_all g (behind_first g xs before)
   pub next : number ≡ suc ((behind_first g xs before).worker w).txn

@@ -1,5 +1,5 @@
 -- A machine stands while pages move.
-use Rattle.std.proofs.Common.{◌≡◌, ◌∙◌, ◌≤◌, ◌↔◌, ℕ, zero, suc, if◌then◌else◌, Bool, true, false, List, [], ◌∷◌, ap, refl, sym, subst, arith}
+use Rattle.std.proofs.Common.{◌≡◌, ◌∙◌, ◌≤◌, ◌↔◌, ℕ, zero, suc, if◌then◌else◌, Bool, true, false, List, [], ◌∷◌, length, ap, refl, sym, subst, arith}
 use Rattle.desk_parts.specs.core_calls.LogEvents.{behind}
 use Rattle.desk_parts.specs.core_calls.Room.{free_list, frees_from}
 use Rattle.desk_parts.specs.core_state.Needs.{holds_row}
@@ -19,10 +19,11 @@ use Rattle.desk_parts.specs.row_words.Openings.{opening}
 use Rattle.desk_parts.specs.rows_trait.declared.view.View.{View}
 use Rattle.desk_parts.specs.rows_trait.Views.{Shape, state}
 use Rattle.desk_parts.specs.session_desks.Desks.{desk_of, log_of}
-use Rattle.desk_parts.specs.session_desks.Machines.{AreDesks, AreLogged}
+use Rattle.desk_parts.specs.session_desks.Machines.{AreDesks, AreLogged, HasNumbers}
 use Rattle.desk_parts.specs.session_desks.Parts.{IsSound, SeatFits, here, logs, shape}
 use Rattle.desk_parts.specs.session_desks.Syncs.{HasOpening}
 use Rattle.desk_parts.specs.session_desks.declared.desk.Desk.{Desk}
+use Rattle.desk_parts.proofs.session_desks.NumberLemmas.{numbers_seen}
 use Rattle.desk_parts.proofs.session_state.HoldLemmas.{rows_on}
 use Rattle.desk_parts.specs.session_state.Holds.{Holds, IsOf}
 use Rattle.desk_parts.specs.session_state.declared.session.Session.{Session}
@@ -107,7 +108,8 @@ module _ {D : Type 0} (story : D → Story) (m n : PagedMachine D) (seq : EveryS
     desks = subst (λ (q : Desk × List Desk). AreDesks (shape n.machine) (view_of n) q.0 q.1) (λ i. (sym (here_is b) i, (sym b.desks i).items))
         (desks_on (shape n.machine) (view_of m) (view_of n) given moved.goes.held rest (here m.machine) m.machine.desks.items (subst (λ (z : Shape). AreDesks z (view_of m) (here m.machine) m.machine.desks.items) (sym b.shape) ready.sound.desks));
     unmarked = subst (λ (q : List Bool × ℕ). q.0 ≡ Rattle.std.specs.Prelude.replicate q.1 false) (λ i. (sym b.latches i, (sym b.session i).held.count)) ready.sound.unmarked;
-    numbers = subst (λ (q : Master × ℕ). Rattle.desk_parts.specs.session_desks.Machines.HasNumbers q.0 q.1) (λ i. (sym b.master i, (sym b.session i).workers)) ready.sound.numbers;
+    numbers = subst (λ (q : Master × ℕ). HasNumbers q.0 (length (view_of n).seen) q.1) (λ i. (sym b.master i, (sym b.session i).workers))
+        (numbers_seen m.machine.master (view_of m) (view_of n) moved.goes.ran.more m.machine.work.session.workers moved.goes.ran.seen ready.sound.numbers);
     floor = subst (λ (q : Master × State). q.0.floor ≤ q.1.floor) (λ i. (sym b.master i, sym rest.is i)) ready.sound.floor;
   }
 

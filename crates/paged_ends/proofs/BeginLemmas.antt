@@ -120,7 +120,7 @@ module _ (l : Grounds) (answers : EveryAnswer) (coming : EveryComing) {D : Type 
     test_in : (log : Log) → begin_test x log ≡ refused_by (refusal_in g s own (is_half_done own xs) log call.Begin)
     test_in log = test_is g s (is_half_done own xs) x log ready.works of_s
 
-    prepares : (s.worker own).is_open ≡ false → Prepares limits g xs own []
+    prepares : (s.worker own).is_open ≡ false → Prepares false limits g xs own []
     prepares shut = by_nothing (needs_sync g xs own call.Begin) (may.1 ∙ not_long is_long refl)
       where
         not_long : (b : Bool) → is_long ≡ b → is_long ≡ false
@@ -224,7 +224,7 @@ module _ (l : Grounds) (answers : EveryAnswer) (coming : EveryComing) {D : Type 
       stays q e = stays_closed (s0.worker own).clock (s1.worker own).clock m.machine.work.log p.machine.work.log (s0.worker own).is_open (s1.worker own).is_open (of_0.is_open ∙ closed) (of_1.is_open ∙ (ap (λ (k : Session). k.is_open) kept.session ∙ closed))
           used_same limit_same (let a = of_0.clock in let b = of_1.clock in let c = kept.clock in omega arith) q ((λ i. refusal_in g s0 own half (sym (log_own l story m ready) i) call.Begin) ∙ e)
 
-      prepared : Prepares limits g xs own (keep is_log (events_of made.events))
+      prepared : Prepares false limits g xs own (keep is_log (events_of made.events))
       prepared = subst (λ (b : Bool). PreparesBy false b (keep is_log (events_of made.events))) (sym may.1) (at, sync_logs at (events_of made.events) made.sync)
 
       begun_behind : (n : PagedMachine D) → IsReady story n → (number : ℕ) → HasBegun p n number → DoesTied g x.group xs own call.Begin (answer.Begun number) (memory m) n (story m.machine.work.disk) (story n.machine.work.disk)

@@ -104,7 +104,7 @@ module _ (l : Grounds) (answers : EveryAnswer) (coming : EveryComing) {D : Type 
 
   -- ## It began
 
-  module _ (n : PagedMachine D) (ready_p : IsReady story p) (ready_n : IsReady story n) (number : ℕ) (b : HasBegun p n number) (prepares : Prepares limits g xs own (keep is_log first))
+  module _ (n : PagedMachine D) (ready_p : IsReady story p) (ready_n : IsReady story n) (number : ℕ) (b : HasBegun p n number) (prepares : Prepares false limits g xs own (keep is_log first))
       (free : (q : Refusal) → refusal_in g (state_after g (front xs)) own (is_half_done own xs) ((memory m).log own) call.Begin ≡ Some q → ⊥) where
     abbrev o : ℕ
     o = p.machine.work.session.own
@@ -129,7 +129,8 @@ module _ (l : Grounds) (answers : EveryAnswer) (coming : EveryComing) {D : Type 
       line = line;
       steps = c.steps;
       structure = c.structure;
-      prepares = subst (λ (w : ℕ). Prepares limits g xs w (keep is_log first)) (sym c.turn) prepares;
+      half = false;
+      prepares = subst (λ (w : ℕ). Prepares false limits g xs w (keep is_log first)) (sym c.turn) prepares;
       met = subst (AllMet g (state_after g (front xs))) (sym told_is) (part.logged g xs [] start).met;
       flushed = b.begins.floor_is ∙ (λ i. least (core_p i).flushed (sym at_p.opens.workers i));
       next = b.begins.next ∙ ap (λ (k : State). suc (k.worker o).txn) core_p;
@@ -171,7 +172,7 @@ module _ (l : Grounds) (answers : EveryAnswer) (coming : EveryComing) {D : Type 
 
   module _ (ready_p : IsReady story p) (log : Log) (why : Refusal) (test : refusal_in g s own (is_half_done own xs) log call.Begin ≡ Some why) (test_was : refuses_at first ((memory m).log own) why)
       (stays : (q : Refusal) → refusal_in g (state_after g (front xs)) own (is_half_done own xs) ((memory m).log own) call.Begin ≡ Some q → why ≡ q)
-      (closed : (s.worker own).is_open ≡ false → Prepares limits g xs own (keep is_log first)) (still_open : (s.worker own).is_open ≡ true → keep is_log first ≡ []) where
+      (closed : (s.worker own).is_open ≡ false → Prepares false limits g xs own (keep is_log first)) (still_open : (s.worker own).is_open ≡ true → keep is_log first ≡ []) where
     by_cause : (q : Refusal) → q ≡ why → IsCause limits g (front xs ++ first) s (is_half (marks_by own (outcomes xs))) own call.Begin q → RefusedLogs limits g xs own call.Begin q first → IsRefusal limits g xs own call.Begin why first
     by_cause q e cause due = subst (λ (k : Refusal). IsRefusal limits g xs own call.Begin k first) e (record {
       comes = (coming xs (refused_by own call.Begin q first).outcome).new line tt;
@@ -188,11 +189,11 @@ module _ (l : Grounds) (answers : EveryAnswer) (coming : EveryComing) {D : Type 
     clock = (s.worker own).clock
 
     clock_case : (s.worker own).is_open ≡ false → (b : Bool) → leb (2 ^ 62) clock ≡ b → cond b (Some refusal.ClockSpent) None ≡ Some why → IsRefusal limits g xs own call.Begin why first
-    clock_case shut true q t = by_cause refusal.ClockSpent (some_is _ why t) (leb-true (2 ^ 62) clock q) (closed shut)
+    clock_case shut true q t = by_cause refusal.ClockSpent (some_is _ why t) (leb-true (2 ^ 62) clock q) (false, closed shut)
     clock_case shut false q t = absurd (none_is why t)
 
     full_case : (s.worker own).is_open ≡ false → (b : Bool) → cond b (Some (refusal.LogFull (used log) (limit log))) (cond (leb (2 ^ 62) clock) (Some refusal.ClockSpent) None) ≡ Some why → IsRefusal limits g xs own call.Begin why first
-    full_case shut true t = by_cause (refusal.LogFull (used log) (limit log)) (some_is _ why t) refl (closed shut)
+    full_case shut true t = by_cause (refusal.LogFull (used log) (limit log)) (some_is _ why t) refl (false, closed shut)
     full_case shut false t = clock_case shut (leb (2 ^ 62) clock) refl t
 
     open_case : (b : Bool) → (s.worker own).is_open ≡ b → cond b (Some refusal.InTransaction) (log_refusal clock log None) ≡ Some why → IsRefusal limits g xs own call.Begin why first

@@ -1,5 +1,5 @@
 -- What an opening made is a machine that is ready, at the start of a run.
-use Rattle.std.proofs.Common.{◌≡◌, ◌≤◌, ◌<◌, ◌+◌, ◌-◌, ◌^◌, ℕ, suc, true, false, List, [], length, map, replicate, refl, sym, ap, ◌∙◌, subst, arith}
+use Rattle.std.proofs.Common.{◌≡◌, ◌≤◌, ◌<◌, ◌+◌, ◌-◌, ◌*◌, ◌^◌, ℕ, suc, true, false, List, [], length, map, replicate, refl, sym, ap, ◌∙◌, subst, arith}
 use Rattle.paged_desks.specs.image_model.Laws.{EveryUndone}
 use Rattle.paged_desks.specs.core_state.Openings.{Opening}
 use Rattle.paged_desks.specs.core_state.States as core
@@ -58,8 +58,8 @@ flushed_of n w log made = ap (λ (l : Log). l.flushed) made.is
 hand_of : (n : Master) (w : ℕ) (log : Log) → IsMadeBy n w log → HasHand log
 hand_of n w log made none = ap (λ (l : Log). l.payload) made.is
 
-below_more : (n more : ℕ) → n < 2 ^ 61 → n < 2 ^ 61 + more
-below_more n more low = omega arith
+below_more : (n more seen : ℕ) → n < 2 ^ 61 → 2 * n < 2 * (2 ^ 61 + more) + seen
+below_more n more seen low = omega arith
 
 -- nothing has happened, and the log begins at the base number
 logged_start : (g : Opening) (w : ℕ) (log : Log) → log.last ≡ g.base → log.flushed ≡ g.base → IsLogged (core.start g) w log
@@ -222,7 +222,7 @@ module _ (D : Type 0) (story : D → Story) (disk : D) (laws : Laws) (size : Siz
     fits = h.paged.fits;
     desks = desks_at o.rows.frames o.rows.locks o.rows.workers o.seat.view h.paged.frames_are h.paged.locks_are h.paged.workers_are h.paged.view;
     unmarked = seats.latches ∙ ap (λ (n : ℕ). replicate n false) (sym seats.first.rows);
-    numbers = record { sequence = below_more o.master.sequence _ (let e = ap (λ (n : Master). n.sequence) master_is in let l = h.is.sequence in omega arith); heads = sym seats.first.workers };
+    numbers = record { sequence = below_more o.master.sequence _ _ (let e = ap (λ (n : Master). n.sequence) master_is in let l = h.is.sequence in omega arith); heads = sym seats.first.workers };
     floor = let e = ap (λ (s : core.State). s.floor) state_is ∙ base_is in let k = floor_is in omega arith;
   }
 

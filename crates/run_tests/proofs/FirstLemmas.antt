@@ -199,7 +199,7 @@ none_logged (e ∷ es) q =
 begin_logs : (g : Opening) (own : ℕ) (why : Refusal) (es : List Event) → RefusedLogs limits g [] own call.Begin why es → keep is_log es ≡ []
 begin_logs g own refusal.InTransaction es h = h
 begin_logs g own refusal.RowSpent es h = h
-begin_logs g own _ es h = h
+begin_logs g own _ es h = h.1
 
 module _ (g : Opening) (group own : ℕ) (c : Call) (why : Refusal) (backs : List Step) (us : List Unsaid) (es : List Event) where
   abbrev refused : Done

@@ -270,7 +270,7 @@ module _ (master : EveryMasterIn) (s : Story) (size : Size) (base : ℕ) (at : B
     begins : (d : Deed) (us : List Unsaid) (es : List Event) (before : Log) → asked d ≡ call.Begin → Tells limits g size.group [] (by own d us es) → Answers g [] (by own d us es) before → before ≡ y.first.log own →
         HasBegun g own d es
     begins (Begun n) us es before c t a log =
-        let calm = still es (t.structure refl) t.logs.3 in
+        let calm = still es (t.structure refl) t.logs.4 in
         let tells = begin_tells g own (start g) es t.steps.1 t.met calm t.steps.2 in
         let said = t.told own ∙ own_marks own (marks_for (by own (Begun n) us es).outcome) in
         record { deed = ap as_begun (sym said ∙ tells); floor = t.steps.1; session = begun_at g own (start g) es t.steps.1 t.met calm t.steps.2 }

@@ -1,6 +1,7 @@
 pub mod DeskLemmas
 pub mod SeatLemmas
 pub mod FloorLemmas
+pub mod NumberLemmas
 pub mod MachineLemmas
 pub mod FlushOnes
 pub mod SyncRuns

@@ -1,5 +1,5 @@
 -- The parts of an engine behind a call of the session in the store.
-use Rattle.std.proofs.Common.{◌≡◌, ◌⊎◌, inl, inr, ◌≤◌, ◌<◌, ℕ, Bool, true, false, List, replicate, refl, sym, ap, ◌∙◌, subst, arith}
+use Rattle.std.proofs.Common.{◌≡◌, ◌⊎◌, inl, inr, ◌≤◌, ◌<◌, ℕ, Bool, true, false, List, length, replicate, refl, sym, ap, ◌∙◌, subst, arith}
 use Rattle.std.proofs.lemmas.Bool.{cases_eq}
 use Rattle.session_state.specs.disk_slots.declared.master.Master.{Master}
 use Rattle.session_state.specs.rows_trait.Plain.{sizes}
@@ -10,10 +10,11 @@ use Rattle.session_state.specs.Holds.{Holds, IsSameSession}
 use Rattle.session_state.specs.Opened.{plain_shape}
 use Rattle.session_state.specs.Others.{EveryOther, Steps}
 use Rattle.session_desks.specs.Desks.{desk_of}
-use Rattle.session_desks.specs.Machines.{AreDesks, IsDesk, IsMachine}
+use Rattle.session_desks.specs.Machines.{AreDesks, HasNumbers, IsDesk, IsMachine}
 use Rattle.session_desks.specs.declared.desk.Desk.{Desk}
 use Rattle.session_desks.proofs.DeskLemmas.{desk_own, desk_same, place_low}
 use Rattle.session_desks.proofs.FloorLemmas.{steps_floor}
+use Rattle.session_desks.proofs.NumberLemmas.{numbers_seen}
 use Rattle.session_desks.proofs.SeatLemmas.{holds_of, turn_high, turn_low}
 
 module _ (law : EveryOther) (z : Shape) (v w : View) (x y : Desk) (desks : List Desk) (are : AreDesks z v x desks) (works : y.session.works ≡ true) (same : IsSameSession x.session y.session) (steps : Steps x.session.own v w) (holds : Holds z w y.session y.log) where
@@ -64,7 +65,7 @@ machine_behind law f l m f' l' m' words words' v w x y desks marks marks' master
       fits = fits;
       desks = desks_behind law (plain_shape f' l' m') v w x y desks are works same steps holds;
       unmarked = free ∙ (was.unmarked ∙ ap (λ (n : ℕ). replicate n false) (sym (count_same law (plain_shape f' l' m') v w x y desks are works same steps holds)));
-      numbers = record { sequence = was.numbers.sequence; heads = was.numbers.heads ∙ sym same.1 };
+      numbers = subst (HasNumbers master (length w.seen)) (sym same.1) (numbers_seen master v w steps.events x.session.workers steps.seen was.numbers);
       floor = let a = was.floor in let b = steps_floor x.session.own v w steps in omega arith;
     }
   where

@@ -20,8 +20,9 @@ use Rattle.session_desks.specs.Runs.{memory_with}
 use Rattle.session_desks.specs.Syncs.{AllEndAt, AllFlushed, AreRaised, AreRaisedTo, AreStill, AreSynced, Flushed, HasOpening, IsWriting, IsWritten, MeetsSync, SyncFails, SyncMade, all_end_at, ends_at, greatest, next_with, raised_desk}
 use Rattle.session_desks.specs.declared.desk.Desk.{Desk}
 use Rattle.session_desks.proofs.DeskLemmas.{desk_apart, desk_own, get_any, place_low}
+use Rattle.session_desks.proofs.NumberLemmas.{numbers_next, sequence_small}
 use Rattle.session_desks.proofs.SeatLemmas.{turn_high, turn_low}
-use Rattle.session_desks.proofs.SyncMachines.{desk_raised, logged_flushed, numbers_next, sequence_small}
+use Rattle.session_desks.proofs.SyncMachines.{desk_raised, logged_flushed}
 use Rattle.session_desks.proofs.SyncNeeds as needs
 use Rattle.session_desks.proofs.SyncWholes.{master_fails, sync_goes}
 
@@ -92,7 +93,7 @@ module _ (z : Shape) (v : View) (work : Desk) (desks : List Desk) (are : AreDesk
 
 -- ## What a sync needs
 
-module _ (reached : EveryReached) (z : Shape) (u : View) (work : Desk) (desks : List Desk) (are : AreDesks z u work desks) (master : Master) (numbers : HasNumbers master work.session.workers) (o : HasOpening u.given) (logged : AreLogged (state u).core (log_of work desks) work.session.workers)
+module _ (reached : EveryReached) (z : Shape) (u : View) (work : Desk) (desks : List Desk) (are : AreDesks z u work desks) (master : Master) (numbers : HasNumbers master (length u.seen) work.session.workers) (o : HasOpening u.given) (logged : AreLogged (state u).core (log_of work desks) work.session.workers)
     (flushed : AllFlushed work.session.workers (log_of work desks)) (clocks : AreClocksLow u) where
   abbrev number : ℕ
   number = greatest work.session.clock.clock desks
@@ -103,7 +104,7 @@ module _ (reached : EveryReached) (z : Shape) (u : View) (work : Desk) (desks : 
     within = needs.within z u work desks are;
     counted = λ w low high. (logged w low high).flushed ∙ flushed w low high;
     low = needs.number_small z u work desks are clocks;
-    small = sequence_small master work.session.workers numbers;
+    small = sequence_small master (length u.seen) work.session.workers numbers;
   }
 
   pub may_sync_at : (n : ℕ) → n ≡ number → MeetsSync work.session.workers n master u (log_of work desks)
@@ -125,14 +126,14 @@ module _ (reached : EveryReached) (z : Shape) (u : View) (work : Desk) (desks : 
           go (inl le) = le
           go (inr e) = let a = above_floor in absurd (omega arith)
 
-    pub numbers_new : (next : Master) (all_end : Bool) → all_end ≡ all_end_at number work.log desks → (all_end ≡ true → next ≡ master) → (all_end ≡ false → next ≡ next_with master number) → (next.floor ≤ number) × HasNumbers next work.session.workers
+    pub numbers_new : (next : Master) (all_end : Bool) → all_end ≡ all_end_at number work.log desks → (all_end ≡ true → next ≡ master) → (all_end ≡ false → next ≡ next_with master number) → (next.floor ≤ number) × HasNumbers next (length u.seen) work.session.workers
     numbers_new next true e still wrote =
         let low = needs.floor_low z u work desks are reached o logged flushed in let f = ap (λ (m : Master). m.floor) (still refl) in
-        (omega arith, subst (λ (m : Master). HasNumbers m work.session.workers) (sym (still refl)) numbers)
+        (omega arith, subst (λ (m : Master). HasNumbers m (length u.seen) work.session.workers) (sym (still refl)) numbers)
     numbers_new next false e still wrote =
         let f = ap (λ (m : Master). m.floor) (wrote refl) in let up = above_floor (sym e) in (
           omega arith,
-          subst (λ (m : Master). HasNumbers m work.session.workers) (sym (wrote refl)) (numbers_next master number work.session.workers numbers (omega arith) (λ q. omega arith) (high (sym e))),
+          subst (λ (m : Master). HasNumbers m (length u.seen) work.session.workers) (sym (wrote refl)) (numbers_next master number (length u.seen) work.session.workers numbers (omega arith) (λ q. omega arith) (high (sym e))),
         )
 
 -- ## Behind the flushes
@@ -154,7 +155,7 @@ module _ (z : Shape) (v u : View) (work mid : Desk) (desks desks_mid : List Desk
   pub opens_still : HasOpening v.given → HasOpening u.given
   opens_still o = subst HasOpening (sym f.given) o
 
-  module _ (reached : EveryReached) (master : Master) (numbers : HasNumbers master mid.session.workers) (o : HasOpening v.given) (clocks : AreClocksLow u) where
+  module _ (reached : EveryReached) (master : Master) (numbers : HasNumbers master (length u.seen) mid.session.workers) (o : HasOpening v.given) (clocks : AreClocksLow u) where
     abbrev n : ℕ
     n = greatest mid.session.clock.clock desks_mid
 

@@ -1,6 +1,6 @@
 -- The parts of an engine behind a sync.
-use Rattle.std.proofs.Common.{◌≡◌, ◌≤◌, ◌<◌, ◌+◌, ◌*◌, ◌^◌, inl, inr, ℕ, zero, suc, Bool, true, List, [], ◌∷◌, length, get_or, refl, sym, ap, ◌∙◌, subst, arith}
-use Rattle.std.proofs.lemmas.Bool.{cases_eq, cases_lt, cond-true}
+use Rattle.std.proofs.Common.{◌≡◌, ◌≤◌, ◌<◌, inl, inr, ℕ, zero, suc, Bool, true, List, [], ◌∷◌, length, get_or, refl, sym, ap, ◌∙◌, subst, arith}
+use Rattle.std.proofs.lemmas.Bool.{cases_eq, cond-true}
 use Rattle.session_state.specs.core_state.Events as happening
 use Rattle.session_state.specs.core_state.Needs.{may}
 use Rattle.session_state.specs.core_state.States as core
@@ -22,10 +22,11 @@ use Rattle.session_state.specs.Opened.{plain_shape}
 use Rattle.session_state.specs.Syncs.{EverySynced, HasSynced}
 use Rattle.session_desks.specs.Desks.{desk_of, log_of, place_of}
 use Rattle.session_desks.specs.Machines.{AreDesks, AreLogged, HasNumbers, IsDesk, IsMachine}
-use Rattle.session_desks.specs.Syncs.{AreRaised, Flushed, next_with, raised_desk}
+use Rattle.session_desks.specs.Syncs.{AreRaised, Flushed, raised_desk}
 use Rattle.session_desks.specs.declared.desk.Desk.{Desk}
 use Rattle.session_desks.proofs.DeskLemmas.{desk_apart, desk_own, place_low}
 use Rattle.session_desks.proofs.FloorLemmas.{seen_more}
+use Rattle.session_desks.proofs.NumberLemmas.{numbers_seen}
 use Rattle.session_desks.proofs.SeatLemmas.{turn_high, turn_low}
 
 -- ## Desks
@@ -75,25 +76,15 @@ synced_floor v w n s = ap (λ (m : Moment). m.core.floor) (seen_more v w (told.S
 -- ## The parts
 
 pub machine_synced : EverySynced → (f l m f' l' m' : ℕ) (words words' : List ℕ) (v w : View) (work : Desk) (desks news : List Desk) (marks : List Bool) (master next : Master) (n : ℕ) → IsMachine f l m words v work desks marks master → plain_shape f' l' m' ≡ plain_shape f l m
-    → IsPicture (plan (sizes f' l' m') w.given) words' w → AreRaised desks news n → ((u : ℕ) → 0 < u → u ≤ work.session.workers → (log_of work desks u).flushed ≡ (log_of work desks u).last) → HasSynced v w n → next.floor ≤ n → HasNumbers next work.session.workers
+    → IsPicture (plan (sizes f' l' m') w.given) words' w → AreRaised desks news n → ((u : ℕ) → 0 < u → u ≤ work.session.workers → (log_of work desks u).flushed ≡ (log_of work desks u).last) → HasSynced v w n → next.floor ≤ n → HasNumbers next (length v.seen) work.session.workers
     → IsMachine f' l' m' words' w (raised_desk work n) news marks next
 machine_synced law f l m f' l' m' words words' v w work desks news marks master next n was shape fits r flushed sync floor numbers = record {
   fits = fits;
   desks = subst (λ (z : Shape). AreDesks z w (raised_desk work n) news) (sym shape) (desks_synced (plain_shape f l m) v work desks news n was.desks r law w flushed sync);
   unmarked = was.unmarked;
-  numbers = record { sequence = numbers.sequence; heads = numbers.heads };
+  numbers = numbers_seen next v w (told.Sync n ∷ []) work.session.workers sync.seen numbers;
   floor = let a = floor in let b = synced_floor v w n sync in omega arith;
 }
-
--- the next master has numbers too
-pub numbers_next : (m : Master) (n logs : ℕ) → HasNumbers m logs → m.floor ≤ n → (n ≡ m.floor → ⊥) → n ≤ 2 ^ 62 + 66 * 16 → HasNumbers (next_with m n) logs
-numbers_next m n logs h low other high = record { sequence = let a = h.sequence in let b = risen in omega arith; heads = h.heads }
-  where
-    risen : m.floor < n
-    risen = elim (cases_lt m.floor n) [ inl lt ↦ lt | inr le ↦ absurd (other (omega arith)) ]
-
-pub sequence_small : (m : Master) (logs : ℕ) → HasNumbers m logs → m.sequence + 1 < 2 ^ 63
-sequence_small m logs h = let a = h.sequence in omega arith
 
 -- ## The logs behind the flushes
 

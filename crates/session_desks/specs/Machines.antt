@@ -33,9 +33,10 @@ pub record AreDesks (z : Shape) (v : View) (work : Desk) (desks : List Desk) : T
   pub count : suc (length desks) ≡ work.session.workers
   pub each : (w : ℕ) → 0 < w → w ≤ work.session.workers → IsDesk z v work.session w (desk_of work desks w)
 
--- the master that counts has a head for each log, and further sequence numbers for all syncs that may come
-pub record HasNumbers (master : Master) (logs : ℕ) : Type 0 where
-  pub sequence : master.sequence < 2 ^ 61 + min master.floor (2 ^ 62 + 66 * 16)
+-- The master that counts has a head for each log, and further sequence numbers for all syncs and cuts that may come. The master of a sync has a greater floor;
+-- that of a cut has not, but two of the events that were seen are its sync and itself, and none is made behind 2^61 of such.
+pub record HasNumbers (master : Master) (seen logs : ℕ) : Type 0 where
+  pub sequence : 2 * master.sequence < 2 * (2 ^ 61 + min master.floor (2 ^ 62 + 66 * 16)) + min seen (2 ^ 61 + 2)
   pub heads : length master.heads ≡ logs
 
 -- The parts belong together; no lock row is latched.
@@ -43,7 +44,7 @@ pub record IsMachine (frames locks workers : ℕ) (words : List ℕ) (v : View) 
   pub fits : IsPicture (plan (sizes frames locks workers) v.given) words v
   pub desks : AreDesks (plain_shape frames locks workers) v work others
   pub unmarked : marks ≡ replicate work.session.held.count false
-  pub numbers : HasNumbers master work.session.workers
+  pub numbers : HasNumbers master (length v.seen) work.session.workers
   pub floor : master.floor ≤ (state v).core.floor
 
 -- ## The logs

@@ -1,5 +1,5 @@
 -- A machine and its parts, as its functions name them, and what a sync left of it.
-use Rattle.std.specs.Prelude.{◌≡◌, ℕ, true}
+use Rattle.std.specs.Prelude.{◌≡◌, ◌-◌, ℕ, true, length}
 use Rattle.lean_disk.specs.Story.{Story}
 use Rattle.session_state.specs.engine_trait.Calls.{Memory}
 use Rattle.session_state.specs.rows_trait.Plain.{sizes}
@@ -11,7 +11,7 @@ use Rattle.session_state.specs.declared.work.Work.{Work}
 use Rattle.session_desks.specs.Desks.{AreSeated, Turned, log_of}
 use Rattle.session_desks.specs.Runs.{memory_with}
 use Rattle.session_desks.specs.Syncs.{AllFlushed, AreRaisedTo, AreStill, AreSynced, FlushFails, Flushed, FlushedOne, MayFlushEach, SyncFails, SyncMade}
-use Rattle.session_desks.specs.Machines.{AreLogged, IsMachine}
+use Rattle.session_desks.specs.Machines.{AreLogged, HasNumbers, IsMachine}
 use Rattle.session_desks.specs.declared.desk.Desk.{Desk}
 use Rattle.session_desks.specs.declared.machine.Machine.{Machine}
 
@@ -101,6 +101,10 @@ IsRaised m n number = AreRaisedTo m.work.session.workers (here m) m.desks.items 
 -- behind the flushes of a sync too
 abbrev pub IsSynced : {D : Type 0} → Machine D → Machine D → (number : ℕ) → Type 0
 IsSynced m n number = AreSynced m.work.session.workers (here m) m.desks.items (here n) n.desks.items number
+
+-- the master has numbers without the last event, the sync, too: so a cut may follow
+abbrev pub HasNumbersToCut : {D : Type 0} → Machine D → Type 0
+HasNumbersToCut m = HasNumbers m.master (length m.seat.view.seen - 1) m.work.session.workers
 
 -- all of a sync was done
 abbrev pub MakesSync : {D : Type 0} → (story : D → Story) → Machine D → Machine D → (number : ℕ) → Type 0

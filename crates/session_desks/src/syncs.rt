@@ -9,7 +9,7 @@ ghost use Rattle.session_state.specs.Staging.{KeepsLog};
 ghost use Rattle.session_state.specs.Syncs.{HasNoneBehind, HasSynced, MayFlush, synced_session};
 ghost use Rattle.session_state.specs.rows_trait.Views.{state};
 ghost use Rattle.session_desks.specs.Desks.{desk_of};
-ghost use Rattle.session_desks.specs.Parts.{AreAsMany, FailsToFlush, FailsToSync, FlushesAll, FlushesOne, HasLogs, IsFlushed, IsRaised, IsSound, IsStill, IsSynced, MakesSync, MaySync, SeatFits, Works, here, logs};
+ghost use Rattle.session_desks.specs.Parts.{AreAsMany, FailsToFlush, FailsToSync, FlushesAll, FlushesOne, HasLogs, HasNumbersToCut, IsFlushed, IsRaised, IsSound, IsStill, IsSynced, MakesSync, MaySync, SeatFits, Works, here, logs};
 ghost use Rattle.session_desks.specs.Syncs.{AreRaised, HasOpening, IsWriting, IsWritten, all_end_at, all_find_room, ends_at, finds_room_desk, greatest, next_with};
 
 use crate::desk::Desk;
@@ -206,6 +206,7 @@ impl<D: Stages> Machine<D> {
         ensures session { AreAsMany self.old self.new }
         ensures synced { IfOk result (HasSynced self.old.seat.view self.new.seat.view) }
         ensures raised { IfOk result (IsRaised self.old self.new) }
+        ensures numbers { IfOk result (λ _. HasNumbersToCut self.new) }
         ensures number { IfOk result (λ n. n ≡ greatest self.old.work.session.clock.clock self.old.desks.items) }
         ensures written { IfOk result (λ n. IsWritten D.story self.old.work.session.workers n (logs self.old) self.old.master self.new.master self.old.work.disk self.new.work.disk) }
         ensures failed { IsErr result → IsWriting (next_with self.old.master (greatest self.old.work.session.clock.clock self.old.desks.items)) (D.story self.old.work.disk) (D.story self.new.work.disk) }
@@ -242,6 +243,7 @@ impl<D: Stages> Machine<D> {
         ensures session { AreAsMany self.old self.new }
         ensures sessions { IfOk result (IsSynced self.old self.new) }
         ensures may { IfOk result (λ _. MaySync self.new) }
+        ensures numbers { IfOk result (λ _. HasNumbersToCut self.new) }
         ensures made { IfOk result (MakesSync D.story self.old self.new) }
         ensures failed { IsErr result → FailsToSync D.story self.old self.new }
         ensures works { Works self.new ↔ (IsErr result → ⊥) }

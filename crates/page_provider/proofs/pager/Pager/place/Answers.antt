@@ -1,12 +1,12 @@
 use Rattle.std.proofs.Common.{◌≡◌, ◌≤◌, ◌∙◌, ℕ, Option, arith, subst}
 use Rattle.std.proofs.lemmas.Result.{IfOk-weaker, err_from_is_err_and}
 use Rattle.btree_descent.specs.rows_trait.Views.{Shape}
-use Rattle.page_provider.specs.Comes.{Fills, IsUnseen}
+use Rattle.page_provider.specs.Comes.{Fills, IsUnseen, PlaceCause}
 use Rattle.page_provider.specs.Ends.{HasRefused}
 use Rattle.page_provider.specs.Faults.{Faulted}
 use Rattle.page_provider.specs.Finds.{Halts}
 use Rattle.page_provider.specs.declared.refusal.Refusal.{Refusal}
-use Rattle.page_provider.proofs.Filling.{faulted_then, halts_fault, refused_behind}
+use Rattle.page_provider.proofs.Filling.{faulted_then, halts_fault, refused_behind, room_cause}
 use Rattle.page_provider.proofs.Moving.{refused_up}
 use Rattle.page_provider.proofs.Parts.{cause_to, err_to}
 use Rattle.page_provider.proofs.Placing.{unseen_disk}
@@ -27,6 +27,19 @@ returns-in_err-frame-clause-err g c =
     let e : why ≡ p.0 = cc in
     let P : Refusal → Type 0 = λ q. HasRefused 4 z c.args.path.now v c.args.self.now q w c.room.new.self in
     if_err c.from_residual.result p.0 P p.1 (subst P e (refused_up (let few : 3 ≤ 4 = omega arith in few) c.in_err-frame.ensures.err))
+
+pub returns-in_err-frame-clause-cause : goal.returns-in_err-frame-clause-cause
+returns-in_err-frame-clause-cause g c =
+    let z = g.R.Rows.shape c.args.rows.now in
+    let v = g.R.Rows.view c.args.seat.now in
+    let w = g.R.Rows.view c.room.new.seat in
+    let p = err_from_is_err_and c.from_residual.result c.from_residual.ensures.1 in
+    let p2 = p.2 in
+    let why = c.in_err-frame.field-0.0 in
+    let e : why ≡ p.0 = cc in
+    let P : Refusal → Type 0 = PlaceCause z c.args.path.now v c.args.page w c.room.new.self in
+    let o = c.in_err-frame.ensures in
+    if_err c.from_residual.result p.0 P p.1 (subst P e (room_cause z c.args.path.now c.args.page v w c.room.new.self why o.kind o.full o.cold c.requires.contents.cold))
 
 pub returns-clause-ok : goal.returns-clause-ok
 returns-clause-ok g c =

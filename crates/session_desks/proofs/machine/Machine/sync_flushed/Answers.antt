@@ -1,9 +1,12 @@
 use Rattle.std.proofs.Common.{◌≡◌, ◌≤◌, true, false, ⊎_elim, ap, sym, subst, ◌∙◌, arith, true≢false}
 use Rattle.std.proofs.lemmas.Bool.{cases_Bool}
+use Rattle.session_state.specs.row_words.declared.event.Event.TheVariants as told
+use Rattle.session_state.specs.declared.session.Session.{Session}
 use Rattle.session_desks.specs.Parts.{here, shape}
 use Rattle.session_desks.specs.Machines.{IsMachine}
 use Rattle.session_desks.specs.Syncs.{IsWriting, IsWritten, all_end_at, greatest, next_with}
 use Rattle.session_desks.specs.declared.desk.Desk.{Desk}
+use Rattle.session_desks.proofs.NumberLemmas.{numbers_before}
 use Rattle.session_desks.proofs.SyncGoes.{at_desk, at_store, end_at_all, end_at_none, may_sync_at, numbers_new, raised_to}
 use Rattle.session_desks.proofs.SyncMachines.{machine_synced}
 use Rattle.session_desks.proofs.SyncNeeds.{numbered}
@@ -77,6 +80,19 @@ returns-clause-machine g c =
     subst (λ (d : Desk). IsMachine rows.frames rows.locks rows.workers rows.words.items c.store_synced.new.seat.view d c.raise_desks.new.desks.items s.latches c.write_floor.new.master) (λ i. record { session = sym c.raise.ensures.session i; log = sym c.raise.ensures.log i })
     (machine_synced c.every_synced.ensures s.rows.frames s.rows.locks s.rows.workers rows.frames rows.locks rows.workers s.rows.words.items rows.words.items s.seat.view c.store_synced.new.seat.view x s.desks.items c.raise_desks.new.desks.items s.latches s.master c.write_floor.new.master n
     c.requires.machine c.store_synced.ensures.fits.1 c.store_synced.ensures.fits.0 c.raise_desks.ensures c.requires.flushed c.store_synced.ensures.synced (let a = next.0 in omega arith) next.1)
+
+pub returns-clause-numbers : goal.returns-clause-numbers
+returns-clause-numbers g c =
+    let s = c.args.self.now in
+    let x : Desk = here s in
+    let z = shape s in
+    let are = c.requires.machine.desks in
+    let at = c.greatest_clock-number.ensures ∙ ap (greatest s.work.session.clock.clock) c.deref.ensures.value in
+    let n = c.greatest_clock-number.result in
+    let e = c.in_default.ensures in
+    let next = numbers_new c.every_reached.ensures z s.seat.view x s.desks.items are s.master c.requires.machine.numbers c.requires.opens c.requires.logged c.requires.flushed c.clocks_low.ensures c.requires.machine.floor c.write_floor.new.master
+    c.end_at-all_end.result (c.end_at-all_end.ensures ∙ (ap (all_end_at n x.log) c.deref-2.ensures.value ∙ ap (λ k. all_end_at k x.log s.desks.items) at)) (λ q. (e.same q).2) (λ q. subst (λ k. c.write_floor.new.master ≡ next_with s.master k) at (e.next q).1) in
+    numbers_before c.write_floor.new.master s.seat.view c.store_synced.new.seat.view (told.Sync n) x.session.workers c.raise.new.session.workers c.store_synced.ensures.synced.seen (ap (λ (k : Session). k.workers) c.raise.ensures.session) next.1
 
 pub returns-clause-raised : goal.returns-clause-raised
 returns-clause-raised g c =
