@@ -19,7 +19,8 @@ use Rattle.lean_shell.specs.Runs.HowRun.{OfCut, OfReason, OfScript}
 use Rattle.lean_shell.specs.declared.failure.Failure.TheVariants.{Usage, DiskFault, Memory, AlreadyFormatted}
 use Rattle.lean_shell.specs.Endings.{FormatEnds, IsFormatStatus, IsStatus, Stays, UsageEnds, WentOut, last_line, number_of}
 use Rattle.lean_disk.specs.Told.{TellsOn, OnlyNotes}
-use Rattle.lean_shell.specs.Inside.Commands.{CommandEnds, Counts, UnreadEnds}
+use Rattle.lean_shell.specs.Completeness.{Faults}
+use Rattle.lean_shell.specs.Inside.Commands.{CommandEnds, UnreadEnds}
 use Rattle.lean_shell.specs.Inside.Openings.{Refuses}
 use Rattle.lean_shell.specs.Words.{AsksDump, AsksFormat, AsksMake, AsksNothing, AsksRun, Gives, Names}
 use Rattle.lean_shell.specs.Makes.{Came, MakeEnds, WentMade, made_line, make_size}
@@ -203,7 +204,7 @@ usage_moments s0 s1 law notes = noted_moments s0 s0 s1 (Stays s0) (stays_of_byte
 
 -- ## Ends
 
-module _ (words : List (List ℕ)) (status : ℕ) (events : List Event) (s0 s1 : Story) (feed0 feed1 : Feed) (held0 held1 : Held) (before now : Counts) where
+module _ (words : List (List ℕ)) (status : ℕ) (events : List Event) (s0 s1 : Story) (feed0 feed1 : Feed) (held0 held1 : Held) (before now : Faults) where
   abbrev Ends : Type 0
   Ends = CommandEnds words status events s0 s1 feed0 feed1 held0 held1 before now
 

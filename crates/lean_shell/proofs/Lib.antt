@@ -1,4 +1,5 @@
 mod CommandLemmas
+mod CompletenessLemmas
 mod Dumps
 mod EndLemmas
 mod MakeLemmas

@@ -1,4 +1,4 @@
--- Of `format` read Words and Endings, behind disk_format's; of `run` Headline first, with Crashes; then Lines, Starts, Runs and Ends; of `make` Makes, behind workload_run's; of `dump` Dumps. Inside has the words of private functions.
+-- Of `format` read Words and Endings, behind disk_format's; of `run` Headline first, with Crashes; then Lines, Starts, Runs and Ends; of `make` Makes, behind workload_run's; of `dump` Dumps; of all of them Completeness. Inside has the words of private functions.
 pub mod Words
 pub mod Endings
 pub mod Lines
@@ -9,6 +9,7 @@ pub mod Starts
 pub mod Ends
 pub mod Dumps
 pub mod Makes
+pub mod Completeness
 pub mod Inside
 -- Passed on to the crates above.
 pub use Rattle.buffered_engine.specs.call_parts as call_parts

@@ -4,6 +4,7 @@ ghost use Rattle.lean_disk.specs.Faults.{HasCause, IsBlamed};
 ghost use Rattle.buffered_engine.specs.lean_edge.Outside.{added};
 ghost use Rattle.buffered_engine.specs.recovery.Telling.{TellsAll};
 ghost use Rattle.buffered_engine.specs.engine_front.Fronts.{events_in};
+ghost use Rattle.lean_shell.specs.Completeness.{IsComplete, NoneFailed};
 ghost use Rattle.lean_shell.specs.Dumps.{DumpEnds};
 ghost use Rattle.lean_shell.specs.Ends.{RunEnds};
 ghost use Rattle.lean_shell.specs.Headline.{Headline};
@@ -160,6 +161,12 @@ pub fn run<R: Threads + Wait + Sync, S: Source, K: Sink<D>, D: Hosts, G: Gate + 
 
     // The source is read by a run alone.
     ensures source { ((size : Size) → Asks (texts words.now) (Run size) → ⊥) → source.new ≡ source.old }
+
+    // Where nothing fails and the disk is as it should be, each command does what it is asked, or memory was refused.
+    ensures complete { NoneFailed (record { source = S.faults source.old; sink = K.faults sink.old; disk = D.faults disk }) (record { source = S.faults source.new; sink = K.faults sink.new; disk = D.faults result.disk }) → IsComplete (texts words.now) result.status (D.story disk) (D.story result.disk) (S.feed source.old) (K.held sink.old) (K.held sink.new)
+        (record { source = S.faults source.old; sink = K.faults sink.old; disk = D.faults disk }) (record { source = S.faults source.new; sink = K.faults sink.new; disk = D.faults result.disk }) }
 {
+    // A disk with a place that breaks a rule is not clean.
+    disk_image::every_break();
     run_alone(alloc, words, source, sink, disk)
 }

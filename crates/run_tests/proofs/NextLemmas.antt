@@ -12,6 +12,7 @@ use Rattle.lean_shell.specs.disk_slots.declared.master.Master.{Master}
 use Rattle.lean_shell.specs.disk_image.Fair.{IsFairCrash}
 use Rattle.lean_shell.specs.disk_image.MasterSlots.{master_on}
 use Rattle.lean_shell.specs.disk_image.Shown.{Areas, IsCleanDisk}
+use Rattle.lean_shell.specs.recovery.Masters.{IsOpenable}
 use Rattle.lean_shell.specs.Crashes.{HasMasterOf, IsUnwritten, IsYoung, MasterLeaves, TellsCrashes}
 use Rattle.lean_shell.specs.Headline.{RunLeaves, Survives}
 use Rattle.lean_shell.specs.Runs.{AreOf}
@@ -40,6 +41,13 @@ next_generation m n area is = elim is [
   | inr o ↦ let a : o.first.generation ≡ suc m.generation = ap (λ (x : Master). x.generation) o.next.is in let b : n.generation ≡ o.first.generation = o.later.generation in omega (arith, a, b)
 ]
 
+-- of as many logs, with numbers that are not far above
+openable_again : (m n : Master) (most : ℕ) → length n.heads ≡ length m.heads → n.sequence < m.sequence + 2 ^ 60 → n.generation ≤ suc m.generation → m.generation + 1 < 2 ^ 62 → IsOpenable most m → m.sequence < 2 ^ 60 → IsOpenable most n
+openable_again m n most logs raised later generation o small =
+    let some = o.some in
+    let few = o.few in
+    record { some = omega arith; few = omega arith; sequence = omega arith; generation = omega arith }
+
 -- where nothing was written yet, a crash leaves what stood there
 unwritten_image : EveryArea → (m : Master) (first : MemDisk) (areas : ℕ) (bytes : Areas) (input put : List ℕ) (c : Crash) → Begins areas bytes (disk_story first) → IsUnwritten m (disk_story first) input put c →
     c.image ≡ areas_of (disk_story first)
@@ -55,8 +63,8 @@ module _ (told : EveryArea) (m : Master) (first last left : MemDisk) (x : IsCutO
   abbrev Ready : Type 0
   Ready = IsReadyAgain m (disk_story first) (disk_story left) x.feed.left x.ends.put
 
-  ready : (n : Master) → (n ≡ m) ⊎ IsOfOpening m (areas_of (disk_story first)) n → n.sequence < m.sequence + 2 ^ 60 → IsCleanDisk n c.image → IsOfMap m (disk_story first) x.feed.left x.ends.put c.image → Ready
-  ready n is raised clean map = record {
+  ready : (n : Master) → (n ≡ m) ⊎ IsOfOpening m (areas_of (disk_story first)) n → length n.heads ≡ length m.heads → n.sequence < m.sequence + 2 ^ 60 → IsCleanDisk n c.image → IsOfMap m (disk_story first) x.feed.left x.ends.put c.image → Ready
+  ready n is logs raised clean map = record {
     n = n;
     is = is;
     tells = λ most. tells_crashes told most left (disk_story last).areas (areas_of (disk_story left)) x.after.begins;
@@ -64,17 +72,18 @@ module _ (told : EveryArea) (m : Master) (first last left : MemDisk) (x : IsCutO
     young = young_again m n (areas_of (disk_story first)) (disk_story left) is (let a = x.sequence in omega arith) x.generation x.after.begins.notes;
     raised = raised;
     next_generation = next_generation m n (areas_of (disk_story first)) is;
+    openable = λ most o small. openable_again m n most logs raised (next_generation m n (areas_of (disk_story first)) is) x.generation o small;
     map = subst (IsOfMap m (disk_story first) x.feed.left x.ends.put) image map;
   }
 
   stands : c.image ≡ areas_of (disk_story first) → Ready
-  stands same = ready m (inl refl) (omega arith) (subst (IsCleanDisk m) (sym same) x.clean) (inl same)
+  stands same = ready m (inl refl) refl (omega arith) (subst (IsCleanDisk m) (sym same) x.clean) (inl same)
 
   by_master : HasMasterOf x.size (AreOf x.ends.how) m (disk_story first) x.feed.left x.ends.put c → Survives m (disk_story first) x.feed.left x.ends.put c → Ready
   by_master h s =
       let one : h.n ≡ s.n = sym (one_master h.n s.n (c.image 0) h.counts s.clean.master) in
       let raised : h.n.sequence < m.sequence + 2 ^ 60 = let same = ap (λ (n : Master). n.sequence) one in let a = s.near.sequence in omega arith in
-      ready h.n h.is raised (subst (λ n. IsCleanDisk n c.image) (sym one) s.clean) (inr (c, refl, s))
+      ready h.n h.is (ap (λ (n : Master). length n.heads) one ∙ s.of_run.logs) raised (subst (λ n. IsCleanDisk n c.image) (sym one) s.clean) (inr (c, refl, s))
 
   by_map : HasMasterOf x.size (AreOf x.ends.how) m (disk_story first) x.feed.left x.ends.put c → RunLeaves m (disk_story first) x.feed.left x.ends.put c → Ready
   by_map h leaves = elim leaves [

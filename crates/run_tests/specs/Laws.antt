@@ -10,6 +10,7 @@ use Rattle.lean_shell.specs.disk_slots.declared.master.Master.{Master}
 use Rattle.lean_shell.specs.disk_image.Fair.{IsFairCrash}
 use Rattle.lean_shell.specs.disk_image.Shown.{Areas, IsCleanDisk}
 use Rattle.lean_shell.specs.paged_engine.declared.opening.Size.{Size}
+use Rattle.lean_shell.specs.recovery.Masters.{IsOpenable}
 use Rattle.lean_shell.specs.Crashes.{IsYoung, TellsCrashes}
 use Rattle.lean_shell.specs.Ends.{RunEnds}
 use Rattle.lean_shell.specs.Headline.{Headline, Survives}
@@ -56,6 +57,8 @@ pub record IsReadyAgain (m : Master) (first left : Story) (input output : List �
   -- and so the run behind it finds numbers, while there are so many left
   pub raised : n.sequence < m.sequence + 2 ^ 60
   pub next_generation : n.generation ≤ suc m.generation
+  -- and it is opened, if the disk before could be and its sequence number was so small
+  pub openable : (most : ℕ) → IsOpenable most m → m.sequence < 2 ^ 60 → IsOpenable most n
   pub map : IsOfMap m first input output (areas_of left)
 
 -- After a crash of a run the next run's premises hold.

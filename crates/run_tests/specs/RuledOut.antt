@@ -26,11 +26,16 @@ use Rattle.lean_shell.specs.recovery.Telling.{TellsAll}
 use Rattle.lean_shell.specs.script_lang.Lines.{Spells, line_of}
 use Rattle.lean_shell.specs.script_lang.Text.{script_lines}
 use Rattle.lean_shell.specs.script_lang.declared.line.Line.{Line}
+use Rattle.lean_shell.specs.transcripts.Told.{ask}
 use Rattle.lean_shell.specs.transcripts.Transcripts.{durables, first_lines}
 use Rattle.lean_shell.specs.paged_engine.declared.opening.Size.{Size}
+use Rattle.lean_shell.specs.lean_edge.Outside.{Feed, Held}
+use Rattle.lean_shell.specs.Completeness.{Faults, IsComplete, IsReady, IsScript, NoneFailed}
 use Rattle.lean_shell.specs.Headline.{Survives}
 use Rattle.lean_shell.specs.Runs.{Counts, Executed}
 use Rattle.lean_shell.specs.Starts.{IsRoomOfNext}
+use Rattle.lean_shell.specs.Words.{Asks as AsksFor}
+use Rattle.lean_shell.specs.declared.words.Command.TheVariants.{Run}
 
 -- ## A crash loses nothing
 
@@ -175,6 +180,28 @@ pub record StoppedLaws (sessions : ℕ) (input : List ℕ) (heard : List Done) (
 
 abbrev pub EveryStoppedCall : Type 0
 EveryStoppedCall = (input : List ℕ) (g : Opening) (heard : List Done) (es : List Event) → IsRoomOfNext input g heard es → StoppedLaws g.workers input heard es
+
+-- ## A line that is left out
+
+-- An outcome of a run on this disk is the answer to what the line asks.
+pub record HasItsAnswer (size : Size) (s : Story) (text : List ℕ) : Type 0 where
+  pub counts : Counts
+  pub calls : List Done
+  pub executed : Executed size s counts calls
+  pub it : Done
+  pub has : Has it calls
+  pub asks : text ≡ ask it.outcome.session (asked it.outcome.deed)
+
+-- The disk was opened, no line was refused, and none was left out.
+pub record NothingLacks (size : Size) (status : ℕ) (s : Story) (input : List ℕ) : Type 0 where
+  pub opened : status ≡ 7 → ⊥
+  pub accepted : status ≡ 3 → ⊥
+  pub each : status ≡ 0 → (text : List ℕ) → Has text (script_lines input) → HasItsAnswer size s text
+
+-- So it is of a run of a script in the grammar on a disk that is ready, where source, sink and disk did not fail.
+abbrev pub EveryLineIsAnswered : (s0 s1 : Story) → Type 0
+EveryLineIsAnswered s0 s1 = (words : List (List ℕ)) (status : ℕ) (feed : Feed) (held0 held1 : Held) (before now : Faults) → (NoneFailed before now → IsComplete words status s0 s1 feed held0 held1 before now) → NoneFailed before now →
+    (size : Size) (m : Master) → AsksFor words (Run size) → IsReady size.sessions m s0 → IsScript (length m.heads) feed before.source now.source → NothingLacks size status s0 feed.left
 
 -- ## What a disk holds
 

@@ -5,7 +5,7 @@ ghost use Rattle.std.specs.Prelude.{codes};
 ghost use Rattle.lean_shell.specs.disk_slots.Slots as slots;
 ghost use Rattle.lean_shell.specs.log_block.Block as blocks;
 ghost use Rattle.run_tests.specs.Laws.{EveryNextRun};
-ghost use Rattle.run_tests.specs.RuledOut.{EveryDurableIsFound, EveryFirstBegin, EveryFirstCommit, EveryKeyStands, EveryOtherKeyStands, EveryReadIsFair, EveryStoppedCall};
+ghost use Rattle.run_tests.specs.RuledOut.{EveryDurableIsFound, EveryFirstBegin, EveryFirstCommit, EveryKeyStands, EveryLineIsAnswered, EveryOtherKeyStands, EveryReadIsFair, EveryStoppedCall};
 ghost use Rattle.run_tests.specs.Ties.{EveryConflictIsAborted, EveryFlushedIsLeft, EveryHandIsNext, EveryPairIsHeld, EveryUsedIsWritten};
 
 use lean_disk::Disk;
@@ -50,6 +50,11 @@ pub fn every_first_commit<D: Disk>(disk: &D)
 /// What a call that was not answered leaves is what a line of the script may do: only a put changes the tree, and only an abort puts back.
 pub fn every_stopped_call()
     ensures { EveryStoppedCall }
+{}
+
+/// A run on a clean disk, where nothing fails, refuses no line of the grammar and leaves none out.
+pub fn every_line_is_answered<D: Disk>(old: &D, new: &D)
+    ensures { EveryLineIsAnswered (D.story old.now) (D.story new.now) }
 {}
 
 /// What an area holds after writes of any places and lengths in it is a fair image.

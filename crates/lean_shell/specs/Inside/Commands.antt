@@ -4,6 +4,7 @@ use Rattle.lean_disk.specs.Faults.{HasCause, IsBlamed}
 use Rattle.lean_disk.specs.Story.{Story}
 use Rattle.buffered_engine.specs.lean_edge.Outside.{Feed, Held, added}
 use Rattle.buffered_engine.specs.recovery.Telling.{TellsAll}
+use Rattle.lean_shell.specs.Completeness.{Faults}
 use Rattle.lean_shell.specs.Dumps.{DumpEnds}
 use Rattle.buffered_engine.specs.core_state.Events.{Event}
 use Rattle.lean_shell.specs.Ends.{RunEnds}
@@ -16,14 +17,8 @@ use Rattle.lean_shell.specs.declared.make.Workload.{Workload}
 use Rattle.buffered_engine.specs.disk_format.declared.shape.Shape.{Shape}
 use Rattle.buffered_engine.specs.paged_engine.declared.opening.Size.{Size}
 
--- how often source, sink and disk had failed
-pub record Counts : Type 0 where
-  pub source : ℕ
-  pub sink : ℕ
-  pub disk : ℕ
-
 -- How a command ended, on what told s0, feed0 and held0 and tells s1, feed1 and held1.
-pub record CommandEnds (words : List (List ℕ)) (status : ℕ) (events : List Event) (s0 s1 : Story) (feed0 feed1 : Feed) (held0 held1 : Held) (before now : Counts) : Type 0 where
+pub record CommandEnds (words : List (List ℕ)) (status : ℕ) (events : List Event) (s0 s1 : Story) (feed0 feed1 : Feed) (held0 held1 : Held) (before now : Faults) : Type 0 where
   pub known : IsStatus status
   pub usage : status ≡ 2 → AsksNothing words
   pub cause_read_fault : HasCause before.source now.source (status ≡ 4)
