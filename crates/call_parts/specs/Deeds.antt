@@ -62,7 +62,7 @@ abbrev pub IsRefusedOr : Refusal → Answer → Type 0
 IsRefusedOr why a = (a ≡ answer.Refused why) ⊎ ((a ≡ answer.Refused refusal.RowSpent) ⊎ (a ≡ answer.Refused refusal.ClockSpent))
 
 -- In the state behind all events of the call, with the log as it was before it, a refusal has its cause; it comes where the state before them has one, and then
--- no page is given to the tree, and where it is sure the tree is as it was. A put makes room for its key, and no call else changes the tree.
+-- no page is given to the tree, and where it is sure the tree is as it was. A put makes room for its key, a del tidies, and no call else changes the tree.
 pub record Answers (g : Opening) (xs : List Done) (x : Done) (was : Log) : Type 0 where
   -- they are few, so in a run of fewer than 2^40 lines, and of fewer than 2^34 steps of scans and aborts behind them, no latch is ever spent
   pub few : length x.events ≤ most_of (asked x.outcome.deed)
@@ -86,7 +86,7 @@ pub record Keeps (g : Opening) (group : ℕ) (xs : List Done) (x : Done) (s0 : C
   pub memory : IsOf g is answers.known
   pub within : LeavesOnly old new (Beside g.workers (any is_save x.events) (any is_sync x.events) old)
 
--- A device failed: a crash leaves what one before the call does, or behind some first events by which it moved pages, made room, put changes back or flushed logs; or
+-- A device failed: a crash leaves what one before the call does, or behind some first events by which it moved pages, changed the tree, put changes back or flushed logs; or
 -- what one after the first events of a call that would be answered so.
 pub data Stops (g : Opening) (group : ℕ) (xs : List Done) (own : ℕ) (c : Call) (s0 : Crash) (k : Known) (old new : Story) : Type 0 where
   Nothing : (es : List Event) → IsRoomFor g xs own (call_behind (outcomes xs) c) es → LeavesOnly old new (CallLeaves g xs es s0 k.master) → Stops g group xs own c s0 k old new

@@ -12,6 +12,8 @@ use Rattle.session_state.specs.core_calls.Steps.{call_behind, is_structure}
 use Rattle.session_state.specs.core_state.States.{State}
 use Rattle.session_state.specs.engine_trait.Rooms.{needs_sync}
 use Rattle.session_state.specs.tidy_rules.Rooms.{MakesRoom, NoneGoes}
+use Rattle.session_state.specs.tidy_rules.Tidying.{Stage, Tidies}
+pub use Rattle.session_state.specs.tidy_rules.Tidying.{ChangesTree}
 use Rattle.call_parts.specs.Steps.{moves_page}
 
 -- ## Which events
@@ -36,17 +38,19 @@ takes_row own row Mode.Alone (Event.Lock w i Mode.Alone) = (w == own) && (i == r
 takes_row own row Mode.Shared (Event.Lock w i Mode.Shared) = (w == own) && (i == row)
 takes_row own row mode _ = false
 
--- a row is given up as it stood, or session `own` takes tombstones out of a leaf or gives the tree a page
-abbrev pub gives_room : (own : ℕ) → Event → Bool
-gives_room own (Event.Miss w) = true
-gives_room own (Event.Purge w p keys) = w == own
-gives_room own (Event.Split w l r q i) = w == own
-gives_room own (Event.Lift w c) = w == own
-gives_room own _ = false
+-- a row is given up as it stood, or session `own` takes tombstones out of a leaf, or gives the tree a page or takes one from it
+abbrev pub changes_tree : (own : ℕ) → Event → Bool
+changes_tree own (Event.Miss w) = true
+changes_tree own (Event.Purge w p keys) = w == own
+changes_tree own (Event.Split w l r q i) = w == own
+changes_tree own (Event.Lift w c) = w == own
+changes_tree own (Event.Join w l r q) = w == own
+changes_tree own (Event.Drop w c) = w == own
+changes_tree own _ = false
 
--- each takes the row, makes room, or moves pages: none changes a value or ends anything
+-- each takes the row, changes the tree, or moves pages: none changes a value or ends anything
 abbrev pub AreRoom : (own row : ℕ) → Mode → List Event → Type 0
-AreRoom own row mode es = all (λ e. takes_row own row mode e || (gives_room own e || is_paging e)) es ≡ true
+AreRoom own row mode es = all (λ e. takes_row own row mode e || (changes_tree own e || is_paging e)) es ≡ true
 
 -- a row is given up as it stood, or session `own` puts a change back
 abbrev pub puts_back : (own : ℕ) → Event → Bool
@@ -81,22 +85,17 @@ grows _ = false
 
 -- ## By call
 
--- a put of session `own` makes room for its key, and every other call leaves the tree as it is
-abbrev pub ChangesTree : (own : ℕ) → Opening → State → Call → List Event → Type 0
-ChangesTree own g s (call.Put key value) es = MakesRoom own g s key es
-ChangesTree own g s _ es = any is_structure es ≡ false
-
 -- no tombstone of the leaf of the key that a put asks for can go
 abbrev pub NoneGoesFor : Opening → State → Call → Type 0
 NoneGoesFor g s (call.Put key value) = NoneGoes g s key
 NoneGoesFor g s c = Unit {0}
 
--- Behind these outcomes, by these events a put took its key's row and made room for the key, a get and a del took their rows, a scan took rows and passed gaps, an
--- abort put changes back, all of which may move pages; a sync and a begin flushed logs for a sync; and any other call did nothing.
+-- Behind these outcomes, by these events a put took its key's row and made room for the key, a del took its row and tidied, a get took its row, a scan took rows and
+-- passed gaps, an abort put changes back, all of which may move pages; a sync and a begin flushed logs for a sync; and any other call did nothing.
 abbrev pub HasDoneFor : Opening → List Done → (own : ℕ) → Call → List Event → Type 0
 HasDoneFor g xs own (call.Put key value) es = AreRoom own (g.row_of key) Mode.Alone es × MakesRoom own g (state_after g (front xs)) key es
 HasDoneFor g xs own (call.Get key) es = AreRoom own (g.row_of key) Mode.Shared es × (any is_structure es ≡ false)
-HasDoneFor g xs own (call.Del key) es = AreRoom own (g.row_of key) Mode.Alone es × (any is_structure es ≡ false)
+HasDoneFor g xs own (call.Del key) es = AreRoom own (g.row_of key) Mode.Alone es × Tidies own g (state_after g (front xs)) key Stage.Before es
 HasDoneFor g xs own (call.Scan from to) es = AreWalk own es × (any is_structure es ≡ false)
 HasDoneFor g xs own call.Abort es = AreBacks own es
 HasDoneFor g xs own c es = AreReady (needs_sync g xs own c) es

@@ -15,7 +15,8 @@ use Rattle.paged_desks.specs.rows_trait.declared.view.View.{View}
 use Rattle.paged_desks.specs.declared.machine.PagedMachine.{PagedMachine}
 use Rattle.paged_desks.specs.Calls.{EndsWork, works_behind}
 use Rattle.paged_calls.specs.Calls.{IsEarly}
-use Rattle.paged_calls.specs.Changes.{DelsWarm}
+use Rattle.row_walks.specs.declared.steps.At.TheVariants as begun
+use Rattle.paged_calls.specs.Tidyings.{Dels}
 
 -- ## What comes before all else
 
@@ -28,26 +29,26 @@ untaken_late _ v w own row mode n e = absurd n
 pub clock_late : (clock : ℕ) (why : Refusal) → clock_refusal clock None ≡ Some why → IsEarly (unserved.Refused why) → ⊥
 clock_late clock why e = subst (λ k. IsEarly (unserved.Refused k) → ⊥) (sym (clock_at_end clock why e).is) (λ early. early)
 
-pub dels_late : {D : Type 0} (story : D → Story) (key : ℕ) (r : Result (Option ℕ) Unserved) (m n : PagedMachine D) → DelsWarm story key r m n → IsErrAnd r IsEarly → ⊥
-dels_late story key (Ok was) m n d e = e
-dels_late story key (Err (unserved.Refused refusal.RowSpent)) m n d e = e
-dels_late story key (Err (unserved.Refused refusal.ClockSpent)) m n d e = e
-dels_late story key (Err (unserved.Unanswered unanswered.DiskFault)) m n d e = e
-dels_late story key (Err (unserved.Unanswered (unanswered.Damaged place))) m n d e = e
-dels_late story key (Err _) m n d e = absurd d
+pub dels_late : {D : Type 0} (story : D → Story) (key most : ℕ) (r : Result (Option ℕ) Unserved) (m n : PagedMachine D) → Dels story key begun.Before most r m n → IsErrAnd r IsEarly → ⊥
+dels_late story key most (Ok was) m n d e = e
+dels_late story key most (Err (unserved.Refused refusal.RowSpent)) m n d e = e
+dels_late story key most (Err (unserved.Refused refusal.ClockSpent)) m n d e = e
+dels_late story key most (Err (unserved.Unanswered unanswered.DiskFault)) m n d e = e
+dels_late story key most (Err (unserved.Unanswered (unanswered.Damaged place))) m n d e = e
+dels_late story key most (Err _) m n d e = absurd d
 
 -- ## What a script is told
 
 pub clock_comes : (workers clock : ℕ) (why : Refusal) → clock_refusal clock None ≡ Some why → MayRefuse workers (unserved.Refused why) ⊎ EndsWork (unserved.Refused why)
 clock_comes workers clock why e = subst (λ k. MayRefuse workers (unserved.Refused k) ⊎ EndsWork (unserved.Refused k)) (sym (clock_at_end clock why e).is) (inl tt)
 
-pub dels_come : {D : Type 0} (story : D → Story) (key workers : ℕ) (r : Result (Option ℕ) Unserved) (m n : PagedMachine D) → DelsWarm story key r m n → IfErr r (λ why. MayRefuse workers why ⊎ EndsWork why)
-dels_come story key workers (Ok was) m n d = tt
-dels_come story key workers (Err (unserved.Refused refusal.RowSpent)) m n d = inl tt
-dels_come story key workers (Err (unserved.Refused refusal.ClockSpent)) m n d = inl tt
-dels_come story key workers (Err (unserved.Unanswered unanswered.DiskFault)) m n d = inr refl
-dels_come story key workers (Err (unserved.Unanswered (unanswered.Damaged place))) m n d = inr refl
-dels_come story key workers (Err _) m n d = absurd d
+pub dels_come : {D : Type 0} (story : D → Story) (key most workers : ℕ) (r : Result (Option ℕ) Unserved) (m n : PagedMachine D) → Dels story key begun.Before most r m n → IfErr r (λ why. MayRefuse workers why ⊎ EndsWork why)
+dels_come story key most workers (Ok was) m n d = tt
+dels_come story key most workers (Err (unserved.Refused refusal.RowSpent)) m n d = inl tt
+dels_come story key most workers (Err (unserved.Refused refusal.ClockSpent)) m n d = inl tt
+dels_come story key most workers (Err (unserved.Unanswered unanswered.DiskFault)) m n d = inr refl
+dels_come story key most workers (Err (unserved.Unanswered (unanswered.Damaged place))) m n d = inr refl
+dels_come story key most workers (Err _) m n d = absurd d
 
 -- the machine works on behind a clock that has come to its end
 pub clock_works : (A : Type 0) (clock : ℕ) (why : Refusal) → clock_refusal clock None ≡ Some why → works_behind {A = A} (Err (unserved.Refused why)) ≡ true

@@ -1,6 +1,5 @@
 -- A del, in each run to which its machine is tied.
-use Rattle.std.proofs.Common.{◌≡◌, ◌∙◌, inl, inr, ◌≤◌, ◌<◌, ◌^◌, ◌%◌, ℕ, true, false, cond, List, [], ◌∷◌, Option, Some, None, Result, Ok, Err, ap, refl, sym, subst, true≢false}
-use Rattle.std.proofs.lemmas.Bool.{lt-leb}
+use Rattle.std.proofs.Common.{◌+◌, arith, length, ◌≡◌, ◌∙◌, inl, inr, ◌≤◌, ◌<◌, ◌^◌, ◌%◌, ℕ, true, false, List, ◌∷◌, Option, Some, None, Result, Ok, Err, ap, refl, sym, subst}
 use Rattle.map_model.specs.declared.call.Answer.{Answer}
 use Rattle.map_model.specs.declared.call.Answer.TheVariants as answer
 use Rattle.map_model.specs.declared.call.Call.TheVariants as call
@@ -12,23 +11,16 @@ use Rattle.paged_desks.specs.engine_trait.declared.unserved.Unanswered.TheVarian
 use Rattle.paged_desks.specs.engine_trait.declared.unserved.Unserved.{Unserved}
 use Rattle.paged_desks.specs.engine_trait.declared.unserved.Unserved.TheVariants as unserved
 use Rattle.paged_desks.specs.btree_descent.declared.descent.TheConstants.{TOMBSTONE}
-use Rattle.paged_desks.specs.core_calls.Deeds.{Deleted}
 use Rattle.paged_desks.specs.core_calls.Fronts.{Done, front}
 use Rattle.paged_desks.specs.core_calls.LogEvents.{IsPressedYet, SyncsWhere}
-use Rattle.paged_desks.specs.core_calls.Runs.{Tells}
 use Rattle.paged_desks.specs.core_state.Events as happening
 use Rattle.paged_desks.specs.core_state.Openings.{Opening}
 use Rattle.paged_desks.specs.core_state.Steps.{state_after}
 use Rattle.paged_desks.specs.engine_calls.Answers.{EveryAnswer}
 use Rattle.paged_desks.specs.engine_calls.Clauses.{EveryComing}
-use Rattle.paged_desks.specs.engine_calls.Puts.{IsWrite, changed_by, taking}
-use Rattle.paged_desks.specs.engine_trait.Calls.{is_half_done}
-use Rattle.paged_desks.specs.engine_trait.Limits.{limits}
-use Rattle.paged_desks.specs.engine_trait.Refusals.{clock_refusal, refusal_in}
+use Rattle.paged_desks.specs.engine_trait.Refusals.{clock_refusal}
 use Rattle.paged_desks.specs.key_locks.declared.mode.Mode.TheVariants.{Alone}
 use Rattle.lean_disk.specs.Story.{IsLawful, Story}
-use Rattle.paged_desks.specs.log_record.declared.record.Record.{Record}
-use Rattle.page_model.specs.Nodes.{Format}
 use Rattle.paged_desks.specs.row_words.Moments.{events_of}
 use Rattle.paged_desks.specs.session_desks.Parts.{here}
 use Rattle.paged_desks.specs.session_desks.declared.desk.Desk.{Desk}
@@ -36,7 +28,6 @@ use Rattle.paged_desks.proofs.session_desks.DeskLemmas.{desk_own}
 use Rattle.paged_desks.proofs.session_state.ServingLemmas.{refused_not}
 use Rattle.paged_desks.specs.session_state.Staging.{KeepsLog}
 use Rattle.paged_desks.specs.session_state.declared.session.Session.{Session}
-use Rattle.paged_desks.specs.worker_log.Logs.{Log}
 use Rattle.row_room.proofs.row_changes.StepLemmas.{clock_at_end}
 use Rattle.row_room.specs.row_changes.Puts.{IsChanged}
 use Rattle.row_room.specs.row_changes.Reads.{HasRead}
@@ -44,18 +35,27 @@ use Rattle.paged_desks.specs.Machines.{IsReady, memory, view_of}
 use Rattle.paged_desks.specs.declared.machine.PagedMachine.{PagedMachine}
 use Rattle.paged_desks.specs.Calls.{AreHalf, CallDoes, DoesTied, OnLine, Tied, works_behind}
 use Rattle.paged_calls.specs.Calls.{del_answer}
-use Rattle.paged_calls.specs.Changes.{DelsWarm, MayStill}
+use Rattle.paged_calls.specs.Changes.{MayStill}
 use Rattle.paged_calls.specs.Steps.{HasCome, HasNotTaken, HasTaken}
 use Rattle.paged_calls.specs.Tests.{change_test}
 use Rattle.paged_calls.proofs.ChangeRuns as runs
 use Rattle.paged_calls.proofs.ChangeTests.{test_is}
-use Rattle.paged_calls.proofs.KeyLemmas as keys
 use Rattle.paged_desks.proofs.EndingLemmas.{Grounds}
 use Rattle.paged_calls.proofs.PieceLemmas.{none_part}
 use Rattle.paged_desks.proofs.StandLemmas.{halves_are}
-use Rattle.paged_calls.proofs.TakingLemmas.{none_is}
+use Rattle.paged_desks.specs.core_paging.Paging.{EveryResidence}
+use Rattle.paged_desks.specs.core_state.States.{State}
+use Rattle.paged_desks.specs.call_parts.Deeds.{Fails}
+use Rattle.row_walks.specs.declared.steps.At.{At}
+use Rattle.row_walks.specs.declared.steps.At.TheVariants as begun
+use Rattle.paged_calls.specs.Tidyings.{Dels, FailsNeighbour, HasTidied, most_a_del}
+use Rattle.paged_calls.proofs.ChangeWarms.{still_self}
+use Rattle.paged_calls.proofs.TidyRuns as tidy
+use Rattle.paged_calls.proofs.TidyStands.{tidied_none, tidied_up}
+use Rattle.paged_desks.specs.page_pool.Counts.{EveryFrame}
+use Rattle.paged_desks.proofs.Doing.{hot_few}
 
-module _ (l : Grounds) (answers : EveryAnswer) (coming : EveryComing) {D : Type 0} (story : D → Story) (lawful : (d : D) → IsLawful (story d)) (m : PagedMachine D) (ready : IsReady story m) (key : ℕ) where
+module _ (l : Grounds) (residence : EveryResidence) (answers : EveryAnswer) (coming : EveryComing) (frames : EveryFrame) {D : Type 0} (story : D → Story) (lawful : (d : D) → IsLawful (story d)) (m : PagedMachine D) (ready : IsReady story m) (key : ℕ) where
   abbrev x : Session
   x = m.machine.work.session
 
@@ -103,38 +103,35 @@ module _ (l : Grounds) (answers : EveryAnswer) (coming : EveryComing) {D : Type 
       del_stopped why come may e = let q = clock_at_end u.machine.work.session.clock.clock why e in subst (λ p. Did (Ok (answer.Refused p)) u) (sym q.is) (stopped u taken come may q.spent)
 
       module _ (small : u.machine.work.session.clock.clock < 2 ^ 62) (n : PagedMachine D) where
-        unrefused : (g : Opening) (xs : List Done) (workers : g.workers ≡ x.workers) (tied : Tied g x.group xs (view_of m) (memory m)) (halves : AreHalf g.workers xs m.machine) (line : OnLine g xs)
-            → (why : Refusal) → refusal_in g (state_after g (front xs)) x.own (is_half_done x.own xs) ((memory m).log x.own) (call.Del key) ≡ Some why → ⊥
-        unrefused g xs workers tied halves line why e = none_is why (sym (runs.last_is l answers coming story lawful m ready key (call.Del key) refl g xs workers tied halves line (in_memory None none) u t taken
-            ∙ ap (λ b. cond b (Some refusal.ClockSpent) None) (lt-leb (2 ^ 62) u.machine.work.session.clock.clock small)) ∙ e)
+        few_made : (there : At) (k : PagedMachine D) (d : HasTidied story key begun.Before there most_a_del u k) → length d.events ≤ 2 ^ 17 + 2 ^ 15
+        few_made there k d = let a = d.few in let b = hot_few story u taken frames in omega arith
 
-        -- a tombstone is the word of no value
-        deleted : (g : Opening) (xs : List Done) (tied : Tied g x.group xs (view_of m) (memory m)) (k : PagedMachine D) (come : HasCome story key u k) (before page : ℕ) (r : Record) → IsWrite g xs (call.Del key) [] (events_of come.events) x.own page key TOMBSTONE (Some before) r
-            → Tells limits g x.group xs (changed_by (Deleted key before) (taking g x.own key happening.Mode.Alone [] (events_of come.events)) x.own page key TOMBSTONE)
-        deleted g xs tied k come before page r is_write = subst (λ w. Tells limits g x.group xs (changed_by (Deleted key before) (taking g x.own key happening.Mode.Alone [] (events_of come.events)) x.own page key w)) (sym dead_is)
-            ((answers limits g x.group xs).del [] (events_of come.events) x.own page key before r (subst (λ w. IsWrite g xs (call.Del key) [] (events_of come.events) x.own page key w (Some before) r) dead_is is_write))
-          where
-            dead_is : TOMBSTONE ≡ g.format.dead
-            dead_is = sym (ap (λ (f : Format). f.dead) (tied.ties x.own).opens.format)
+        none_made : HasTidied story key begun.Before begun.Before most_a_del u u
+        none_made = tidied_up story key begun.Before begun.Before 0 most_a_del u u (omega arith) (tidied_none l story lawful key begun.Before u u (still_self story u))
+
+        failing : FailsNeighbour story key begun.Before most_a_del u n → (g : Opening) (xs : List Done) → (workers : g.workers ≡ x.workers) → (tied : Tied g x.group xs (view_of m) (memory m)) → (halves : AreHalf g.workers xs m.machine) → OnLine g xs → Fails g x.group xs x.own (call.Del key) (memory m) (story m.machine.work.disk) (story n.machine.work.disk)
+        failing f g xs workers tied halves line =
+            tidy.del_fault l residence answers coming story lawful m ready key g xs workers tied halves line (in_memory None none) u t taken small most_a_del f.there f.between f.made (few_made f.there f.between f.made) n f.failed
+            (let a = f.made.few in let b = hot_few story u taken frames in let c = f.failed.close in omega arith)
 
         -- by answer
-        pub del_did : (r : Result (Option ℕ) Unserved) → (works_behind r ≡ true → IsReady story n) → DelsWarm story key r u n → Did (del_answer r) n
+        pub del_did : (r : Result (Option ℕ) Unserved) → (works_behind r ≡ true → IsReady story n) → Dels story key begun.Before most_a_del r u n → Did (del_answer r) n
         del_did (Ok (Some before)) now d g xs workers tied halves line =
-            runs.changed l answers coming story lawful m ready key (call.Del key) refl g xs workers tied halves line (in_memory None none) u t taken d.between d.come n d.ready d.aside d.session d.is_half_aborted TOMBSTONE (Some before)
-            (subst (λ k. IsChanged k (view_of d.between) (view_of n) key TOMBSTONE (Some before) d.between.machine.work.log n.machine.work.log (story d.between.machine.work.disk) (story n.machine.work.disk)) own_is d.changed)
-            (Deleted key before) (answer.Was (Some before)) refl refl (λ why q. absurd (cc)) (λ ms. refl)
-            (deleted g xs tied d.between d.come before) (unrefused g xs workers tied halves line) (now refl).logged
-            (d.session.1 ∙ (d.come.same.0 ∙ ap (λ (y : Session). y.workers) t.takes.session), d.session.2 ∙ (d.come.same.1 ∙ ap (λ (y : Session). y.group) t.takes.session))
+            tidy.del_done l residence answers coming story lawful m ready key g xs workers tied halves line (in_memory None none) u t taken small most_a_del d.there d.between d.made (few_made d.there d.between d.made) d.ready n d.aside d.session d.is_half_aborted before
+            (subst (λ k. IsChanged k (view_of d.between) (view_of n) key TOMBSTONE (Some before) d.between.machine.work.log n.machine.work.log (story d.between.machine.work.disk) (story n.machine.work.disk)) own_is d.changed) d.tidy (now refl).logged
         del_did (Ok None) now d g xs workers tied halves line =
-            runs.found_none l answers coming story lawful m ready key (call.Del key) refl g xs workers tied halves line (in_memory None none) u t taken d.between d.come n d.ready d.beside d.session d.is_half_aborted
-            (subst (λ k. HasRead k (view_of d.between) (view_of n) key None) own_is d.read) d.may refl (unrefused g xs workers tied halves line) (now refl).logged
-            (d.session.1 ∙ (d.come.same.0 ∙ ap (λ (y : Session). y.workers) t.takes.session), d.session.2 ∙ (d.come.same.1 ∙ ap (λ (y : Session). y.group) t.takes.session))
-        del_did (Err (unserved.Refused refusal.RowSpent)) now d g xs workers tied halves line = keys.spent l answers coming story lawful m ready key Alone (call.Del key) refl g xs workers tied halves line u t n d.0 (now refl).logged d.1
-        del_did (Err (unserved.Refused refusal.ClockSpent)) now d g xs workers tied halves line = stopped n (now refl) d.come d.may d.spent g xs workers tied halves line
-        del_did (Err (unserved.Unanswered unanswered.DiskFault)) now (inl f) g xs workers tied halves line = keys.fault l answers coming story lawful m ready key Alone (call.Del key) refl g xs workers tied halves line u t n f
-        del_did (Err (unserved.Unanswered unanswered.DiskFault)) now (inr f) g xs workers tied halves line =
-            runs.fails_staging l answers coming story lawful m ready key (call.Del key) refl g xs workers tied halves line (in_memory None none) u t taken f.between f.come n
+            tidy.del_missed l residence answers coming story lawful m ready key g xs workers tied halves line (in_memory None none) u t taken small most_a_del d.there d.between d.made (few_made d.there d.between d.made) d.ready n d.beside d.session d.is_half_aborted
+            (subst (λ k. HasRead k (view_of d.between) (view_of n) key None) own_is d.read) d.may.row d.unchanged (now refl).logged
+        del_did (Err (unserved.Refused refusal.RowSpent)) now d g xs workers tied halves line =
+            tidy.del_spent l residence answers coming story lawful m ready key g xs workers tied halves line (in_memory None none) u t taken small most_a_del d.there n d.made (few_made d.there n d.made) (now refl) d.spent
+        del_did (Err (unserved.Refused refusal.ClockSpent)) now d g xs workers tied halves line =
+            tidy.del_stopped l residence answers coming story lawful m ready key g xs workers tied halves line (in_memory None none) u t taken small most_a_del d.there n d.made (few_made d.there n d.made) (now refl) d.going d.spent
+        del_did (Err (unserved.Unanswered unanswered.DiskFault)) now (inl f) g xs workers tied halves line =
+            tidy.del_fails_staging l residence answers coming story lawful m ready key g xs workers tied halves line (in_memory None none) u t taken small most_a_del f.there f.between f.made (few_made f.there f.between f.made) n
             (subst (λ k. KeepsLog k f.between.machine.work.log (story f.between.machine.work.disk) (story n.machine.work.disk)) own_is f.keeps)
-        del_did (Err (unserved.Unanswered (unanswered.Damaged place))) now d g xs workers tied halves line =
-            (keys.fault l answers coming story lawful m ready key Alone (call.Del key) refl g xs workers tied halves line u t n d.0, keys.never l answers coming story lawful m ready key Alone (call.Del key) refl g xs workers tied halves line u t d.1)
+        del_did (Err (unserved.Unanswered unanswered.DiskFault)) now (inr f) g xs workers tied halves line = failing f g xs workers tied halves line
+        del_did (Err (unserved.Unanswered (unanswered.Damaged place))) now d g xs workers tied halves line = (
+          failing d.0 g xs workers tied halves line,
+          tidy.del_never l residence answers coming story lawful m ready key g xs workers tied halves line (in_memory None none) u t taken small most_a_del begun.Before u none_made (few_made begun.Before u none_made) d.1,
+        )
         del_did (Err _) now d g xs workers tied halves line = absurd d

@@ -7,7 +7,7 @@ use Rattle.paged_desks.specs.core_state.Events as happening
 use Rattle.paged_desks.specs.row_words.declared.event.Event.{Event}
 use Rattle.paged_desks.specs.row_words.declared.event.Event.TheVariants as told
 use Rattle.paged_desks.specs.row_words.Moments.{event_of, events_of}
-use Rattle.paged_desks.specs.call_parts.Rooms.{AreRoom, gives_room, is_paging as pages_come, takes_row}
+use Rattle.paged_desks.specs.call_parts.Rooms.{AreRoom, changes_tree, is_paging as pages_come, takes_row}
 use Rattle.paged_desks.specs.Pages.{ArePaging, is_paging}
 
 pub length_events : (es : List Event) → length (events_of es) ≡ length es
@@ -52,8 +52,8 @@ or_left : (a b : Bool) → a ≡ true → (a || b) ≡ true
 or_left true b e = refl
 or_left false b e = absurd (true≢false (sym e))
 
-paging_room : (own row : ℕ) (mode : happening.Mode) (e : happening.Event) → pages_come e ≡ true → (takes_row own row mode e || (gives_room own e || pages_come e)) ≡ true
-paging_room own row mode e k = or_right (takes_row own row mode e) (gives_room own e || pages_come e) (or_right (gives_room own e) (pages_come e) k)
+paging_room : (own row : ℕ) (mode : happening.Mode) (e : happening.Event) → pages_come e ≡ true → (takes_row own row mode e || (changes_tree own e || pages_come e)) ≡ true
+paging_room own row mode e k = or_right (takes_row own row mode e) (changes_tree own e || pages_come e) (or_right (changes_tree own e) (pages_come e) k)
 
 no_structure : (e : happening.Event) → pages_come e ≡ true → is_structure e ≡ false
 no_structure (happening.Event.Split w l r q i) k = absurd (true≢false (sym k))
@@ -68,7 +68,7 @@ pub room_of : (own row : ℕ) (mode : happening.Mode) (es : List happening.Event
 room_of own row mode [] k = refl
 room_of own row mode (e ∷ es) k =
     let p = and_parts (pages_come e) (all pages_come es) k in
-    and_from (takes_row own row mode e || (gives_room own e || pages_come e)) (all (λ x. takes_row own row mode x || (gives_room own x || pages_come x)) es) (paging_room own row mode e p.0) (room_of own row mode es p.1)
+    and_from (takes_row own row mode e || (changes_tree own e || pages_come e)) (all (λ x. takes_row own row mode x || (changes_tree own x || pages_come x)) es) (paging_room own row mode e p.0) (room_of own row mode es p.1)
 
 pub structure_of : (es : List happening.Event) → all pages_come es ≡ true → any is_structure es ≡ false
 structure_of [] k = refl
@@ -77,7 +77,7 @@ structure_of (e ∷ es) k = let p = and_parts (pages_come e) (all pages_come es)
 -- behind the lock of the row
 pub locked_room : (own row : ℕ) (mode : happening.Mode) (es : List happening.Event) → AreRoom own row mode es → AreRoom own row mode (happening.Event.Lock own row mode ∷ es)
 locked_room own row mode es k =
-    and_from (takes_row own row mode (happening.Event.Lock own row mode) || false) (all (λ x. takes_row own row mode x || (gives_room own x || pages_come x)) es) (or_left (takes_row own row mode (happening.Event.Lock own row mode)) false (takes mode)) k
+    and_from (takes_row own row mode (happening.Event.Lock own row mode) || false) (all (λ x. takes_row own row mode x || (changes_tree own x || pages_come x)) es) (or_left (takes_row own row mode (happening.Event.Lock own row mode)) false (takes mode)) k
   where
     takes : (q : happening.Mode) → takes_row own row q (happening.Event.Lock own row q) ≡ true
     takes happening.Mode.Shared = and_from (own == own) (row == row) (eq-eqb own own refl) (eq-eqb row row refl)

@@ -25,7 +25,7 @@ use Rattle.page_model.specs.Tree.{IsTree}
 use Rattle.paged_desks.specs.row_words.declared.event.Event.{Event}
 use Rattle.paged_desks.specs.row_words.declared.event.Event.TheVariants as told
 use Rattle.paged_desks.specs.row_words.Moments.{event_of, events_of}
-use Rattle.paged_desks.specs.call_parts.Rooms.{AreRoom, gives_room, is_paging as pages_come, takes_row}
+use Rattle.paged_desks.specs.call_parts.Rooms.{AreRoom, changes_tree, is_paging as pages_come, takes_row}
 use Rattle.paged_calls.specs.Growths.{AreMaking, is_making}
 use Rattle.paged_calls.proofs.Conflicts.{lock_free}
 use Rattle.paged_calls.proofs.RecordStands.{clock_met}
@@ -63,7 +63,7 @@ any_first f (x ∷ es) fs e = neither (f x) (any f es) (first_false (f x) (any f
 -- what is so of one by which room is made
 record Making (own row : ℕ) (e : Event) : Type 0 where
   step : is_step (event_of e) ≡ false
-  room : (takes_row own row happening.Mode.Alone (event_of e) || (gives_room own (event_of e) || pages_come (event_of e))) ≡ true
+  room : (takes_row own row happening.Mode.Alone (event_of e) || (changes_tree own (event_of e) || pages_come (event_of e))) ≡ true
 
 making_one : (own row : ℕ) (e : Event) → is_making own e ≡ true → Making own row e
 making_one own row (told.Purge w p keys) k = record { step = refl; room = or_left (w == own) false k }
@@ -89,7 +89,7 @@ pub making_room : (own row : ℕ) (es : List Event) → AreMaking own es → Are
 making_room own row [] k = refl
 making_room own row (e ∷ es) k =
     let a = and_parts (is_making own e) (all (is_making own) es) k in
-    and_from (takes_row own row happening.Mode.Alone (event_of e) || (gives_room own (event_of e) || pages_come (event_of e))) (all (λ x. takes_row own row happening.Mode.Alone x || (gives_room own x || pages_come x)) (events_of es)) (making_one own row e a.0).room (making_room own row es a.1)
+    and_from (takes_row own row happening.Mode.Alone (event_of e) || (changes_tree own (event_of e) || pages_come (event_of e))) (all (λ x. takes_row own row happening.Mode.Alone x || (changes_tree own x || pages_come x)) (events_of es)) (making_one own row e a.0).room (making_room own row es a.1)
 
 -- ## The leaf of a key
 

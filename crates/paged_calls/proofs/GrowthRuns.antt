@@ -75,7 +75,7 @@ use Rattle.paged_desks.specs.call_parts.Areas.{is_save}
 use Rattle.paged_desks.specs.call_parts.Deeds.{Answers, Fails, HasNoneToGo, IsSure, IsSureOfRoom, is_fetch}
 use Rattle.paged_desks.specs.call_parts.Memory.{IsSame, with_own}
 use Rattle.paged_desks.specs.call_parts.Parts.{Failed, Part}
-use Rattle.paged_desks.specs.call_parts.Rooms.{AreRoom, ChangesTree, IsRoomFor, gives_room, grows, is_paging as pages_come, looks, makes_sync, may_save, takes_row}
+use Rattle.paged_desks.specs.call_parts.Rooms.{AreRoom, ChangesTree, IsRoomFor, changes_tree, grows, is_paging as pages_come, looks, makes_sync, may_save, takes_row}
 use Rattle.paged_desks.specs.call_parts.Steps.{Stages}
 use Rattle.row_room.specs.row_changes.Paths.{IsUnfit}
 use Rattle.row_room.specs.row_changes.Puts.{IsChanged}
@@ -441,7 +441,7 @@ module _ (l : Grounds) (residence : EveryResidence) (answers : EveryAnswer) (com
       -- ## Its disk fails
 
       -- these events made room for it, as far as they came
-      room_for : (es : List happening.Event) → all (λ e. takes_row own (g.row_of key) happening.Mode.Alone e || (gives_room own e || pages_come e)) es ≡ true → MakesRoom own g at key es → length es ≤ 2 ^ 18 → IsRoomFor g xs own c es
+      room_for : (es : List happening.Event) → all (λ e. takes_row own (g.row_of key) happening.Mode.Alone e || (changes_tree own e || pages_come e)) es ≡ true → MakesRoom own g at key es → length es ≤ 2 ^ 18 → IsRoomFor g xs own c es
       room_for es all_room made least = ((all_room, made), least)
 
       made_room : AreRoom own (g.row_of key) happening.Mode.Alone (lock ∷ moves)
@@ -490,7 +490,7 @@ module _ (l : Grounds) (residence : EveryResidence) (answers : EveryAnswer) (com
         pub put_fault : Fails g x.group xs own c (memory m) (story m.machine.work.disk) (story k.machine.work.disk)
         put_fault = fails_by g x.group xs x.workers workers own c v (memory m) tied line refl (story m.machine.work.disk) (story k.machine.work.disk) all_moves failed_all
             (room_for all_moves
-            (all_more (λ e. takes_row own (g.row_of key) happening.Mode.Alone e || (gives_room own e || pages_come e)) (lock ∷ moves) f.events made_room (room_of own (g.row_of key) happening.Mode.Alone f.events f.paging))
+            (all_more (λ e. takes_row own (g.row_of key) happening.Mode.Alone e || (changes_tree own e || pages_come e)) (lock ∷ moves) f.events made_room (room_of own (g.row_of key) happening.Mode.Alone f.events f.paging))
             (makes_join own g key at (lock ∷ moves) f.events makes (makes_none own g key (core.run g at (lock ∷ moves)) f.events rest_none))
             (let a = total in let b = length-append (lock ∷ moves) f.events in let e = length_events d.events in omega arith))
 

@@ -58,7 +58,10 @@ use Rattle.paged_desks.specs.declared.machine.PagedMachine.{PagedMachine}
 use Rattle.paged_desks.specs.Calls.{AreHalf, DoesTied, StandsNot, Tied}
 use Rattle.paged_calls.specs.Steps.{FailsWarm, HasCome, HasTaken}
 use Rattle.paged_desks.proofs.EndingLemmas.{IsAnswerTo, IsOr, begins, fails_by, grows_none, line_call, refused_tied}
+use Rattle.paged_desks.specs.session_state.tidy_rules.Tidying.{Stage}
 use Rattle.paged_calls.proofs.EventLemmas.{length_events, locked_room, paging_steps, paging_structure, room_of, structure_of}
+use Rattle.paged_calls.proofs.TidyEvents.{come_writes, paging_writes}
+use Rattle.paged_calls.proofs.TidyRules.{is_write, tidies_calm}
 use Rattle.paged_desks.proofs.HalfLates.{half_late}
 use Rattle.paged_desks.proofs.EndingLemmas.{Grounds}
 use Rattle.paged_calls.proofs.PieceLemmas.{failed_from, joins_at, lock_part, taken_own}
@@ -138,11 +141,11 @@ module _ (g : Opening) (xs : List Done) (own : ℕ) where
   makes_none s key (e ∷ es) h = (next_room s key e (first_false (is_structure e) (any is_structure es) h), makes_none (step g s e) key es (second_false (is_structure e) (any is_structure es) h))
 
   -- the tree is as it was
-  pub room_none : (c : Call) (key : ℕ) (mode : happening.Mode) → IsOfKey c key mode → (s : State) (es : List happening.Event) → any is_structure es ≡ false → ChangesTree own g s c es
-  room_none (call.Get k) key mode e s es h = h
-  room_none (call.Put k value) key mode e s es h = makes_none s k es h
-  room_none (call.Del k) key mode e s es h = h
-  room_none _ key mode e s es h = absurd e
+  pub room_none : (c : Call) (key : ℕ) (mode : happening.Mode) → IsOfKey c key mode → (s : State) (es : List happening.Event) → any is_structure es ≡ false → any is_write es ≡ false → ChangesTree own g s c es
+  room_none (call.Get k) key mode e s es h w = h
+  room_none (call.Put k value) key mode e s es h w = makes_none s k es h
+  room_none (call.Del k) key mode e s es h w = (tidies_calm own g k s Stage.Before es h w).tidies
+  room_none _ key mode e s es h w = absurd e
 
   pub looks_of : (c : Call) (key : ℕ) (mode : happening.Mode) → IsOfKey c key mode → looks c ≡ true
   looks_of (call.Get k) key mode e = refl
@@ -151,14 +154,14 @@ module _ (g : Opening) (xs : List Done) (own : ℕ) where
   looks_of _ key mode e = absurd e
 
   -- what it may have done where its disk fails
-  pub room_for : (c : Call) (key : ℕ) (mode : happening.Mode) → IsOfKey c key mode → (es : List happening.Event) → AreRoom own (g.row_of key) mode es → any is_structure es ≡ false → length es ≤ 2 ^ 18 → IsRoomFor g xs own c es
-  room_for (call.Get k) key happening.Mode.Shared e es r h few = ((subst (λ j. AreRoom own (g.row_of j) happening.Mode.Shared es) (sym e) r, h), few)
-  room_for (call.Put k value) key happening.Mode.Alone e es r h few = ((subst (λ j. AreRoom own (g.row_of j) happening.Mode.Alone es) (sym e) r, makes_none (state_after g (front xs)) k es h), few)
-  room_for (call.Del k) key happening.Mode.Alone e es r h few = ((subst (λ j. AreRoom own (g.row_of j) happening.Mode.Alone es) (sym e) r, h), few)
-  room_for (call.Get k) key happening.Mode.Alone e es r h few = absurd e
-  room_for (call.Put k value) key happening.Mode.Shared e es r h few = absurd e
-  room_for (call.Del k) key happening.Mode.Shared e es r h few = absurd e
-  room_for _ key mode e es r h few = absurd e
+  pub room_for : (c : Call) (key : ℕ) (mode : happening.Mode) → IsOfKey c key mode → (es : List happening.Event) → AreRoom own (g.row_of key) mode es → any is_structure es ≡ false → any is_write es ≡ false → length es ≤ 2 ^ 18 → IsRoomFor g xs own c es
+  room_for (call.Get k) key happening.Mode.Shared e es r h w few = ((subst (λ j. AreRoom own (g.row_of j) happening.Mode.Shared es) (sym e) r, h), few)
+  room_for (call.Put k value) key happening.Mode.Alone e es r h w few = ((subst (λ j. AreRoom own (g.row_of j) happening.Mode.Alone es) (sym e) r, makes_none (state_after g (front xs)) k es h), few)
+  room_for (call.Del k) key happening.Mode.Alone e es r h w few = ((subst (λ j. AreRoom own (g.row_of j) happening.Mode.Alone es) (sym e) r, (tidies_calm own g k (state_after g (front xs)) Stage.Before es h w).tidies), few)
+  room_for (call.Get k) key happening.Mode.Alone e es r h w few = absurd e
+  room_for (call.Put k value) key happening.Mode.Shared e es r h w few = absurd e
+  room_for (call.Del k) key happening.Mode.Shared e es r h w few = absurd e
+  room_for _ key mode e es r h w few = absurd e
 
 -- ## In one run
 
@@ -213,15 +216,15 @@ module _ (l : Grounds) (answers : EveryAnswer) (coming : EveryComing) {D : Type 
   -- ## It is refused
 
   pub shown : (why : Refusal) (es : List happening.Event) → length es ≤ 2 ^ 18 → ((s : State) (d : Call) → HasNoneToGo g s d why) → IsRefusedFor g (state_after g (front xs ++ es)) own (is_half_done own xs) log c why → ((q : Refusal) → refusal_in g at own (is_half_done own xs) log c ≡ Some q → IsOr why q)
-      → any is_structure es ≡ false → IsAnswerTo g xs own c why es log
-  shown why es few kept is_for refuses structure = record {
+      → any is_structure es ≡ false → any is_write es ≡ false → IsAnswerTo g xs own c why es log
+  shown why es few kept is_for refuses structure writes = record {
     few = let a = few in let b = most_least c in omega arith;
     is_for = subst (λ d. IsRefusedFor g (state_after g (front xs ++ es)) own (is_half_done own xs) log d why) (sym asks) is_for;
     kept = kept (state_after g (front xs ++ es)) (call_behind (outcomes xs) c);
     refuses = λ q sure e. refuses q (ap (refusal_in g at own (is_half_done own xs) log) (sym asks) ∙ e);
     still = λ q e. grows_none es structure;
     stays = λ q sure e. structure;
-    room = subst (λ d. ChangesTree own g at d es) (sym asks) (room_none g xs own c key how_held of_key at es structure);
+    room = subst (λ d. ChangesTree own g at d es) (sym asks) (room_none g xs own c key how_held of_key at es structure writes);
   }
 
   pub is_refusal : (why : Refusal) (es : List happening.Event) → AllMet g at es → TakesRows own (keep is_step es) → TakesRow why own (g.row_of key) how_held (keep is_step es) → any is_structure es ≡ false
@@ -246,7 +249,7 @@ module _ (l : Grounds) (answers : EveryAnswer) (coming : EveryComing) {D : Type 
     refused_now why tries cause kept is_for refuses =
         refused_tied l m n (story m.machine.work.disk) (story n.machine.work.disk) (lawful m.machine.work.disk) g xs workers tied halves [] part logged as_many answers own c why refl low high
         (is_refusal why [] tt tt tries refl cause (due_none g xs own c key how_held of_key why))
-        (shown why [] (omega arith) kept (subst (λ ys. IsRefusedFor g (state_after g ys) own (is_half_done own xs) log c why) (sym (append-nil (front xs))) is_for) refuses refl)
+        (shown why [] (omega arith) kept (subst (λ ys. IsRefusedFor g (state_after g ys) own (is_half_done own xs) log c why) (sym (append-nil (front xs))) is_for) refuses refl refl)
         same
 
   -- ## Behind its row
@@ -325,7 +328,7 @@ module _ (l : Grounds) (answers : EveryAnswer) (coming : EveryComing) {D : Type 
           refused_tied l m n (story m.machine.work.disk) (story n.machine.work.disk) (lawful m.machine.work.disk) g xs workers tied halves (told.Lock own row (event_mode mode) ∷ come.events) so_far logged as_many answers own c refusal.RowSpent refl low high
           (is_refusal refusal.RowSpent (lock ∷ moves) (so_far.logged g xs [] b0).met (subst (TakesRows own) (sym kept) (refl, tt))
           (subst (λ ys. (ys ≡ []) ⊎ (ys ≡ happening.Event.Lock own (g.row_of key) how_held ∷ [])) (sym kept) (inr (ap (λ i. happening.Event.Lock own i how_held ∷ []) (sym row_is)))) no_structure (late (tied.ties own).told s) (due_spent g xs own c key how_held of_key asks (lock ∷ moves) tight))
-          (shown refusal.RowSpent (lock ∷ moves) (let a = few in omega arith) (λ _ _. tt) (inr (inl refl)) (λ q r. inr (inl refl)) no_structure)
+          (shown refusal.RowSpent (lock ∷ moves) (let a = few in omega arith) (λ _ _. tt) (inr (inl refl)) (λ q r. inr (inl refl)) no_structure (paging_writes come.events come.paging))
           half_all
         where
           kept : keep is_step (lock ∷ moves) ≡ lock ∷ []
@@ -344,7 +347,7 @@ module _ (l : Grounds) (answers : EveryAnswer) (coming : EveryComing) {D : Type 
       failed = (joins_at l story lawful m.machine.work.disk u.machine.work.disk n.machine.work.disk x.workers (told.Lock own row (event_mode mode) ∷ []) v (view_of u) v (memory m) (memory u) (memory u)).failed true true f.failed.events locked warm
 
       room : IsRoomFor g xs own c (lock ∷ f.failed.events)
-      room = room_for g xs own c key how_held of_key (lock ∷ f.failed.events) (subst (λ i. AreRoom own i how_held (lock ∷ f.failed.events)) (sym row_is) (locked_room own row how_held f.failed.events (room_of own row how_held f.failed.events f.failed.paging))) (structure_of f.failed.events f.failed.paging) (let a = f.failed.few in omega arith)
+      room = room_for g xs own c key how_held of_key (lock ∷ f.failed.events) (subst (λ i. AreRoom own i how_held (lock ∷ f.failed.events)) (sym row_is) (locked_room own row how_held f.failed.events (room_of own row how_held f.failed.events f.failed.paging))) (structure_of f.failed.events f.failed.paging) (come_writes f.failed.events f.failed.paging) (let a = f.failed.few in omega arith)
 
       pub fault : Fails g x.group xs own c (memory m) (story m.machine.work.disk) (story n.machine.work.disk)
       fault = fails_by g x.group xs x.workers workers own c v (memory m) tied line (looks_of g xs own c key how_held of_key) (story m.machine.work.disk) (story n.machine.work.disk) (lock ∷ f.failed.events) failed room

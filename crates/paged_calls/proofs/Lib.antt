@@ -26,6 +26,16 @@ pub mod GrowthRuns
 pub mod PutWarms
 pub mod PutLemmas
 pub mod PutCalls
+pub mod TidyRules
+pub mod TidyPages
+pub mod TidyStages
+pub mod TidyEvents
+pub mod TidyStands
+pub mod TidyRuns
+pub mod TidyWords
+pub mod TidyLive
+pub mod TidyWarms
+pub mod TidyCalls
 -- Passed on to the crates above.
 pub use Rattle.paged_desks.proofs as paged_desks
 pub use Rattle.paged_desks.proofs.call_parts as call_parts

@@ -33,11 +33,11 @@ use Rattle.paged_desks.specs.call_parts.Parts.{Part}
 use Rattle.paged_desks.specs.call_parts.Rooms.{grows, is_paging as pages_come}
 use Rattle.paged_desks.specs.Machines.{memory, view_of}
 use Rattle.paged_desks.specs.Pages.{ArePaging, hot_in, is_paging}
-use Rattle.paged_desks.specs.Parts.{HasGone}
+use Rattle.paged_desks.specs.Parts.{HasGone, HasGoneWhere}
 use Rattle.paged_desks.specs.declared.machine.PagedMachine.{PagedMachine}
 use Rattle.paged_desks.proofs.EndingLemmas.{Grounds, grows_none}
 use Rattle.paged_desks.proofs.StandLemmas.{halves_are}
-use Rattle.paged_calls.specs.Growths.{AreLike, AreMaking, HasMade, HasWay, IsRoom, is_making}
+use Rattle.paged_calls.specs.Growths.{AreLike, AreMaking, HasMade, HasMadeWhere, HasWay, IsRoom, is_making}
 use Rattle.paged_calls.specs.Steps.{IsStill}
 use Rattle.paged_calls.proofs.EventLemmas.{paging_structure}
 use Rattle.paged_calls.proofs.LikeLemmas.{changes_entries, run_like}
@@ -151,17 +151,19 @@ pub resides : EveryResidence → (g : Opening) (xs : List Done) (first : List ha
 resides residence g xs first more = subst (λ (s : State). Residence g s)
     (run_more g (core_start g) (front xs ++ first) (events_of more) ∙ ap (λ (s : State). core.run g s (events_of more)) (front_is g xs first)) (residence g ((front xs ++ first) ++ events_of more))
 
-module _ (l : Grounds) (residence : EveryResidence) {D : Type 0} (story : D → Story) (lawful : (d : D) → IsLawful (story d)) (key : ℕ) where
-  -- ## None
+-- ## Whatever is made
 
-  pub made_none : (m u : PagedMachine D) → IsStill story m u → HasMade story key 0 m u
-  made_none m u s = record {
+-- each event is such, a sync begins where P is so, and Q is so of them
+module _ (l : Grounds) {D : Type 0} (story : D → Story) (lawful : (d : D) → IsLawful (story d)) (is_such : (own : ℕ) → Event → Bool) (P : Opening → State → Type 0) where
+  -- none
+  pub made_still : (Q : (own : ℕ) → Opening → State → List happening.Event → Type 0) (m u : PagedMachine D) → ((g : Opening) (s : State) → Q m.machine.work.session.own g s []) → IsStill story m u → HasMadeWhere story is_such P Q 0 m u
+  made_still Q m u none s = record {
     events = [];
     making = refl;
     few = let e = hot_same in omega arith;
     part = none_part l story lawful m u s.beside own_is m.machine.work.session.workers s.given s.seen;
     tight = λ g xs first b. tt;
-    room = λ g xs first b. record { makes = tt; way = inl refl };
+    room = λ g xs first b. none g (behind_first g xs first);
     same = (ap (λ (x : Session). x.workers) s.session, ap (λ (x : Session). x.group) s.session);
     turn = own_is;
     halves = λ w lo hi. halves_are story m u s.beside own_is (ap (λ (x : Session). x.is_half_aborted) s.session) w;
@@ -173,27 +175,25 @@ module _ (l : Grounds) (residence : EveryResidence) {D : Type 0} (story : D → 
       hot_same : hot_in u ≡ hot_in m
       hot_same i = hot_pages (opening (s.given i)) (after_all (s.given i) (s.seen i)).core
 
-  -- ## Pages came
-
-  pub made_gone : (most : ℕ) (m n : PagedMachine D) → HasGone story key most m n → HasMade story key most m n
-  made_gone most m n g = record {
+  -- pages came
+  pub made_come : (Q : (own : ℕ) → Opening → State → List happening.Event → Type 0) (most : ℕ) (m n : PagedMachine D) → ((es : List Event) → ArePaging es → all (is_such m.machine.work.session.own) es ≡ true)
+      → ((g : Opening) (s : State) (es : List Event) → ArePaging es → Q m.machine.work.session.own g s (events_of es)) → HasGoneWhere story P most m n → HasMadeWhere story is_such P Q most m n
+  made_come Q most m n such calm g = record {
     events = g.paged.events;
-    making = making_paging m.machine.work.session.own g.paged.events g.paged.paging;
+    making = such g.paged.events g.paged.paging;
     few = g.paged.few;
     part = g.part;
     tight = g.paged.tight;
-    room = λ h xs first b. record { makes = makes_none m.machine.work.session.own h key (behind_first h xs first) (events_of g.paged.events) none; way = inl (grows_none (events_of g.paged.events) none) };
+    room = λ h xs first b. calm h (behind_first h xs first) g.paged.events g.paged.paging;
     same = g.paged.same;
     turn = g.paged.turn;
     halves = λ w lo hi. ap (λ (x : Session). x.is_half_aborted) (g.paged.sessions w lo hi).session;
   }
-    where
-      none : any is_structure (events_of g.paged.events) ≡ false
-      none = paging_structure g.paged.events g.paged.paging
 
-  -- ## One behind the other
-
-  module _ (a b : ℕ) (m u n : PagedMachine D) (d : HasMade story key a m u) (e : HasMade story key b u n) where
+  -- one behind the other
+  module _ (A B C : (own : ℕ) → Opening → State → List happening.Event → Type 0) (a b : ℕ) (m u n : PagedMachine D) (d : HasMadeWhere story is_such P A a m u) (e : HasMadeWhere story is_such P B b u n)
+      (join : (g : Opening) (xs : List Done) (first : List happening.Event) → Behind g xs first (view_of m) → A m.machine.work.session.own g (behind_first g xs first) (events_of d.events)
+      → B m.machine.work.session.own g (core.run g (behind_first g xs first) (events_of d.events)) (events_of e.events) → C m.machine.work.session.own g (behind_first g xs first) (events_of d.events ++ events_of e.events)) where
     abbrev own : ℕ
     own = m.machine.work.session.own
 
@@ -216,21 +216,20 @@ module _ (l : Grounds) (residence : EveryResidence) {D : Type 0} (story : D → 
       run_is : behind_first g xs (first ++ events_of d.events) ≡ core.run g (behind_first g xs first) (events_of d.events)
       run_is = first_more g xs first (events_of d.events)
 
-      tight : SyncsWhere (λ t. IsTight g t key) g (behind_first g xs first) false (events_of (d.events ++ e.events))
-      tight = subst (λ ys. SyncsWhere (λ t. IsTight g t key) g (behind_first g xs first) false ys) (sym all_events)
-          (syncs_more (λ t. IsTight g t key) g (events_of d.events) (events_of e.events) (behind_first g xs first) false (d.tight g xs first s)
-          (subst (λ (t : State). SyncsWhere (λ q. IsTight g q key) g t false (events_of e.events)) run_is (e.tight g xs (first ++ events_of d.events) there)))
+      tight : SyncsWhere (P g) g (behind_first g xs first) false (events_of (d.events ++ e.events))
+      tight = subst (λ ys. SyncsWhere (P g) g (behind_first g xs first) false ys) (sym all_events)
+          (syncs_more (P g) g (events_of d.events) (events_of e.events) (behind_first g xs first) false (d.tight g xs first s)
+          (subst (λ (t : State). SyncsWhere (P g) g t false (events_of e.events)) run_is (e.tight g xs (first ++ events_of d.events) there)))
 
-      room : IsRoom own key g (behind_first g xs first) (events_of (d.events ++ e.events))
-      room = subst (λ ys. IsRoom own key g (behind_first g xs first) ys) (sym all_events)
-          (room_join own g key (behind_first g xs first) (events_of d.events) (events_of e.events)
-          (λ none. run_like g d.events (behind_first g xs first) (resides residence g xs first) (made_entries own d.events d.making none)) (d.room g xs first s)
-          (subst (λ (t : State). IsRoom own key g t (events_of e.events)) run_is (subst (λ w. IsRoom w key g (behind_first g xs (first ++ events_of d.events)) (events_of e.events)) d.turn (e.room g xs (first ++ events_of d.events) there))))
+      room : C own g (behind_first g xs first) (events_of (d.events ++ e.events))
+      room = subst (λ ys. C own g (behind_first g xs first) ys) (sym all_events)
+          (join g xs first s (d.room g xs first s)
+          (subst (λ (t : State). B own g t (events_of e.events)) run_is (subst (λ w. B w g (behind_first g xs (first ++ events_of d.events)) (events_of e.events)) d.turn (e.room g xs (first ++ events_of d.events) there))))
 
-    pub made_then : HasMade story key (a + b) m n
-    made_then = record {
+    pub made_both : HasMadeWhere story is_such P C (a + b) m n
+    made_both = record {
       events = d.events ++ e.events;
-      making = all_append (is_making own) d.events e.events d.making (subst (λ w. AreMaking w e.events) d.turn e.making);
+      making = all_append (is_such own) d.events e.events d.making (subst (λ w. all (is_such w) e.events ≡ true) d.turn e.making);
       few = let p = d.few in let q = e.few in let r = length-append d.events e.events in omega arith;
       part = (joins_at l story lawful m.machine.work.disk u.machine.work.disk n.machine.work.disk many d.events (view_of m) (view_of u) (view_of n) (memory m) (memory u) (memory n)).join e.events d.part later;
       tight = tight;
@@ -241,5 +240,32 @@ module _ (l : Grounds) (residence : EveryResidence) {D : Type 0} (story : D → 
     }
 
 -- by a greater number
+pub made_more : {D : Type 0} (story : D → Story) (is_such : (own : ℕ) → Event → Bool) (P : Opening → State → Type 0) (Q : (own : ℕ) → Opening → State → List happening.Event → Type 0) (a b : ℕ) (m n : PagedMachine D) → a ≤ b → HasMadeWhere story is_such P Q a m n → HasMadeWhere story is_such P Q b m n
+made_more story is_such P Q a b m n up d = record { events = d.events; making = d.making; few = (let p = d.few in let q = up in omega arith); part = d.part; tight = d.tight; room = d.room; same = d.same; turn = d.turn; halves = d.halves }
+
+-- ## Room
+
+module _ (l : Grounds) (residence : EveryResidence) {D : Type 0} (story : D → Story) (lawful : (d : D) → IsLawful (story d)) (key : ℕ) where
+  abbrev tight_for : Opening → State → Type 0
+  tight_for g s = IsTight g s key
+
+  abbrev room_by : (own : ℕ) → Opening → State → List happening.Event → Type 0
+  room_by own g s es = IsRoom own key g s es
+
+  pub made_none : (m u : PagedMachine D) → IsStill story m u → HasMade story key 0 m u
+  made_none m u s = made_still l story lawful is_making tight_for room_by m u (λ g t. record { makes = tt; way = inl refl }) s
+
+  -- pages came
+  pub made_gone : (most : ℕ) (m n : PagedMachine D) → HasGone story key most m n → HasMade story key most m n
+  made_gone most m n g = made_come l story lawful is_making tight_for room_by most m n (making_paging m.machine.work.session.own)
+      (λ h s es k. let none = paging_structure es k in record { makes = makes_none m.machine.work.session.own h key s (events_of es) none; way = inl (grows_none (events_of es) none) }) g
+
+  -- one behind the other
+  pub made_then : (a b : ℕ) (m u n : PagedMachine D) → HasMade story key a m u → HasMade story key b u n → HasMade story key (a + b) m n
+  made_then a b m u n d e = made_both l story lawful is_making tight_for room_by room_by room_by a b m u n d e
+      (λ g xs first s x y. room_join m.machine.work.session.own g key (behind_first g xs first) (events_of d.events) (events_of e.events)
+      (λ none. run_like g d.events (behind_first g xs first) (resides residence g xs first) (made_entries m.machine.work.session.own d.events d.making none)) x y)
+
+-- by a greater number
 pub made_up : {D : Type 0} (story : D → Story) (key a b : ℕ) (m n : PagedMachine D) → a ≤ b → HasMade story key a m n → HasMade story key b m n
-made_up story key a b m n up d = record { events = d.events; making = d.making; few = (let p = d.few in let q = up in omega arith); part = d.part; tight = d.tight; room = d.room; same = d.same; turn = d.turn; halves = d.halves }
+made_up story key a b m n up d = made_more story is_making (λ g s. IsTight g s key) (λ own g s es. IsRoom own key g s es) a b m n up d

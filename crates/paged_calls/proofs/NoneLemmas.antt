@@ -138,7 +138,7 @@ module _ (own key : ℕ) (g : Opening) where
       let come = come_one s e none m.0 met.0 makes.0 (first_false (grows (event_of e)) (any grows (events_of es)) still) in
       let here : (g.faithful ≡ true) ⊎ (is_fetch (event_of e) ≡ false) = elim sure [ inl y ↦ inl y | inr unread ↦ inr (first_false (is_fetch (event_of e)) (any is_fetch (events_of es)) unread) ] in
       let next = none_on g s (core.step g s (event_of e)) (settled_step g s (event_of e) come (first_false (makes_sync (event_of e)) (any makes_sync (events_of es)) quiet)) key
-          (λ p. ap (λ (c : Contents). c.node) (step_same g s (event_of e) (r []) come here p)) none in
+      (λ p. ap (λ (c : Contents). c.node) (step_same g s (event_of e) (r []) come here p)) none in
       and_from (pages_come (event_of e)) (all pages_come (events_of es)) come
       (none_stays es (core.step g s (event_of e)) (λ more. r (e ∷ more)) m.1 met.1 makes.1 (second_false (grows (event_of e)) (any grows (events_of es)) still) (second_false (makes_sync (event_of e)) (any makes_sync (events_of es)) quiet)
       (elim sure [ inl y ↦ inl y | inr unread ↦ inr (second_false (is_fetch (event_of e)) (any is_fetch (events_of es)) unread) ]) next)

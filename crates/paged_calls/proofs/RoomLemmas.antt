@@ -1,7 +1,6 @@
 -- A key may still be changed behind the coming of pages: no flush fills a log further, and no row is touched.
-use Rattle.std.proofs.Common.{◌≡◌, ◌∙◌, ◌≤◌, ◌<◌, ◌+◌, ◌-◌, ◌%◌, ◌==◌, ◌^◌, ◌++◌, ◌⊎◌, inl, inr, ℕ, suc, Bool, true, false, cond, List, [], ◌∷◌, length, ap, refl, sym, subst, arith, true≢false}
+use Rattle.std.proofs.Common.{◌≡◌, ◌∙◌, ◌≤◌, ◌<◌, ◌+◌, ◌-◌, ◌%◌, ◌==◌, ◌++◌, ◌⊎◌, inl, inr, ℕ, Bool, true, false, cond, List, [], ◌∷◌, length, ap, refl, sym, subst, arith, true≢false}
 use Rattle.std.proofs.lemmas.Bool.{cases_eq}
-use Rattle.paged_desks.specs.core_calls.Room.{room_takes}
 use Rattle.paged_desks.specs.core_state.Needs.{is_held_by, may}
 use Rattle.paged_desks.specs.core_state.Openings.{Opening}
 use Rattle.paged_desks.specs.core_state.States.{State}
@@ -9,8 +8,6 @@ use Rattle.paged_desks.specs.core_state.Steps as core
 use Rattle.paged_desks.specs.core_state.Steps.{happens}
 use Rattle.paged_desks.specs.engine_trait.Logs.{Logs, LogsOne}
 use Rattle.lean_disk.specs.Story.{Story}
-use Rattle.row_room.proofs.row_changes.TakesLemmas.{takes_most}
-use Rattle.row_room.specs.row_changes.Puts.{MayChange}
 use Rattle.paged_desks.specs.row_words.declared.event.Event.{Event}
 use Rattle.paged_desks.specs.row_words.declared.event.Event.TheVariants as told
 use Rattle.paged_desks.specs.row_words.Moments.{event_of, events_of}
@@ -22,13 +19,12 @@ use Rattle.paged_desks.proofs.session_desks.SeatLemmas.{turn_high, turn_low}
 use Rattle.paged_desks.specs.session_desks.Parts.{here, logs, shape}
 use Rattle.paged_desks.specs.session_desks.declared.desk.Desk.{Desk}
 use Rattle.paged_desks.proofs.session_state.Moments.{seen_state}
-use Rattle.paged_desks.proofs.session_state.UndoLemmas.{room_to_stage}
 use Rattle.paged_desks.specs.session_state.declared.session.Session.{Session}
 use Rattle.paged_desks.specs.worker_log.Calls.{flushed_log}
 use Rattle.paged_desks.specs.worker_log.Logs.{Log, limit, used}
 use Rattle.paged_desks.proofs.call_parts.RunLemmas.{run_core}
 use Rattle.paged_desks.specs.Machines.{IsReady, view_of}
-use Rattle.paged_desks.specs.Pages.{ArePaging, HasPaged, IsKept, is_paging}
+use Rattle.paged_desks.specs.Pages.{ArePaging, HasPagedWhere, IsKept, is_paging}
 use Rattle.paged_desks.specs.declared.machine.PagedMachine.{PagedMachine}
 use Rattle.paged_calls.specs.Changes.{MayStill}
 use Rattle.paged_calls.proofs.WarmLemmas.{kept_own}
@@ -110,7 +106,7 @@ rows_kept v w es k given seen = ap (λ m. m.core.row) (seen_state v w es given s
 
 module _ {D : Type 0} (story : D → Story) (key : ℕ) where
   -- its log is used no further
-  pub gone_no_fuller : (most : ℕ) (m n : PagedMachine D) → IsReady story m → HasPaged key most m n → IsNoFuller m.machine.work.log n.machine.work.log
+  pub gone_no_fuller : {P : Opening → State → Type 0} (most : ℕ) (m n : PagedMachine D) → IsReady story m → HasPagedWhere P most m n → IsNoFuller m.machine.work.log n.machine.work.log
   gone_no_fuller most m n ready p = subst (λ (l : Log). IsNoFuller l n.machine.work.log) here_was (subst (λ (l : Log). IsNoFuller (logs m.machine own) l) here_is
       (no_fuller own (opening (view_of m).given) (state (view_of m)).core p.events p.paging (logs m.machine own) (logs n.machine own)
       (p.logged own (turn_low (shape m.machine) (view_of m) (here m.machine) m.machine.desks.items ready.sound.desks) (turn_high (shape m.machine) (view_of m) (here m.machine) m.machine.desks.items ready.sound.desks) (opening (view_of m).given) (state (view_of m)).core)))
@@ -125,7 +121,7 @@ module _ {D : Type 0} (story : D → Story) (key : ℕ) where
       here_is = ap (λ (d : Desk). d.log) (desk_own (here n.machine) n.machine.desks.items own (sym p.turn))
 
   -- behind the coming of pages
-  pub may_behind : (most : ℕ) (m n : PagedMachine D) → IsReady story m → HasPaged key most m n → MayStill key m → MayStill key n
+  pub may_behind : {P : Opening → State → Type 0} (most : ℕ) (m n : PagedMachine D) → IsReady story m → HasPagedWhere P most m n → MayStill key m → MayStill key n
   may_behind most m n ready p f = record {
     is_open = ap (λ (x : Session). x.is_open) k.session ∙ f.is_open;
     whole = ap (λ (x : Session). x.is_half_aborted) k.session ∙ f.whole;
@@ -139,16 +135,3 @@ module _ {D : Type 0} (story : D → Story) (key : ℕ) where
 
       rows : (state (view_of n)).core.row ≡ (state (view_of m)).core.row
       rows = rows_kept (view_of m) (view_of n) p.events p.paging p.given p.seen
-
-  -- where its clock goes on
-  pub may_change : (m : PagedMachine D) → m.machine.work.session.works ≡ true → m.machine.work.session.clock.clock < 2 ^ 62 → key < 2 ^ 64 - 1 → MayStill key m → MayChange (view_of m) m.machine.work.session m.machine.work.log key
-  may_change m works small low f = record {
-    works = works;
-    is_open = f.is_open;
-    whole = f.whole;
-    few = f.few;
-    small = small;
-    room = room_to_stage m.machine.work.log (suc (room_takes (opening (view_of m).given) (state (view_of m)).core key)) f.room (let a = takes_most (opening (view_of m).given) (state (view_of m)).core key in omega arith);
-    row = f.row;
-    key_low = low;
-  }

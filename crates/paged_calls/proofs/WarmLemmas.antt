@@ -2,6 +2,8 @@
 use Rattle.std.proofs.Common.{◌≡◌, ◌∙◌, ◌⊎◌, inl, inr, ◌%◌, ◌++◌, ℕ, Bool, true, false, [], Option, Result, Ok, Err, ap, refl, sym, subst, arith, true≢false}
 use Rattle.map_model.specs.Lists.{Has}
 use Rattle.paged_desks.specs.core_calls.Fronts.{front}
+use Rattle.paged_desks.specs.core_state.Openings.{Opening}
+use Rattle.paged_desks.specs.core_state.States.{State}
 use Rattle.lean_disk.specs.Faults.{HasCause}
 use Rattle.lean_disk.specs.Story.{IsLawful, Story}
 use Rattle.paged_desks.specs.call_parts.Memory.{IsOf, Memory}
@@ -19,7 +21,7 @@ use Rattle.paged_desks.specs.session_state.Holds.{Holds as HoldsSession}
 use Rattle.paged_desks.specs.session_state.Staging.{IsButClock}
 use Rattle.paged_desks.specs.session_state.declared.session.Session.{Session}
 use Rattle.paged_desks.specs.Machines.{IsReady, memory, view_of}
-use Rattle.paged_desks.specs.Pages.{HasPaged, IsKept, goes_on}
+use Rattle.paged_desks.specs.Pages.{HasPagedWhere, IsKept, goes_on}
 use Rattle.paged_desks.specs.Parts.{HasFailed, HasGone, IsSpent, StandsNowhere}
 use Rattle.paged_desks.specs.declared.machine.PagedMachine.{PagedMachine}
 use Rattle.paged_desks.specs.declared.warming.Unwarmed.{Unwarmed}
@@ -74,7 +76,7 @@ holds_on story m n a b key own is_open held h = record {
     now = holds_of (shape n.machine) (view_of n) (here n.machine) n.machine.desks.items b.sound.desks
 
 -- the session whose turn it is, behind the coming of pages
-pub kept_own : {D : Type 0} (story : D → Story) (key most : ℕ) (m n : PagedMachine D) → IsReady story m → HasPaged key most m n → IsKept m.machine.work.session n.machine.work.session
+pub kept_own : {P : Opening → State → Type 0} {D : Type 0} (story : D → Story) (key most : ℕ) (m n : PagedMachine D) → IsReady story m → HasPagedWhere P most m n → IsKept m.machine.work.session n.machine.work.session
 kept_own story key most m n ready p =
     subst (λ (d : Desk). IsKept m.machine.work.session d.session) (desk_own (here n.machine) n.machine.desks.items m.machine.work.session.own (sym p.turn))
     (subst (λ (d : Desk). IsKept d.session (desk_of (here n.machine) n.machine.desks.items m.machine.work.session.own).session) (desk_own (here m.machine) m.machine.desks.items m.machine.work.session.own refl)

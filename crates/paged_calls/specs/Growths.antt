@@ -62,18 +62,22 @@ pub record IsRoom (own key : ℕ) (g : Opening) (s : State) (es : List happening
   pub makes : MakesRoom own g s key es
   pub way : (any grows es ≡ false) ⊎ HasWay g s key
 
--- Pages came and room was made, as a part of a call, by at most so many events beside those by which pages cooled. As many sessions are there, whose aborts are half
--- done where they were.
-pub record HasMade {D : Type 0} (story : D → Story) (key most : ℕ) (m n : PagedMachine D) : Type 0 where
+-- Pages came and the tree was changed, as a part of a call, by at most so many events beside those by which pages cooled. Each is such an event of session `own`; in
+-- a run a sync begins where P is so, and Q is so of the events from where they begin. As many sessions are there, whose aborts are half done where they were.
+pub record HasMadeWhere {D : Type 0} (story : D → Story) (is_such : (own : ℕ) → Event → Bool) (P : Opening → State → Type 0) (Q : (own : ℕ) → Opening → State → List happening.Event → Type 0) (most : ℕ) (m n : PagedMachine D) : Type 0 where
   pub events : List Event
-  pub making : AreMaking m.machine.work.session.own events
+  pub making : all (is_such m.machine.work.session.own) events ≡ true
   pub few : length events + 2 * hot_in n ≤ 2 * hot_in m + most
   pub part : Part m.machine.work.session.workers events (view_of m) (view_of n) (memory m) (memory n) (story m.machine.work.disk) (story n.machine.work.disk)
-  pub tight : (g : Opening) (xs : List Done) (first : List happening.Event) → Behind g xs first (view_of m) → SyncsWhere (λ s. IsTight g s key) g (behind_first g xs first) false (events_of events)
-  pub room : (g : Opening) (xs : List Done) (first : List happening.Event) → Behind g xs first (view_of m) → IsRoom m.machine.work.session.own key g (behind_first g xs first) (events_of events)
+  pub tight : (g : Opening) (xs : List Done) (first : List happening.Event) → Behind g xs first (view_of m) → SyncsWhere (P g) g (behind_first g xs first) false (events_of events)
+  pub room : (g : Opening) (xs : List Done) (first : List happening.Event) → Behind g xs first (view_of m) → Q m.machine.work.session.own g (behind_first g xs first) (events_of events)
   pub same : AreAsMany m.machine n.machine
   pub turn : n.machine.work.session.own ≡ m.machine.work.session.own
   pub halves : (w : ℕ) → 0 < w → w ≤ m.machine.work.session.workers → (desk_of (here n.machine) n.machine.desks.items w).session.is_half_aborted ≡ (desk_of (here m.machine) m.machine.desks.items w).session.is_half_aborted
+
+-- so room was made: a sync begins where a page of the key's way, or a free one, finds no frame
+abbrev pub HasMade : {D : Type 0} → (story : D → Story) → (key most : ℕ) → (m n : PagedMachine D) → Type 0
+HasMade story key most m n = HasMadeWhere story is_making (λ g s. IsTight g s key) (λ own g s es. IsRoom own key g s es) most m n
 
 -- ## Before it
 

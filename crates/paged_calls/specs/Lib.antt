@@ -1,9 +1,10 @@
--- Read Calls: in which run a machine stands, and what a call did in each. Steps, Changes, Growths, Rounds and Tests have words of private functions.
+-- Read Calls: in which run a machine stands, and what a call did in each. Steps, Changes, Growths, Rounds, Tidyings and Tests have words of private functions.
 pub mod Calls
 pub mod Steps
 pub mod Changes
 pub mod Growths
 pub mod Rounds
+pub mod Tidyings
 pub mod Tests
 -- Passed on to the crates above.
 pub use Rattle.paged_desks.specs as paged_desks

@@ -17,7 +17,8 @@ use crate::tests::change_refusal;
 use paged_desks::{Mode, PagedMachine, Stages, Unserved};
 use row_room::clock_refusal;
 
-/// Takes the value of a key away. The answer is the value that it had. Where a page of the key's way is in no frame, the pages of the way are brought into frames.
+/// Takes the value of a key away. The answer is the value that it had. The pages of the key's way are brought into frames; where the key's leaf has few entries, the tree is
+/// tidied first by changes by which space comes back, and each neighbour that one of these needs is brought into a frame too.
 pub fn del<D: Stages>(machine: &mut PagedMachine<D>, key: u64) -> Result<Option<u64>, Unserved>
     requires ready { Works machine.old.machine → IsReady D.story machine.old }
     requires key { key < 2 ^ 64 - 1 }

@@ -13,6 +13,7 @@ mod puts;
 mod reading;
 mod taking;
 mod tests;
+mod tidying;
 
 pub use dels::del;
 pub use gets::get;

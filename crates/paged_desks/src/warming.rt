@@ -2,6 +2,7 @@
 ghost use Rattle.std.specs.Prelude.{◌≡◌, ◌⊎◌, ◌<◌, ◌+◌, ◌*◌, ◌^◌, ◌-◌, ℕ, suc, true, false, IfErr, IfOk, OnOk, Err};
 ghost use Rattle.core_covers.specs.Lows.{IsAllFlushed};
 ghost use Rattle.lean_disk.specs.Faults.{HasCause};
+ghost use Rattle.desk_parts.specs.core_calls.LogEvents.{IsTightBeside};
 ghost use Rattle.desk_parts.specs.row_words.Openings.{opening};
 ghost use Rattle.desk_parts.specs.rows_trait.Views.{state};
 ghost use Rattle.paged_rows.specs.Paged.{IsFree, IsNamed, IsWarm};

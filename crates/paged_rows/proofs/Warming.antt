@@ -533,15 +533,15 @@ module _ {x y : Shape} {v w : View} {k : Provider} (same : x ≡ y) (i : IsPaged
             names = ap (λ n. names_page n page) (c.other (inner_of n page parent_names)) ∙ parent_names;
           }
 
+      -- and no other page changed
+      others_kept : (u : View) → KeepsOthers x page w u → (p : ℕ) → p ≢ page → (state u).core.page p ≡ (state v).core.page p
+      others_kept u others p other = others paged_now.alone p other ∙ ap (λ (s : Moment). s.core.page p) now
+
+      beside_kept : (z : Shape) (u : View) (is : Provider) (s : Story) (why : Refusal) → FaultCause x path w k page s u is why → RestCause (want.Beside page) (paged y v k) why (paged z u is)
+      beside_kept z u is s (refusal.PoolFull on latched high held) c = others_kept u c.others
+      beside_kept z u is s _ c = tt
+
       module _ {z : Shape} {u : View} {is : Provider} (warms : EveryWarm) (later : z ≡ x) where
-        -- and no other page changed
-        others_kept : KeepsOthers x page w u → (p : ℕ) → p ≢ page → (state u).core.page p ≡ (state v).core.page p
-        others_kept others p other = others paged_now.alone p other ∙ ap (λ (s : Moment). s.core.page p) now
-
-        beside_kept : (s : Story) (why : Refusal) → FaultCause x path w k page s u is why → RestCause (want.Beside page) (paged y v k) why (paged z u is)
-        beside_kept s (refusal.PoolFull on latched above held) c = others_kept c.others
-        beside_kept s _ c = tt
-
         pub has_come_beside : {frame : ℕ} → Moved most_a_page x w k u is → KeepsPath path w u → (state u).core.place page ≡ Place.Hot frame → is.broken ≡ k.broken → KeepsOthers x page w u → HasComeBeside key page frame (paged y v k) (paged z u is)
         has_come_beside m keeps hot_there broken others = record {
           moved = moved_from later m broken;
@@ -549,12 +549,12 @@ module _ {x y : Shape} {v w : View} {k : Provider} (same : x ≡ y) (i : IsPaged
           named = named_behind m;
           like = subst (λ (s : Moment). IsButEntries (s.core.page page) ((state u).core.page page)) now (contents m page);
           same = λ faithful. seq.contents most_a_page x w u k is paged_now.alone (ap (λ (g : Given). g.faithful) ran.given ∙ faithful) paged_now.keeps m page ∙ ap (λ (s : Moment). s.core.page page) now;
-          others = others_kept others;
+          others = others_kept u others;
           warm = stays_warm warms later m keeps;
         }
 
         pub refused_beside : (s : Story) (why : Refusal) → HasRefused most_a_page x path w k why u is → FaultCause x path w k page s u is why → IsRefusedTo key (want.Beside page) (paged y v k) why (paged z u is)
-        refused_beside s why h c = refused_hot s why warms later h page (want.Beside page) below_named (refl, named_behind h.moved) (beside_kept s why c) c
+        refused_beside s why h c = refused_hot s why warms later h page (want.Beside page) below_named (refl, named_behind h.moved) (beside_kept z u is s why c) c
 
   -- the slots hold what is saved still
   pub fed_now : (s : Story) → IsFedIfFaithful (paged y v k) s → IsFedIfFaithful (paged x w k) s

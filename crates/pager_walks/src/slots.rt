@@ -12,6 +12,9 @@ pub struct Slot {
     pub slot: usize,
 }
 
+/// In so many leaves no key is deleted.
+const KEPT: u32 = 300;
+
 /// A number below a limit.
 pub fn choose(random: &mut Pcg32, limit: u32) -> u32
     requires { 0 < limit }
@@ -28,8 +31,24 @@ impl Slot {
         } else {
             INNER * LEAVES
         };
+        let leaf = choose(random, leaves);
+        let slot = choose(random, SLOTS as u32) as usize;
+        // No slot that has no entry at first: so a leaf in which keys are deleted is never full.
+        let has_entry = leaf < KEPT || slot % 4 != 3;
         Slot {
-            leaf: choose(random, leaves) * 13 % 360,
+            leaf: leaf * 13 % 360,
+            slot: if has_entry {
+                slot
+            } else {
+                slot.saturating_sub(1)
+            },
+        }
+    }
+
+    /// One of a leaf in which keys are deleted.
+    pub fn apart(random: &mut Pcg32) -> Slot {
+        Slot {
+            leaf: (KEPT + choose(random, INNER * LEAVES - KEPT)) * 13 % 360,
             slot: choose(random, SLOTS as u32) as usize,
         }
     }

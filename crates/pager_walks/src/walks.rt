@@ -117,7 +117,10 @@ impl Walk {
             0..20 => self.get(alloc, slot),
             20..44 => self.warm(alloc, slot),
             44 => self.sync(),
-            45..52 => self.del(alloc, slot),
+            45..52 => {
+                let slot = Slot::apart(&mut self.random);
+                self.del(alloc, slot)
+            }
             kind if kind - 52 < puts => self.put(alloc, slot, value),
             _ => self.commit(alloc),
         }

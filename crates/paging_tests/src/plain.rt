@@ -41,7 +41,7 @@ struct Entry {
 }
 
 /// What a run begins on: a map, and the keys that have an entry in the tree. Each key of the map has one, and so has each that was ever written, but where a crash
-/// lost what wrote it, or it was deleted and a put may have taken its tombstone out of its leaf, it is not sure that it has.
+/// lost what wrote it, or it was deleted and a put or a del may have taken its tombstone out of its leaf, it is not sure that it has.
 #[derive(Drop)]
 pub(crate) struct Left {
     pub map: BTreeMap<u64, u64>,
@@ -97,7 +97,7 @@ pub(crate) struct Plain {
     pub alloc: Global,
     pub map: BTreeMap<u64, u64>,
     pub entries: BTreeMap<u64, bool>,
-    // The keys whose tombstones a put of this run may have taken out of their leaves.
+    // The keys whose tombstones a put or a del of this run may have taken out of their leaves.
     gone: BTreeMap<u64, bool>,
     changes: Vec<Change>,
     held: Vec<Held>,
@@ -369,7 +369,7 @@ impl Plain {
         self.map.get(&key).is_none() && !self.is_held(key)
     }
 
-    // The entries beside a key's that may go with a put of it: so many sure ones lie between at most, since its leaf has room for no more.
+    // The entries beside a key's that may go with a put or a del of it: so many sure ones lie between at most, since its leaf has room for no more.
     fn going_beside(&self, key: u64) -> Result<Vec<u64>, AllocError> {
         let mut going = Vec::new(self.alloc);
         let mut between = 0u64;
@@ -397,9 +397,9 @@ impl Plain {
         Ok(going)
     }
 
-    // A key that is written has an entry. Where it had none, its leaf may have been full: then tombstones went that nobody can need.
-    fn note_entry(&mut self, key: u64) -> Result<(), AllocError> {
-        if self.entries.get(&key).copied() != Some(true) {
+    // A key that is written has an entry. Where it had none, its leaf may have been full, and where it is deleted, thin: then tombstones went that nobody can need.
+    fn note_entry(&mut self, key: u64, is_deleted: bool) -> Result<(), AllocError> {
+        if is_deleted || self.entries.get(&key).copied() != Some(true) {
             for other in &self.going_beside(key)? {
                 self.entries.insert(*other, false)?;
                 self.gone.insert(*other, true)?;
@@ -505,7 +505,7 @@ impl Plain {
         if was.is_some() || value.is_some() {
             let change = Change { session, key, was };
             self.changes.push(change).expect(rt, MEMORY);
-            self.note_entry(key).expect(rt, MEMORY);
+            self.note_entry(key, value.is_none()).expect(rt, MEMORY);
             set(&mut self.map, key, value).expect(rt, MEMORY);
         }
         self.want_value(rt, session, "was ", was);

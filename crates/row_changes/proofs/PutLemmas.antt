@@ -12,7 +12,7 @@ use Rattle.session_state.specs.core_state.Events as happening
 use Rattle.session_state.specs.core_state.Needs.{holds_row, is_held_by, may}
 use Rattle.session_state.specs.core_state.States.{State, Worker, flushed_by_all, nodes_of}
 use Rattle.session_state.specs.core_calls.LogEvents.{behind}
-use Rattle.session_state.specs.core_calls.Room.{EveryRoom, free_list, frees_from, room_takes}
+use Rattle.session_state.specs.core_calls.Room.{EveryRoom, free_list, frees_from}
 use Rattle.session_state.specs.core_state.Steps.{at_pages, happens, write_entry}
 use Rattle.lean_disk.specs.Story.{Story}
 use Rattle.session_state.specs.log_record.declared.record.Record.{Record}
@@ -33,7 +33,7 @@ use Rattle.session_state.specs.flush_avoidance.Clocks.{risen}
 use Rattle.session_state.specs.Holds.{AreNumbers, Holds, IsOf}
 use Rattle.session_state.specs.Numbers.{HaveRoom}
 use Rattle.row_changes.specs.Outcomes.{HasNoRoom}
-use Rattle.row_changes.specs.Puts.{IsChanged, MayChange}
+use Rattle.row_changes.specs.Puts.{IsChanged, MayWrite}
 use Rattle.session_state.specs.Staging.{Staging}
 use Rattle.row_changes.specs.Takes.{IsSpent}
 use Rattle.session_state.specs.declared.session.Session.{Session}
@@ -123,7 +123,7 @@ no_room z v w x log key row path h m t = record {
 -- ## The change
 
 -- what it needs, whichever its word
-pub may_put : (z : Shape) (v : View) (x : Session) (log : Log) (key word : ℕ) → Holds z v x log → MayChange v x log key → word ≤ 2 ^ 63 → MayPut v x.own key word
+pub may_put : {many : ℕ} (z : Shape) (v : View) (x : Session) (log : Log) (key word : ℕ) → Holds z v x log → MayWrite many v x log key → word ≤ 2 ^ 63 → MayPut v x.own key word
 may_put z v x log key word h f low = record {
   is_open = h.session.is_open ∙ f.is_open;
   few = let m = many_of ((state v).core.worker x.own).changes x.undo h.session.undo in let q = f.few in omega arith;
@@ -173,7 +173,7 @@ same_flushed r old new a = go (leb (length old.payload + length (records_text (r
     go true e = ap (λ k. k.flushed) (a.room (leb-true (length old.payload + length (records_text (r ∷ []))) 2000 e))
     go false e = ap (λ k. k.flushed) (a.full (λ le. true≢false (sym (le-leb (length old.payload + length (records_text (r ∷ []))) 2000 le) ∙ e)))
 
-module _ (rooms : EveryRoom) (z : Shape) (v w : View) (x : Session) (log : Log) (h : Holds z v x log) (key value : ℕ) (f : MayChange v x log key) (before : Option ℕ) (rs now : List Record) (y : Session) (log_now : Log)
+module _ {many : ℕ} (rooms : EveryRoom) (z : Shape) (v w : View) (x : Session) (log : Log) (h : Holds z v x log) (key value : ℕ) (f : MayWrite many v x log key) (before : Option ℕ) (rs now : List Record) (y : Session) (log_now : Log)
     (d : Changed z.alone x.own key value before v rs w y.clock now) where
   abbrev s : State
   s = (state v).core
@@ -239,8 +239,8 @@ module _ (rooms : EveryRoom) (z : Shape) (v w : View) (x : Session) (log : Log) 
     }
 
     -- the change may be put back
-    room_on : HasRoomToStage log_now (room_takes (opening v.given) s key)
-    room_on = room_after st.came.entry log log_now (room_takes (opening v.given) s key) st.came.short st.came.after h.numbers.hand f.room
+    room_on : HasRoomToStage log_now many
+    room_on = room_after st.came.entry log log_now many st.came.short st.came.after h.numbers.hand f.room
 
     hand_on : HasHand log_now
     hand_on = hand_after st.came.entry log log_now st.came.after

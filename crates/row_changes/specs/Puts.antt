@@ -22,16 +22,20 @@ use Rattle.session_state.specs.Undo.{HasRoomToStage}
 use Rattle.row_changes.specs.declared.ways.Unmade.{Unmade}
 use Rattle.row_changes.specs.declared.ways.Unmade.TheVariants as unmade
 
--- No test refuses it, its row is held alone, and the log has room for the changes of the tree that room for the key takes, for the change, and for what it puts back.
-pub record MayChange (v : View) (x : Session) (log : Log) (key : ℕ) : Type 0 where
+-- No test refuses it, its row is held alone, and the log has room for so many changes of the tree, for the change, and for what it puts back.
+pub record MayWrite (many : ℕ) (v : View) (x : Session) (log : Log) (key : ℕ) : Type 0 where
   pub works : x.works ≡ true
   pub is_open : x.is_open ≡ true
   pub whole : x.is_half_aborted ≡ false
   pub few : length x.undo < transaction_changes
   pub small : x.clock.clock < 2 ^ 62
-  pub room : HasRoomToStage log (suc (room_takes (opening v.given) (state v).core key))
+  pub room : HasRoomToStage log (suc many)
   pub row : is_held_by ((state v).core.row (key % x.held.count)).holder x.own ≡ true
   pub key_low : key < 2 ^ 64 - 1
+
+-- so it is for those that room for the key takes
+abbrev pub MayChange : View → Session → Log → (key : ℕ) → Type 0
+MayChange v x log key = MayWrite (room_takes (opening v.given) (state v).core key) v x log key
 
 -- The change was seen next, at a moment at which the leaf said this of the key, and its record was staged.
 pub record IsChanged (own : ℕ) (v w : View) (key value : ℕ) (before : Option ℕ) (was is : Log) (old new : Story) : Type 0 where

@@ -4,7 +4,7 @@ ghost use Rattle.session_state.specs.engine_trait.Serving.{disk_fault};
 ghost use Rattle.lean_disk.specs.Faults.{HasCause};
 ghost use Rattle.session_state.specs.Holds.{Holds, IsSameSession};
 ghost use Rattle.row_changes.specs.Dels.{Dels};
-ghost use Rattle.row_changes.specs.Puts.{MayChange, works_behind};
+ghost use Rattle.row_changes.specs.Puts.{MayWrite, works_behind};
 ghost use Rattle.row_changes.specs.Ways.{IsCut, IsWarm};
 ghost use Rattle.row_changes.specs.declared.ways.Unmade.{Unmade};
 
@@ -23,7 +23,7 @@ pub fn del_held<R: Rows, D: Stages>(
 ) -> Result<Option<u64>, Unmade>
     requires fits { R.fits rows.old seat.old }
     requires holds { Holds (R.shape rows.old) (R.view seat.old) work.old.session work.old.log }
-    requires may { MayChange (R.view seat.old) work.old.session work.old.log key }
+    requires may { MayWrite 0 (R.view seat.old) work.old.session work.old.log key }
     ensures fits { R.fits rows.new seat.new × (R.shape rows.new ≡ R.shape rows.old) }
     ensures holds { work.new.session.works ≡ true → Holds (R.shape rows.new) (R.view seat.new) work.new.session work.new.log }
     ensures session { IsSameSession work.old.session work.new.session }

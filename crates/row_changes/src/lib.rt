@@ -23,6 +23,7 @@ pub use ways::{Cold, Unmade, unserved_of};
 
 // Passed on to the crates above.
 pub use session_state::{
-    DEEPEST, Following, FreePages, Locked, Mode, Path, Rows, Session, Stages, Unanswered, Unserved,
-    Unstaged, Work, WorkerLog, every_low, every_room, every_warm, next, next_fits,
+    DEEPEST, Following, FreePages, Locked, Mode, Path, Rows, Session, Stages, TOMBSTONE,
+    Unanswered, Unserved, Unstaged, Way, Work, WorkerLog, every_low, every_room, every_warm, next,
+    next_fits, reach,
 };

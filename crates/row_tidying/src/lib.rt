@@ -16,4 +16,4 @@ pub use purges::{Cleared, purge_leaf};
 
 // Passed on to the crates above.
 pub use row_ends::{Ended, call_refusal};
-pub use tidy_rules::every_purged;
+pub use tidy_rules::{every_purged, every_tidy};

@@ -8,22 +8,22 @@ use Rattle.page_model.specs.Nodes.{Node, covers}
 use Rattle.page_model.specs.Page as stored
 use Rattle.page_model.specs.Page.{word_at}
 use Rattle.page_model.specs.Pairs.{Has, Pair, Span, spans}
-use Rattle.session_state.specs.core_state.Events.{Event}
-use Rattle.session_state.specs.core_state.Needs.{are_hot, may, may_join, needs, pages_of}
-use Rattle.session_state.specs.core_state.Openings.{Opening}
-use Rattle.session_state.specs.core_state.States.{Place, State, is_hot, nodes_of}
-use Rattle.session_state.specs.worker_log.Logs.{Log}
-use Rattle.session_state.specs.row_words.Openings.{opening}
-use Rattle.session_state.specs.row_words.Words.{is_inner}
-use Rattle.session_state.specs.rows_trait.Views.{Shape, state}
-use Rattle.session_state.specs.rows_trait.declared.view.View.{View}
-use Rattle.session_state.specs.Holds.{Holds}
-use Rattle.session_state.specs.declared.session.Session.{Session}
+use Rattle.row_changes.specs.session_state.core_state.Events.{Event}
+use Rattle.row_changes.specs.session_state.core_state.Needs.{are_hot, may, may_join, needs, pages_of}
+use Rattle.row_changes.specs.session_state.core_state.Openings.{Opening}
+use Rattle.row_changes.specs.session_state.core_state.States.{Place, State, is_hot, nodes_of}
+use Rattle.row_changes.specs.session_state.worker_log.Logs.{Log}
+use Rattle.row_changes.specs.session_state.row_words.Openings.{opening}
+use Rattle.row_changes.specs.session_state.row_words.Words.{is_inner}
+use Rattle.row_changes.specs.session_state.rows_trait.Views.{Shape, state}
+use Rattle.row_changes.specs.session_state.rows_trait.declared.view.View.{View}
+use Rattle.row_changes.specs.session_state.Holds.{Holds}
+use Rattle.row_changes.specs.session_state.declared.session.Session.{Session}
 use Rattle.row_image.specs.Hot.{StandsIn}
 use Rattle.row_image.specs.Sights.{EveryPair, HasNone, IsFirst, NamesAt, PairLaws}
-use Rattle.btree_smo.proofs.Reading.{framed_count}
-use Rattle.tidy_rules.specs.Laws.{EveryTidy}
-use Rattle.tidy_rules.specs.Tidying.{Sisters, Stage, is_thin, join_of, join_under, next_up, page_at, sisters, thin_most}
+use Rattle.row_tidying.proofs.btree_smo.Reading.{framed_count}
+use Rattle.row_tidying.specs.tidy_rules.Laws.{EveryTidy}
+use Rattle.row_tidying.specs.tidy_rules.Tidying.{Sisters, Stage, is_thin, join_of, join_under, next_up, page_at, sisters, thin_most}
 use Rattle.row_tidying.specs.Changes.{CanJoin}
 use Rattle.row_tidying.proofs.MadeLemmas.{one_in, sound}
 use Rattle.row_walks.specs.Inside.Ways.{IsOnWay, IsWayIn, frame_at}

@@ -8,33 +8,33 @@ use Rattle.page_model.specs.Pairs.{find}
 use Rattle.page_model.specs.Redo.{is_some}
 use Rattle.page_model.specs.Tree.{value_of}
 use Rattle.map_model.specs.declared.call.Refusal.TheVariants as refusal
-use Rattle.session_state.specs.engine_trait.declared.unserved.Unanswered.TheVariants as unanswered
-use Rattle.session_state.specs.engine_trait.declared.unserved.Unserved.{Unserved}
-use Rattle.session_state.specs.engine_trait.declared.unserved.Unserved.TheVariants as unserved
-use Rattle.session_state.specs.core_state.Events as happening
-use Rattle.session_state.specs.core_state.Needs.{may, value_in}
-use Rattle.session_state.specs.core_state.Openings.{Opening}
-use Rattle.session_state.specs.core_state.States.{Place, State, nodes_of}
-use Rattle.session_state.specs.core_state.Steps.{happens}
-use Rattle.session_state.specs.core_calls.Warms.{IsWarmFrom}
+use Rattle.row_changes.specs.session_state.engine_trait.declared.unserved.Unanswered.TheVariants as unanswered
+use Rattle.row_changes.specs.session_state.engine_trait.declared.unserved.Unserved.{Unserved}
+use Rattle.row_changes.specs.session_state.engine_trait.declared.unserved.Unserved.TheVariants as unserved
+use Rattle.row_changes.specs.session_state.core_state.Events as happening
+use Rattle.row_changes.specs.session_state.core_state.Needs.{may, value_in}
+use Rattle.row_changes.specs.session_state.core_state.Openings.{Opening}
+use Rattle.row_changes.specs.session_state.core_state.States.{Place, State, nodes_of}
+use Rattle.row_changes.specs.session_state.core_state.Steps.{happens}
+use Rattle.row_changes.specs.session_state.core_calls.Warms.{IsWarmFrom}
 use Rattle.lean_disk.specs.Faults.{HasCause}
 use Rattle.lean_disk.specs.Story.{Story}
-use Rattle.session_state.specs.disk_image.Records.{entry_of}
-use Rattle.session_state.specs.worker_log.Logs.{Log}
-use Rattle.session_state.specs.row_words.declared.event.Event.{Event}
-use Rattle.session_state.specs.row_words.declared.event.Event.TheVariants.{Purge}
-use Rattle.session_state.specs.row_words.declared.given.Given.{Given}
-use Rattle.session_state.specs.row_words.Moments.{Moment, event_of}
-use Rattle.session_state.specs.row_words.Openings.{opening}
-use Rattle.session_state.specs.row_words.Words.{framed, is_inner, swips}
-use Rattle.session_state.specs.rows_trait.Views.{Shape, after_all, state}
-use Rattle.session_state.specs.rows_trait.declared.view.View.{View}
-use Rattle.session_state.specs.flush_avoidance.Clocks.{risen}
-use Rattle.session_state.specs.Holds.{Holds}
-use Rattle.session_state.specs.declared.session.Session.{Session}
-use Rattle.btree_smo.specs.Outcomes.{AreMisses}
-use Rattle.tidy_rules.specs.Laws.{gone}
-use Rattle.tidy_rules.specs.Tidying.{Stage, is_thin, is_thin_leaf, next_tidy, next_up, page_at, purge_or, purgeable_in}
+use Rattle.row_changes.specs.session_state.disk_image.Records.{entry_of}
+use Rattle.row_changes.specs.session_state.worker_log.Logs.{Log}
+use Rattle.row_changes.specs.session_state.row_words.declared.event.Event.{Event}
+use Rattle.row_changes.specs.session_state.row_words.declared.event.Event.TheVariants.{Purge}
+use Rattle.row_changes.specs.session_state.row_words.declared.given.Given.{Given}
+use Rattle.row_changes.specs.session_state.row_words.Moments.{Moment, event_of}
+use Rattle.row_changes.specs.session_state.row_words.Openings.{opening}
+use Rattle.row_changes.specs.session_state.row_words.Words.{framed, is_inner, swips}
+use Rattle.row_changes.specs.session_state.rows_trait.Views.{Shape, after_all, state}
+use Rattle.row_changes.specs.session_state.rows_trait.declared.view.View.{View}
+use Rattle.row_changes.specs.session_state.flush_avoidance.Clocks.{risen}
+use Rattle.row_changes.specs.session_state.Holds.{Holds}
+use Rattle.row_changes.specs.session_state.declared.session.Session.{Session}
+use Rattle.row_tidying.specs.btree_smo.Outcomes.{AreMisses}
+use Rattle.row_tidying.specs.tidy_rules.Laws.{gone}
+use Rattle.row_tidying.specs.tidy_rules.Tidying.{Stage, is_thin, is_thin_leaf, next_tidy, next_up, page_at, purge_or, purgeable_in}
 use Rattle.row_changes.specs.Ways.{IsWarm}
 use Rattle.row_changes.proofs.StepLemmas.{cause_from}
 use Rattle.row_image.specs.Hot.{StandsIn}

@@ -6,11 +6,11 @@ use Rattle.page_model.specs.Nodes.{covers}
 use Rattle.page_model.specs.Pairs.{Pair}
 use Rattle.page_model.specs.Page.{word_at}
 use Rattle.page_model.specs.Tree.{IsTree}
-use Rattle.session_state.specs.core_calls.Room.{EveryRoom}
-use Rattle.session_state.specs.core_state.Events.{Event}
-use Rattle.session_state.specs.core_state.Openings.{Opening}
-use Rattle.session_state.specs.core_state.States.{State, nodes_of}
-use Rattle.tidy_rules.specs.Tidying.{Sisters, first_of, is_thin, join_under, next_drop, next_up, page_among, page_at, sisters}
+use Rattle.row_changes.specs.session_state.core_calls.Room.{EveryRoom}
+use Rattle.row_changes.specs.session_state.core_state.Events.{Event}
+use Rattle.row_changes.specs.session_state.core_state.Openings.{Opening}
+use Rattle.row_changes.specs.session_state.core_state.States.{State, nodes_of}
+use Rattle.row_tidying.specs.tidy_rules.Tidying.{Sisters, first_of, is_thin, join_under, next_drop, next_up, page_among, page_at, sisters}
 
 -- ## The page of a level
 

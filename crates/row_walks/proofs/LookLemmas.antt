@@ -1,17 +1,17 @@
 -- Looks and misses leave the core as it was: what is known before them is known behind them, and the other way round.
 use Rattle.std.proofs.Common.{◌≡◌, ◌<◌, ◌∙◌, ℕ, suc, true, false, List, length, Some, None, refl, sym, ap, subst}
 use Rattle.page_model.specs.Check.{names_page}
-use Rattle.session_state.specs.core_state.Events as happening
-use Rattle.session_state.specs.core_state.Needs.{may_drop, may_join}
-use Rattle.session_state.specs.core_state.States.{Place, State, nodes_of}
-use Rattle.session_state.specs.row_words.declared.given.Given.{Given}
-use Rattle.session_state.specs.row_words.Moments.{Moment}
-use Rattle.session_state.specs.row_words.Openings.{opening}
-use Rattle.session_state.specs.rows_trait.Views.{state}
-use Rattle.session_state.specs.rows_trait.declared.view.View.{View}
-use Rattle.tidy_rules.specs.Tidying.{is_thin, join_under, next_drop, page_at}
+use Rattle.row_changes.specs.session_state.core_state.Events as happening
+use Rattle.row_changes.specs.session_state.core_state.Needs.{may_drop, may_join}
+use Rattle.row_changes.specs.session_state.core_state.States.{Place, State, nodes_of}
+use Rattle.row_changes.specs.session_state.row_words.declared.given.Given.{Given}
+use Rattle.row_changes.specs.session_state.row_words.Moments.{Moment}
+use Rattle.row_changes.specs.session_state.row_words.Openings.{opening}
+use Rattle.row_changes.specs.session_state.rows_trait.Views.{state}
+use Rattle.row_changes.specs.session_state.rows_trait.declared.view.View.{View}
+use Rattle.row_tidying.specs.tidy_rules.Tidying.{is_thin, join_under, next_drop, page_at}
 use Rattle.row_changes.proofs.SeenLemmas.{still}
-use Rattle.row_ends.specs.Flushed.{Looked}
+use Rattle.row_tidying.specs.row_ends.Flushed.{Looked}
 use Rattle.row_image.specs.Hot.{StandsIn}
 use Rattle.row_image.specs.declared.sight.Sight.{Sight}
 use Rattle.row_tidying.specs.Changes.{CanDrop, CanJoin}

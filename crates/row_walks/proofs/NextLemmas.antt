@@ -3,17 +3,17 @@ use Rattle.std.proofs.Common.{◌≡◌, ◌≢◌, ◌⊎◌, inl, inr, ◌≤�
 use Rattle.std.proofs.lemmas.Bool.{and_parts, cases_lt, cond-true, eqb-true}
 use Rattle.page_model.specs.Nodes.{covers}
 use Rattle.page_model.specs.Tree.{IsTree}
-use Rattle.session_state.specs.core_calls.Warms.{EveryWarm, IsWarmFrom}
-use Rattle.session_state.specs.core_state.Events as happening
-use Rattle.session_state.specs.core_state.Openings.{Opening}
-use Rattle.session_state.specs.core_state.States.{Place, State, nodes_of}
-use Rattle.session_state.specs.worker_log.Logs.{Log}
-use Rattle.session_state.specs.row_words.Openings.{opening}
-use Rattle.session_state.specs.rows_trait.Views.{Shape, state}
-use Rattle.session_state.specs.rows_trait.declared.view.View.{View}
-use Rattle.session_state.specs.Holds.{Holds}
-use Rattle.session_state.specs.declared.session.Session.{Session}
-use Rattle.tidy_rules.specs.Tidying.{first_of, is_thin, join_under, next_drop, next_up, page_among, page_at}
+use Rattle.row_changes.specs.session_state.core_calls.Warms.{EveryWarm, IsWarmFrom}
+use Rattle.row_changes.specs.session_state.core_state.Events as happening
+use Rattle.row_changes.specs.session_state.core_state.Openings.{Opening}
+use Rattle.row_changes.specs.session_state.core_state.States.{Place, State, nodes_of}
+use Rattle.row_changes.specs.session_state.worker_log.Logs.{Log}
+use Rattle.row_changes.specs.session_state.row_words.Openings.{opening}
+use Rattle.row_changes.specs.session_state.rows_trait.Views.{Shape, state}
+use Rattle.row_changes.specs.session_state.rows_trait.declared.view.View.{View}
+use Rattle.row_changes.specs.session_state.Holds.{Holds}
+use Rattle.row_changes.specs.session_state.declared.session.Session.{Session}
+use Rattle.row_tidying.specs.tidy_rules.Tidying.{first_of, is_thin, join_under, next_drop, next_up, page_among, page_at}
 use Rattle.row_tidying.proofs.MadeLemmas.{sound}
 use Rattle.row_walks.specs.Inside.Levels.{IsFound, IsJoinable}
 use Rattle.row_walks.specs.Inside.Nexts.{ArePassed, IsLastChild, IsNext, IsNextDrop, IsNextJoin, IsNoSingle, IsRootNext, IsStop, IsWanted, up_from}

@@ -7,18 +7,18 @@ use Rattle.page_model.specs.Check.{names_page}
 use Rattle.page_model.specs.Nodes.{Node, covers, holds, is_leaf}
 use Rattle.page_model.specs.Pairs.{Span, spans}
 use Rattle.page_model.specs.Tree.{Names}
-use Rattle.session_state.specs.core_calls.Room.{EveryRoom}
-use Rattle.session_state.specs.core_state.Openings.{Opening}
-use Rattle.session_state.specs.core_state.States.{Place, State, in_frame, nodes_of}
-use Rattle.session_state.specs.worker_log.Logs.{Log}
-use Rattle.session_state.specs.row_words.Openings.{opening}
-use Rattle.session_state.specs.rows_trait.Views.{Shape, state}
-use Rattle.session_state.specs.rows_trait.declared.view.View.{View}
-use Rattle.session_state.specs.lean_proto.Paths.{above}
-use Rattle.session_state.specs.btree_descent.Puts.{IsLeafAt}
-use Rattle.session_state.specs.Holds.{Holds}
-use Rattle.session_state.specs.declared.session.Session.{Session}
-use Rattle.tidy_rules.specs.Tidying.{page_at}
+use Rattle.row_changes.specs.session_state.core_calls.Room.{EveryRoom}
+use Rattle.row_changes.specs.session_state.core_state.Openings.{Opening}
+use Rattle.row_changes.specs.session_state.core_state.States.{Place, State, in_frame, nodes_of}
+use Rattle.row_changes.specs.session_state.worker_log.Logs.{Log}
+use Rattle.row_changes.specs.session_state.row_words.Openings.{opening}
+use Rattle.row_changes.specs.session_state.rows_trait.Views.{Shape, state}
+use Rattle.row_changes.specs.session_state.rows_trait.declared.view.View.{View}
+use Rattle.row_changes.specs.session_state.lean_proto.Paths.{above}
+use Rattle.row_changes.specs.session_state.btree_descent.Puts.{IsLeafAt}
+use Rattle.row_changes.specs.session_state.Holds.{Holds}
+use Rattle.row_changes.specs.session_state.declared.session.Session.{Session}
+use Rattle.row_tidying.specs.tidy_rules.Tidying.{page_at}
 use Rattle.row_changes.specs.Paths.{IsPathTo}
 use Rattle.row_tidying.proofs.MadeLemmas.{hot_in, one_in, sound}
 use Rattle.row_walks.specs.Inside.Ways.{IsOnWay, frame_at}

@@ -7,19 +7,19 @@ use Rattle.page_model.specs.Page as stored
 use Rattle.page_model.specs.Page.{word_at}
 use Rattle.page_model.specs.Pairs.{Pair, Span, spans}
 use Rattle.map_model.specs.Lists.{any}
-use Rattle.session_state.specs.core_state.Events as happening
-use Rattle.session_state.specs.core_state.Needs.{is_single, may_drop}
-use Rattle.session_state.specs.core_state.Openings.{Opening}
-use Rattle.session_state.specs.core_state.States.{Place, State, nodes_of}
-use Rattle.session_state.specs.worker_log.Logs.{Log}
-use Rattle.session_state.specs.row_words.Openings.{opening}
-use Rattle.session_state.specs.rows_trait.Views.{Shape, state}
-use Rattle.session_state.specs.rows_trait.declared.view.View.{View}
-use Rattle.session_state.specs.Holds.{Holds}
-use Rattle.session_state.specs.declared.session.Session.{Session}
+use Rattle.row_changes.specs.session_state.core_state.Events as happening
+use Rattle.row_changes.specs.session_state.core_state.Needs.{is_single, may_drop}
+use Rattle.row_changes.specs.session_state.core_state.Openings.{Opening}
+use Rattle.row_changes.specs.session_state.core_state.States.{Place, State, nodes_of}
+use Rattle.row_changes.specs.session_state.worker_log.Logs.{Log}
+use Rattle.row_changes.specs.session_state.row_words.Openings.{opening}
+use Rattle.row_changes.specs.session_state.rows_trait.Views.{Shape, state}
+use Rattle.row_changes.specs.session_state.rows_trait.declared.view.View.{View}
+use Rattle.row_changes.specs.session_state.Holds.{Holds}
+use Rattle.row_changes.specs.session_state.declared.session.Session.{Session}
 use Rattle.row_image.specs.Hot.{StandsIn}
-use Rattle.btree_smo.proofs.Reading.{framed_count}
-use Rattle.tidy_rules.specs.Tidying.{drop_of, next_drop}
+use Rattle.row_tidying.proofs.btree_smo.Reading.{framed_count}
+use Rattle.row_tidying.specs.tidy_rules.Tidying.{drop_of, next_drop}
 use Rattle.row_tidying.proofs.MadeLemmas.{one_in, sound}
 use Rattle.row_walks.specs.Inside.Nexts.{IsLastChild}
 use Rattle.row_walks.specs.Inside.Ways.{IsWayIn, frame_at}

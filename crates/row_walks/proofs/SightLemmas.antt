@@ -4,20 +4,20 @@ use Rattle.std.specs.Prelude.{slice_index}
 use Rattle.std.proofs.lemmas.Bool.{cases_lt}
 use Rattle.page_model.specs.Limits.{frame_bit}
 use Rattle.page_model.specs.Page.{word_at}
-use Rattle.session_state.specs.core_calls.Room.{EveryRoom}
-use Rattle.session_state.specs.core_state.States.{Place}
-use Rattle.session_state.specs.worker_log.Logs.{Log}
-use Rattle.session_state.specs.row_words.Openings.{opening}
-use Rattle.session_state.specs.rows_trait.Views.{Shape, state}
-use Rattle.session_state.specs.rows_trait.declared.view.View.{View}
-use Rattle.session_state.specs.Holds.{Holds}
-use Rattle.session_state.specs.declared.session.Session.{Session}
-use Rattle.row_ends.specs.Flushed.{Looked}
+use Rattle.row_changes.specs.session_state.core_calls.Room.{EveryRoom}
+use Rattle.row_changes.specs.session_state.core_state.States.{Place}
+use Rattle.row_changes.specs.session_state.worker_log.Logs.{Log}
+use Rattle.row_changes.specs.session_state.row_words.Openings.{opening}
+use Rattle.row_changes.specs.session_state.rows_trait.Views.{Shape, state}
+use Rattle.row_changes.specs.session_state.rows_trait.declared.view.View.{View}
+use Rattle.row_changes.specs.session_state.Holds.{Holds}
+use Rattle.row_changes.specs.session_state.declared.session.Session.{Session}
+use Rattle.row_tidying.specs.row_ends.Flushed.{Looked}
 use Rattle.row_image.specs.Hot.{StandsIn}
 use Rattle.row_image.specs.Sights.{EveryPair, HasNone, IsFirst}
 use Rattle.row_image.specs.declared.sight.Sight.{Sight}
-use Rattle.tidy_rules.specs.Laws.{EveryTidy}
-use Rattle.tidy_rules.specs.Tidying.{is_thin, join_under, page_at}
+use Rattle.row_tidying.specs.tidy_rules.Laws.{EveryTidy}
+use Rattle.row_tidying.specs.tidy_rules.Tidying.{is_thin, join_under, page_at}
 use Rattle.row_tidying.proofs.MadeLemmas.{framed}
 use Rattle.row_walks.specs.Inside.Levels.{IsJoinable}
 use Rattle.row_walks.specs.Inside.Ways.{IsSeen, IsWayIn, frame_at}
@@ -105,7 +105,7 @@ module _ (pairs : EveryPair) (tidy : EveryTidy) (z : Shape) (v : View) (x : Sess
           word_of : word_at other parent.node.node.pairs ≡ frame_bit + f
           word_of = let e : word ≡ frame_bit + (word - frame_bit) = omega arith in sym word_at_is ∙ e
 
-          there : (p : ℕ) × (word_at other (Rattle.session_state.specs.core_state.States.nodes_of (state v).core (way.page (suc l))).pairs ≡ p) × ((state v).core.place p ≡ Place.Hot f)
+          there : (p : ℕ) × (word_at other (Rattle.row_changes.specs.session_state.core_state.States.nodes_of (state v).core (way.page (suc l))).pairs ≡ p) × ((state v).core.place p ≡ Place.Hot f)
           there = hot_there pairs tidy z v x log h open_is key path way l lt parent.node parent_st at first other f within word_of
 
           pub low_frame : f < x.frames

@@ -5,36 +5,36 @@ use Rattle.std.proofs.lemmas.Bool.{cases_lt}
 use Rattle.std.proofs.lemmas.List.{append_assoc, length-append}
 use Rattle.map_model.specs.declared.call.Refusal.{Refusal}
 use Rattle.map_model.specs.declared.call.Refusal.TheVariants as refusal
-use Rattle.session_state.specs.engine_trait.Refusals.{clock_refusal}
-use Rattle.session_state.specs.engine_trait.declared.unserved.Unanswered.TheVariants as unanswered
-use Rattle.session_state.specs.engine_trait.declared.unserved.Unserved.{Unserved}
-use Rattle.session_state.specs.engine_trait.declared.unserved.Unserved.TheVariants as unserved
-use Rattle.session_state.specs.core_calls.Warms.{IsWarmFrom}
-use Rattle.session_state.specs.core_state.Events as happening
-use Rattle.session_state.specs.core_state.Needs.{may}
-use Rattle.session_state.specs.core_state.Openings.{Opening}
-use Rattle.session_state.specs.core_state.States.{State, nodes_of}
-use Rattle.session_state.specs.core_state.Steps.{happens}
+use Rattle.row_changes.specs.session_state.engine_trait.Refusals.{clock_refusal}
+use Rattle.row_changes.specs.session_state.engine_trait.declared.unserved.Unanswered.TheVariants as unanswered
+use Rattle.row_changes.specs.session_state.engine_trait.declared.unserved.Unserved.{Unserved}
+use Rattle.row_changes.specs.session_state.engine_trait.declared.unserved.Unserved.TheVariants as unserved
+use Rattle.row_changes.specs.session_state.core_calls.Warms.{IsWarmFrom}
+use Rattle.row_changes.specs.session_state.core_state.Events as happening
+use Rattle.row_changes.specs.session_state.core_state.Needs.{may}
+use Rattle.row_changes.specs.session_state.core_state.Openings.{Opening}
+use Rattle.row_changes.specs.session_state.core_state.States.{State, nodes_of}
+use Rattle.row_changes.specs.session_state.core_state.Steps.{happens}
 use Rattle.lean_disk.specs.Faults.{HasCause}
 use Rattle.lean_disk.specs.Story.{Story}
-use Rattle.session_state.specs.disk_image.Records.{entry_of}
-use Rattle.session_state.specs.worker_log.Logs.{Log}
-use Rattle.session_state.specs.row_words.declared.event.Event.{Event}
-use Rattle.session_state.specs.row_words.declared.event.Event.TheVariants.{Drop, Join, Miss}
-use Rattle.session_state.specs.row_words.declared.given.Given.{Given}
-use Rattle.session_state.specs.row_words.Moments.{Moment, event_of}
-use Rattle.session_state.specs.row_words.Openings.{opening}
-use Rattle.session_state.specs.row_words.Sealed.{begun}
-use Rattle.session_state.proofs.row_words.SealedLemmas.{run_append}
-use Rattle.session_state.specs.rows_trait.Views.{Shape, after_all, state}
-use Rattle.session_state.specs.rows_trait.declared.view.View.{View}
-use Rattle.session_state.specs.flush_avoidance.Clocks.{risen}
-use Rattle.session_state.specs.Holds.{Holds}
-use Rattle.session_state.specs.Undo.{HasHand}
-use Rattle.session_state.specs.declared.session.Session.{Session}
-use Rattle.session_state.proofs.UndoLemmas.{room_after}
-use Rattle.btree_smo.specs.Outcomes.{AreMisses}
-use Rattle.tidy_rules.specs.Tidying.{Stage, behind, is_thin, join_under, next_tidy, next_up, page_at}
+use Rattle.row_changes.specs.session_state.disk_image.Records.{entry_of}
+use Rattle.row_changes.specs.session_state.worker_log.Logs.{Log}
+use Rattle.row_changes.specs.session_state.row_words.declared.event.Event.{Event}
+use Rattle.row_changes.specs.session_state.row_words.declared.event.Event.TheVariants.{Drop, Join, Miss}
+use Rattle.row_changes.specs.session_state.row_words.declared.given.Given.{Given}
+use Rattle.row_changes.specs.session_state.row_words.Moments.{Moment, event_of}
+use Rattle.row_changes.specs.session_state.row_words.Openings.{opening}
+use Rattle.row_changes.specs.session_state.row_words.Sealed.{begun}
+use Rattle.row_changes.proofs.session_state.row_words.SealedLemmas.{run_append}
+use Rattle.row_changes.specs.session_state.rows_trait.Views.{Shape, after_all, state}
+use Rattle.row_changes.specs.session_state.rows_trait.declared.view.View.{View}
+use Rattle.row_changes.specs.session_state.flush_avoidance.Clocks.{risen}
+use Rattle.row_changes.specs.session_state.Holds.{Holds}
+use Rattle.row_changes.specs.session_state.Undo.{HasHand}
+use Rattle.row_changes.specs.session_state.declared.session.Session.{Session}
+use Rattle.row_changes.proofs.session_state.UndoLemmas.{room_after}
+use Rattle.row_tidying.specs.btree_smo.Outcomes.{AreMisses}
+use Rattle.row_tidying.specs.tidy_rules.Tidying.{Stage, behind, is_thin, join_under, next_tidy, next_up, page_at}
 use Rattle.row_changes.specs.Puts.{works_behind}
 use Rattle.row_changes.specs.Ways.{HasMetCold, IsCut, IsWarm}
 use Rattle.row_changes.specs.declared.ways.Unmade.{Unmade}
@@ -268,6 +268,19 @@ module _ (key : ℕ) (a : At) (level : ℕ) (v u w : View) (x y : Session) (was 
   steps_up same (Err (unmade.Unserved (unserved.Refused refusal.RowSpent))) k = (spent_on k.0, k.1)
   steps_up same (Err (unmade.Unserved (unserved.Unanswered unanswered.DiskFault))) k = k
   steps_up same (Err _) k = absurd k
+
+-- a neighbour that is wanted stands no lower than the level it was gone up from
+pub climbs_higher : (key from : ℕ) (v w : View) (x y : Session) (was is : Log) (old new : Story) (same : Type 0) (r : Result Tidied Unmade) → Climbs r key from v w x y was is old new same
+    → (page l : ℕ) → r ≡ Ok (tidied.Needs page l) → from ≤ l
+climbs_higher key from v w x y was is old new same r t page l e = (subst (λ (k : Result Tidied Unmade). Climbs k key from v w x y was is old new same) e t).1.passed.low
+
+-- behind a change none is wanted
+pub answer_wants_none : (clock : ℕ) (b : At) (r : Result Tidied Unmade) → r ≡ answer_to (clock_refusal clock None) b → (page l : ℕ) → r ≡ Ok (tidied.Needs page l) → ⊥
+answer_wants_none clock b r e page l q = go (clock_refusal clock None) (sym e ∙ q)
+  where
+    go : (o : Option Refusal) → answer_to o b ≡ Ok (tidied.Needs page l) → ⊥
+    go None p = absurd (cc)
+    go (Some why) p = absurd (cc)
 
 -- what came of a leaf
 pub leaf_thick : (key : ℕ) (v w : View) (x y : Session) (was is : Log) (old new : Story) (same : Type 0) → LeafDoes (Ok leaf.Thick) key v w x y was is old new same → TidySteps (Ok tidied.Clean) key at.Before v w x y was is old new same

@@ -1,11 +1,11 @@
 -- How far a tidying has come, which neighbour it wants, and how many changes of the tree are still to come.
 use Rattle.std.specs.Prelude.{◌≡◌, ◌⊎◌, ◌≤◌, ◌<◌, ◌-◌, ◌^◌, ℕ, suc, true, false, Some, None}
-use Rattle.session_state.specs.core_state.Openings.{Opening}
-use Rattle.session_state.specs.core_state.States.{State, is_hot, nodes_of}
-use Rattle.session_state.specs.worker_log.Logs.{Log}
-use Rattle.session_state.specs.Undo.{HasRoomToStage}
-use Rattle.session_state.specs.declared.session.Session.{Session}
-use Rattle.tidy_rules.specs.Tidying.{Sisters, Stage, is_thin, join_under, page_at, sisters}
+use Rattle.row_changes.specs.session_state.core_state.Openings.{Opening}
+use Rattle.row_changes.specs.session_state.core_state.States.{State, is_hot, nodes_of}
+use Rattle.row_changes.specs.session_state.worker_log.Logs.{Log}
+use Rattle.row_changes.specs.session_state.Undo.{HasRoomToStage}
+use Rattle.row_changes.specs.session_state.declared.session.Session.{Session}
+use Rattle.row_tidying.specs.tidy_rules.Tidying.{Sisters, Stage, is_thin, join_under, page_at, sisters}
 use Rattle.row_walks.specs.declared.steps.At.{At}
 use Rattle.row_walks.specs.declared.steps.At.TheVariants as at
 

@@ -1,29 +1,29 @@
 -- What one step of a tidying does, by answer.
 use Rattle.std.specs.Prelude.{◌≡◌, ◌≤◌, ◌<◌, ◌+◌, ◌++◌, ◌^◌, ℕ, suc, true, List, [], ◌∷◌, length, Some, None, Result, Ok, Err}
 use Rattle.map_model.specs.declared.call.Refusal.TheVariants as refusal
-use Rattle.session_state.specs.engine_trait.declared.unserved.Unanswered.TheVariants as unanswered
-use Rattle.session_state.specs.engine_trait.declared.unserved.Unserved.TheVariants as unserved
-use Rattle.session_state.specs.core_state.Needs.{may}
-use Rattle.session_state.specs.core_state.Steps.{happens}
+use Rattle.row_changes.specs.session_state.engine_trait.declared.unserved.Unanswered.TheVariants as unanswered
+use Rattle.row_changes.specs.session_state.engine_trait.declared.unserved.Unserved.TheVariants as unserved
+use Rattle.row_changes.specs.session_state.core_state.Needs.{may}
+use Rattle.row_changes.specs.session_state.core_state.Steps.{happens}
 use Rattle.lean_disk.specs.Story.{Story}
-use Rattle.session_state.specs.log_record.declared.record.Record.{Record}
-use Rattle.session_state.specs.log_block.Block.{records_text}
-use Rattle.session_state.specs.row_words.declared.event.Event.{Event}
-use Rattle.session_state.specs.row_words.declared.event.Event.TheVariants.{Drop, Join, Purge}
-use Rattle.session_state.specs.row_words.Moments.{event_of}
-use Rattle.session_state.specs.row_words.Openings.{opening}
-use Rattle.session_state.specs.rows_trait.declared.view.View.{View}
-use Rattle.session_state.specs.rows_trait.Views.{state}
-use Rattle.session_state.specs.disk_image.Records.{entry_of}
-use Rattle.btree_smo.specs.Outcomes.{AreMisses}
-use Rattle.session_state.specs.worker_log.Calls.{After}
-use Rattle.session_state.specs.worker_log.Logs.{Log}
-use Rattle.session_state.specs.log_calls.Calls.{StagesOn}
-use Rattle.session_state.specs.flush_avoidance.Clocks.{risen}
-use Rattle.session_state.specs.Staging.{KeepsLog}
-use Rattle.session_state.specs.declared.session.Session.{Session}
-use Rattle.tidy_rules.specs.Laws.{put_in}
-use Rattle.tidy_rules.specs.Tidying.{behind, next_tidy}
+use Rattle.row_changes.specs.session_state.log_record.declared.record.Record.{Record}
+use Rattle.row_changes.specs.session_state.log_block.Block.{records_text}
+use Rattle.row_changes.specs.session_state.row_words.declared.event.Event.{Event}
+use Rattle.row_changes.specs.session_state.row_words.declared.event.Event.TheVariants.{Drop, Join, Purge}
+use Rattle.row_changes.specs.session_state.row_words.Moments.{event_of}
+use Rattle.row_changes.specs.session_state.row_words.Openings.{opening}
+use Rattle.row_changes.specs.session_state.rows_trait.declared.view.View.{View}
+use Rattle.row_changes.specs.session_state.rows_trait.Views.{state}
+use Rattle.row_changes.specs.session_state.disk_image.Records.{entry_of}
+use Rattle.row_tidying.specs.btree_smo.Outcomes.{AreMisses}
+use Rattle.row_changes.specs.session_state.worker_log.Calls.{After}
+use Rattle.row_changes.specs.session_state.worker_log.Logs.{Log}
+use Rattle.row_changes.specs.session_state.log_calls.Calls.{StagesOn}
+use Rattle.row_changes.specs.session_state.flush_avoidance.Clocks.{risen}
+use Rattle.row_changes.specs.session_state.Staging.{KeepsLog}
+use Rattle.row_changes.specs.session_state.declared.session.Session.{Session}
+use Rattle.row_tidying.specs.tidy_rules.Laws.{put_in}
+use Rattle.row_tidying.specs.tidy_rules.Tidying.{behind, next_tidy}
 use Rattle.row_changes.specs.Ways.{HasMetCold, IsWarm}
 use Rattle.row_changes.specs.declared.ways.Unmade.{Unmade}
 use Rattle.row_changes.specs.declared.ways.Unmade.TheVariants as unmade

@@ -1,17 +1,17 @@
 // What a tidying does to the leaf before all else.
 ghost use Rattle.std.specs.Prelude.{◌≡◌, Err, true};
-ghost use Rattle.session_state.specs.engine_trait.Serving.{disk_fault};
+ghost use Rattle.row_changes.specs.session_state.engine_trait.Serving.{disk_fault};
 ghost use Rattle.lean_disk.specs.Faults.{HasCause};
-ghost use Rattle.session_state.specs.Holds.{Holds, IsSameSession};
+ghost use Rattle.row_changes.specs.session_state.Holds.{Holds, IsSameSession};
 ghost use Rattle.row_changes.specs.Puts.{works_after};
-ghost use Rattle.row_ends.specs.Flushed.{Looked};
+ghost use Rattle.row_tidying.specs.row_ends.Flushed.{Looked};
 ghost use Rattle.row_tidying.specs.Changes.{MayTidy};
 ghost use Rattle.row_walks.specs.Inside.Ways.{IsWayIn};
 ghost use Rattle.row_walks.specs.Inside.Leaves.{LeafDoes, MayBeThin, is_value};
 
 use crate::levels::{THIN, see};
+use row_changes::{Path, Rows, Session, Stages, TOMBSTONE, Unserved, Work, WorkerLog};
 use row_tidying::{Cleared, purge_leaf};
-use session_state::{Path, Rows, Session, Stages, TOMBSTONE, Unserved, Work, WorkerLog};
 
 /// What came of the leaf.
 #[derive(Clone, Copy)]

@@ -1,18 +1,18 @@
 // What is found of one level of a key's way.
 ghost use Rattle.std.specs.Prelude.{◌≡◌, ◌≤◌, ◌<◌, ℕ, suc, length, true};
-ghost use Rattle.row_ends.specs.Flushed.{Looked};
-ghost use Rattle.session_state.specs.rows_trait.Views.{state};
-ghost use Rattle.session_state.specs.core_state.States.{Place};
-ghost use Rattle.session_state.specs.Holds.{Holds};
+ghost use Rattle.row_tidying.specs.row_ends.Flushed.{Looked};
+ghost use Rattle.row_changes.specs.session_state.rows_trait.Views.{state};
+ghost use Rattle.row_changes.specs.session_state.core_state.States.{Place};
+ghost use Rattle.row_changes.specs.session_state.Holds.{Holds};
 ghost use Rattle.row_walks.specs.Inside.Ways.{IsSeen, IsWayIn};
 ghost use Rattle.row_walks.specs.Inside.Levels.{IsFound};
 
 use page_model::limits::FRAME_BIT;
+use row_changes::{Path, Rows, Session, WorkerLog, every_room};
 use row_image::every_pair;
 use row_image::frame::sight;
 use row_image::sight::Sight;
-use session_state::{Path, Rows, Session, WorkerLog, every_room};
-use tidy_rules::every_tidy;
+use row_tidying::every_tidy;
 
 /// How many pairs a thin page has at most.
 pub(crate) const THIN: usize = 15;

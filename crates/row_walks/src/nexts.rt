@@ -1,13 +1,13 @@
 // What is next from a level of a key's way on, where all below it is done.
 ghost use Rattle.std.specs.Prelude.{◌≡◌, ◌≤◌, ◌<◌, ℕ, true, false};
-ghost use Rattle.row_ends.specs.Flushed.{Looked};
-ghost use Rattle.session_state.specs.Holds.{Holds};
+ghost use Rattle.row_tidying.specs.row_ends.Flushed.{Looked};
+ghost use Rattle.row_changes.specs.session_state.Holds.{Holds};
 ghost use Rattle.row_walks.specs.Inside.Ways.{IsWayIn};
 ghost use Rattle.row_walks.specs.Inside.Nexts.{IsNext, IsNoSingle, IsRootNext, IsStop};
 ghost use Rattle.row_walks.specs.declared.levels.Level.TheVariants as level;
 
 use crate::levels::{Level, look_level, see};
-use session_state::{Path, Rows, Session, WorkerLog, every_room, every_warm};
+use row_changes::{Path, Rows, Session, WorkerLog, every_room, every_warm};
 
 /// The next change of the tree.
 #[derive(Clone, Copy)]

@@ -1,11 +1,11 @@
 // One step of a tidying.
-ghost use Rattle.std.specs.Prelude.{◌≡◌, ◌≤◌, ◌<◌, ◌-◌, ◌^◌, ℕ, None, Err, IsErrAnd, true};
-ghost use Rattle.session_state.specs.engine_trait.Serving.{disk_fault};
-ghost use Rattle.session_state.specs.engine_trait.Refusals.{clock_refusal};
+ghost use Rattle.std.specs.Prelude.{◌≡◌, ◌≤◌, ◌<◌, ◌-◌, ◌^◌, ℕ, None, Ok, Err, IsErrAnd, true};
+ghost use Rattle.row_changes.specs.session_state.engine_trait.Serving.{disk_fault};
+ghost use Rattle.row_changes.specs.session_state.engine_trait.Refusals.{clock_refusal};
 ghost use Rattle.lean_disk.specs.Faults.{HasCause};
-ghost use Rattle.session_state.specs.row_words.Openings.{opening};
-ghost use Rattle.session_state.specs.rows_trait.Views.{state};
-ghost use Rattle.session_state.specs.Holds.{Holds, IsSameSession};
+ghost use Rattle.row_changes.specs.session_state.row_words.Openings.{opening};
+ghost use Rattle.row_changes.specs.session_state.rows_trait.Views.{state};
+ghost use Rattle.row_changes.specs.session_state.Holds.{Holds, IsSameSession};
 ghost use Rattle.row_changes.specs.Puts.{works_behind};
 ghost use Rattle.row_changes.specs.Ways.{IsCut, IsWarm};
 ghost use Rattle.row_changes.specs.declared.ways.Unmade.{Unmade};
@@ -16,13 +16,15 @@ ghost use Rattle.row_walks.specs.Inside.Ways.{IsWayIn};
 ghost use Rattle.row_walks.specs.Stages.{IsPassed, MayShrink};
 ghost use Rattle.row_walks.specs.Steps.{TidySteps};
 ghost use Rattle.row_walks.specs.declared.steps.At.TheVariants as at;
+ghost use Rattle.row_walks.specs.declared.steps.Tidied.TheVariants as tidied;
 
 use crate::leaves::{Leaf, tidy_leaf};
 use crate::nexts::{Next, look_up};
 use crate::ways::reach_leaf;
-use row_changes::{Unmade, clock_refusal};
+use row_changes::{
+    Path, Rows, Session, Stages, Unmade, Unserved, Work, clock_refusal, every_room, every_warm,
+};
 use row_tidying::{drop_child, join_pages};
-use session_state::{Path, Rows, Session, Stages, Unserved, Work, every_room};
 
 /// How far a tidying has come.
 #[derive(Clone, Copy)]
@@ -128,6 +130,7 @@ fn go_up<R: Rows, D: Stages>(
     ensures holds { work.new.session.works ≡ true → Holds (R.shape rows.new) (R.view seat.new) work.new.session work.new.log }
     ensures session { IsSameSession work.old.session work.new.session }
     ensures climbs { Climbs result key from (R.view seat.old) (R.view seat.new) work.old.session work.new.session work.old.log work.new.log (D.story work.old.disk) (D.story work.new.disk) (work.new ≡ work.old) }
+    ensures higher { (page l : ℕ) → result ≡ Ok (tidied.Needs page l) → from ≤ l }
     ensures works { work.new.session.works ≡ works_behind result }
     ensures cause_disk_fault { HasCause (D.faults work.old.disk) (D.faults work.new.disk) (result ≡ Err (Unmade.Unserved disk_fault)) }
 {
@@ -163,6 +166,7 @@ fn begin<R: Rows, D: Stages>(
     ensures holds { work.new.session.works ≡ true → Holds (R.shape rows.new) (R.view seat.new) work.new.session work.new.log }
     ensures session { IsSameSession work.old.session work.new.session }
     ensures tidies { TidySteps result key at.Before (R.view seat.old) (R.view seat.new) work.old.session work.new.session work.old.log work.new.log (D.story work.old.disk) (D.story work.new.disk) (work.new ≡ work.old) }
+    ensures higher { (page l : ℕ) → result ≡ Ok (tidied.Needs page l) → level ≤ l }
     ensures works { work.new.session.works ≡ works_behind result }
 
     ensures cause_cold { IsErrAnd result IsCut → ⊥ }
@@ -195,12 +199,17 @@ pub fn tidy_step<R: Rows, D: Stages>(
     ensures holds { work.new.session.works ≡ true → Holds (R.shape rows.new) (R.view seat.new) work.new.session work.new.log }
     ensures session { IsSameSession work.old.session work.new.session }
     ensures tidies { TidySteps result key at (R.view seat.old) (R.view seat.new) work.old.session work.new.session work.old.log work.new.log (D.story work.old.disk) (D.story work.new.disk) (work.new ≡ work.old) }
+    ensures higher { (page l : ℕ) → result ≡ Ok (tidied.Needs page l) → level ≤ l }
     ensures works { work.new.session.works ≡ works_behind result }
+
+    // Where it was not cut off, the key's way is hot.
+    ensures warm { (IsErrAnd result IsCut → ⊥) → IsWarm (R.view seat.old) key }
 
     ensures cause_cold { IsWarm (R.view seat.old) key → IsErrAnd result IsCut → ⊥ }
     ensures cause_disk_fault { HasCause (D.faults work.old.disk) (D.faults work.new.disk) (result ≡ Err (Unmade.Unserved disk_fault)) }
 {
     every_room();
+    every_warm();
     let mut path = Path::new();
     if let Err(cold) = reach_leaf(rows, seat, &work.session, &work.log, key, &mut path) {
         return Err(Unmade::Cold(cold));

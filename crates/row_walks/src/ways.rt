@@ -1,11 +1,10 @@
 // The way to a key's leaf.
 ghost use Rattle.std.specs.Prelude.{◌≡◌, ◌<◌, ◌-◌, ◌^◌, [], IsErr, IfErr, IfOk};
-ghost use Rattle.session_state.specs.Holds.{Holds};
+ghost use Rattle.row_changes.specs.session_state.Holds.{Holds};
 ghost use Rattle.row_changes.specs.Ways.{HasMetCold, IsWarm};
 ghost use Rattle.row_walks.specs.Inside.Ways.{Reaches};
 
-use row_changes::Cold;
-use session_state::{Path, Rows, Session, Way, WorkerLog, reach};
+use row_changes::{Cold, Path, Rows, Session, Way, WorkerLog, reach};
 
 // Goes to the key's leaf. The path has the frames of its way then. Nothing is read.
 pub(crate) fn reach_leaf<R: Rows>(

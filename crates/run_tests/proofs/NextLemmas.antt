@@ -44,9 +44,7 @@ next_generation m n area is = elim is [
 -- of as many logs, with numbers that are not far above
 openable_again : (m n : Master) (most : ℕ) → length n.heads ≡ length m.heads → n.sequence < m.sequence + 2 ^ 60 → n.generation ≤ suc m.generation → m.generation + 1 < 2 ^ 62 → IsOpenable most m → m.sequence < 2 ^ 60 → IsOpenable most n
 openable_again m n most logs raised later generation o small =
-    let some = o.some in
-    let few = o.few in
-    record { some = omega arith; few = omega arith; sequence = omega arith; generation = omega arith }
+    record { some = omega (arith, logs, o.some); few = omega (arith, logs, o.few); sequence = omega (arith, raised, small); generation = omega (arith, later, generation) }
 
 -- where nothing was written yet, a crash leaves what stood there
 unwritten_image : EveryArea → (m : Master) (first : MemDisk) (areas : ℕ) (bytes : Areas) (input put : List ℕ) (c : Crash) → Begins areas bytes (disk_story first) → IsUnwritten m (disk_story first) input put c →

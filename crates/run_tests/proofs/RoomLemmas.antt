@@ -14,7 +14,7 @@ use Rattle.lean_shell.specs.core_calls.Deeds.{Deed, Met, Refused, answered, aske
 use Rattle.lean_shell.specs.core_calls.Fronts.{Done, outcomes}
 use Rattle.lean_shell.specs.core_calls.Steps.{call_behind, due_call, hindered_in, is_conflict, is_structure}
 use Rattle.lean_shell.specs.engine_trait.Rooms.{needs_sync}
-use Rattle.lean_shell.specs.call_parts.Rooms.{AreReady, HasDoneFor, IsRoomFor, gives_room, is_paging, makes_sync, puts_back, takes_row, walks}
+use Rattle.lean_shell.specs.call_parts.Rooms.{AreReady, HasDoneFor, IsRoomFor, changes_tree, is_paging, makes_sync, puts_back, takes_row, walks}
 use Rattle.lean_shell.specs.engine_front.Turns.{IsHindered, IsScanning}
 use Rattle.lean_shell.specs.script_run.Runs.{calls_of}
 use Rattle.lean_shell.specs.transcripts.Laws.{ComesNext}
@@ -43,7 +43,7 @@ back_grows_none own (Event.Purge w p keys) back = absurd (true≢false (sym back
 back_grows_none own _ back = refl
 
 abbrev in_room : (own row : ℕ) → Mode → Event → Bool
-in_room own row mode e = takes_row own row mode e || (gives_room own e || is_paging e)
+in_room own row mode e = takes_row own row mode e || (changes_tree own e || is_paging e)
 
 room_backs_none : (own row : ℕ) (mode : Mode) (e : Event) → in_room own row mode e ≡ true → is_back e ≡ false
 room_backs_none own row Mode.Alone (Event.Put_back w p) room = absurd (true≢false (sym room))
@@ -67,6 +67,8 @@ look_of : (own row : ℕ) (e : Event) → in_room own row Mode.Shared e ≡ true
 look_of own row (Event.Split w l r q i) room still = absurd (true≢false still)
 look_of own row (Event.Lift w c) room still = absurd (true≢false still)
 look_of own row (Event.Purge w p keys) room still = absurd (true≢false still)
+look_of own row (Event.Join w l r q) room still = absurd (true≢false still)
+look_of own row (Event.Drop w c) room still = absurd (true≢false still)
 look_of own row (Event.Lock w i Mode.Shared) room still = refl
 look_of own row (Event.Lock w i Mode.Alone) room still = absurd (true≢false (sym room))
 look_of own row (Event.Miss w) room still = refl
@@ -169,13 +171,13 @@ module _ (sessions : ℕ) (input : List ℕ) (g : Opening) (heard : List Done) (
     such = such;
   }
 
-  structure : (c : Call) → IsLine c → HasDoneFor g heard session c es → (Asks sessions IsPut input → ⊥) → any is_structure es ≡ false
-  structure (call.Put key value) line room none = absurd (none (asks (call.Put key value) line IsPut tt))
-  structure (call.Get key) line room none = room.1
-  structure (call.Del key) line room none = room.1
-  structure (call.Scan from to) line room none = room.1
-  structure call.Abort line backs none = each_none (λ e. puts_back session e || is_paging e) is_structure (back_grows_none session) es backs
-  structure c line ready none = each_none makes_sync is_structure sync_grows_none es (ready_for_sync (needs_sync g heard session c) es ready)
+  structure : (c : Call) → IsLine c → HasDoneFor g heard session c es → (Asks sessions IsPut input → ⊥) → (Asks sessions IsDel input → ⊥) → any is_structure es ≡ false
+  structure (call.Put key value) line room none calm = absurd (none (asks (call.Put key value) line IsPut tt))
+  structure (call.Get key) line room none calm = room.1
+  structure (call.Del key) line room none calm = absurd (calm (asks (call.Del key) line IsDel tt))
+  structure (call.Scan from to) line room none calm = room.1
+  structure call.Abort line backs none calm = each_none (λ e. puts_back session e || is_paging e) is_structure (back_grows_none session) es backs
+  structure c line ready none calm = each_none makes_sync is_structure sync_grows_none es (ready_for_sync (needs_sync g heard session c) es ready)
 
   backs : (c : Call) → IsLine c → HasDoneFor g heard session c es → (Asks sessions IsAbort input → ⊥) → any is_back es ≡ false
   backs (call.Put key value) line room none = each_none (in_room session (g.row_of key) Mode.Alone) is_back (room_backs_none session (g.row_of key) Mode.Alone) es room.0
@@ -217,14 +219,14 @@ module _ (sessions : ℕ) (input : List ℕ) (g : Opening) (heard : List Done) (
 
       go : Turn c → StoppedLaws sessions input heard es
       go (Due due is) = record {
-        structure = λ none. each_none (λ e. puts_back session e || is_paging e) is_structure (back_grows_none session) es (there call.Abort is);
+        structure = λ none calm. each_none (λ e. puts_back session e || is_paging e) is_structure (back_grows_none session) es (there call.Abort is);
         backs = λ none calm. absurd (calm due);
         walks = λ put del abort calm. absurd (calm due);
         looks = λ put del scan abort calm still. absurd (calm due);
         for_sync = λ put get del scan abort calm still. absurd (calm due);
       }
       go (Goes on from to is) = let done = there (call.Scan from to) is in record {
-        structure = λ none. done.1;
+        structure = λ none calm. done.1;
         backs = λ none calm. each_none (in_walk session) is_back (walk_backs_none session) es done.0;
         walks = λ put del abort calm. each_so (in_walk session) is_walk (walk_of session) es done.0;
         looks = λ put del scan abort calm still. absurd (still on);

@@ -168,11 +168,11 @@ passes_gap _ = false
 abbrev pub is_walk : Event → Bool
 is_walk e = passes_gap e || is_look e
 
--- Where no line is a put, it leaves no change of the tree; where none is an abort and the newest call met no conflict, nothing that is put back; where none is
+-- Where no line is a put or a del, it leaves no change of the tree; where none is an abort and the newest call met no conflict, nothing that is put back; where none is
 -- a put, a del or an abort and it met none, what may be where keys are looked for, one behind another; where none is a scan either, and none goes on, what may be where one
 -- is looked for; and where none is a get either, logs were flushed alone.
 pub record StoppedLaws (sessions : ℕ) (input : List ℕ) (heard : List Done) (es : List Event) : Type 0 where
-  pub structure : (Asks sessions IsPut input → ⊥) → any is_structure es ≡ false
+  pub structure : (Asks sessions IsPut input → ⊥) → (Asks sessions IsDel input → ⊥) → any is_structure es ≡ false
   pub backs : (Asks sessions IsAbort input → ⊥) → (IsHindered heard → ⊥) → any is_back es ≡ false
   pub walks : (Asks sessions IsPut input → ⊥) → (Asks sessions IsDel input → ⊥) → (Asks sessions IsAbort input → ⊥) → (IsHindered heard → ⊥) → all is_walk es ≡ true
   pub looks : (Asks sessions IsPut input → ⊥) → (Asks sessions IsDel input → ⊥) → (Asks sessions IsScan input → ⊥) → (Asks sessions IsAbort input → ⊥) → (IsHindered heard → ⊥) → (IsScanning heard → ⊥) → all is_look es ≡ true

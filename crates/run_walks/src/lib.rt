@@ -4,11 +4,15 @@
 #[cfg(test)]
 mod cases;
 #[cfg(test)]
+mod generations;
+#[cfg(test)]
 mod random;
 #[cfg(test)]
 mod rule_crashes;
 #[cfg(test)]
 mod rule_files;
+#[cfg(test)]
+mod rule_trees;
 #[cfg(test)]
 mod ruled;
 #[cfg(test)]

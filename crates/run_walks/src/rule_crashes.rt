@@ -1,10 +1,10 @@
 // What a crash leaves of the files by the plain rules.
-use crate::rule_files::{
-    Commit, Kind, Left, NEVER, Record, add_key, copy_of, is_before, keys_of, set,
-};
+use crate::rule_files::{Commit, Kind, Left, NEVER, Record, copy_of, is_before, set};
+use crate::rule_trees::Tree;
 use crate::rules::Rules;
+use crate::runs::MEMORY;
 use lean_disk::Choice;
-use std::collections::{BTreeMap, BTreeSet};
+use std::collections::BTreeMap;
 use std::process::Abort;
 
 /// A crash at a moment. What is not synced of an area is left by one choice, and by the other where the area's bit is set.
@@ -141,10 +141,10 @@ impl Rules {
         first
     }
 
-    // Runs the changes of a transaction on a map.
-    fn redo<R: Abort>(&self, rt: &R, map: &mut BTreeMap<u64, u64>, commit: Commit) {
+    /// Runs the changes of a transaction on a map.
+    pub(crate) fn redo<R: Abort>(&self, rt: &R, map: &mut BTreeMap<u64, u64>, commit: Commit) {
         for record in &self.records {
-            if let Kind::Change { key, value } = record.kind {
+            if let Kind::Change { key, value, .. } = record.kind {
                 if record.session == commit.session && record.begun == commit.begun {
                     set(rt, map, key, value);
                 }
@@ -152,16 +152,37 @@ impl Rules {
         }
     }
 
-    // Adds the keys of the changes that are made again: each change stands upon the one before it in the leaf, so up to the first that is not found.
-    fn add_entries<R: Abort>(&self, rt: &R, crash: &Crash, entries: &mut BTreeSet<u64>) {
-        for record in &self.records {
-            if matches!(record.kind, Kind::Change { .. } | Kind::PutBack) {
-                if !self.is_found(crash, record) {
-                    return;
+    // The keys that a purge takes out of its leaf.
+    fn purged_by<R: Abort>(&self, rt: &R, place: usize) -> Vec<u64> {
+        let mut keys = Vec::new(self.alloc);
+        for purged in &self.purged {
+            if purged.record == place {
+                keys.push(purged.key).expect(rt, MEMORY);
+            }
+        }
+        keys
+    }
+
+    // Makes the changes of pages again. Each stands upon the one before it in each of its pages, so in a page none is made again behind the first that is not.
+    fn redo_pages<R: Abort>(&self, rt: &R, crash: &Crash, tree: &mut Tree) {
+        let mut lost = Vec::new(self.alloc);
+        for (place, record) in self.records.iter().enumerate() {
+            let mut is_lost = !self.is_found(crash, record);
+            for page in record.kind.pages() {
+                if let Some(page) = page {
+                    is_lost = is_lost || lost.contains(&page);
                 }
-                if let Kind::Change { key, .. } = record.kind {
-                    add_key(rt, entries, key);
+            }
+            if is_lost {
+                for page in record.kind.pages() {
+                    if let Some(page) = page {
+                        lost.push(page).expect(rt, MEMORY);
+                    }
                 }
+            } else if let Kind::Change { page, key, .. } = record.kind {
+                tree.add_entry(rt, page, key);
+            } else if let Kind::Shape(shape) = record.kind {
+                tree.shape(rt, shape, &self.purged_by(rt, place));
             }
         }
     }
@@ -184,8 +205,8 @@ impl Rules {
             }
             last = Some(commit);
         }
-        let mut entries = keys_of(rt, self.alloc, &before.entries);
-        self.add_entries(rt, crash, &mut entries);
+        let mut tree = before.tree.copied(rt);
+        self.redo_pages(rt, crash, &mut tree);
         let mut blocks = 0u64;
         for block in &self.blocks {
             if crash.keeps(block.session.saturating_add(1), block.written, block.synced) {
@@ -199,7 +220,7 @@ impl Rules {
             blocks,
             base: self.greatest(crash, None).max(found.floor),
             map,
-            entries,
+            tree,
         })
     }
 }

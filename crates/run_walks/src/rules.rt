@@ -1,23 +1,40 @@
-// The rules of the numbers that a script's output tells, and of what is durable, as a plain program beside the engine: it was written
-// from the rules in words. All keys are in one leaf, the first page, and no call needs room.
+// The rules of the numbers that a script's output tells, of what is durable, and of what a put and a del make of the tree, as a plain program beside the engine: it was
+// written from the rules in words. No page leaves its frame.
 use crate::rule_files::{
-    Block, Commit, Kind, Left, Master, NEVER, Record, add_key, copy_of, is_before, keys_of, set,
+    Block, Commit, Kind, Left, Master, NEVER, Purged, Record, copy_of, is_before, set,
 };
+use crate::rule_trees::{FULL, LEVELS, Pair, Shape, THIN, Tree};
 use crate::runs::MEMORY;
 use map_model::{Answer, Answered, Call, Refusal};
 use std::alloc::{AllocError, Global};
-use std::collections::{BTreeMap, BTreeSet};
+use std::collections::BTreeMap;
 use std::process::Abort;
 
 // The moment at which an opening is done; calls and lines are counted from there. Its master was written one moment before.
 pub(crate) const OPENED: u64 = 1000;
 
-// What a block has room for, and what a change or a put-back takes of it, and an end.
+// What a block has room for, and what a change or a put-back takes of it, an end, a split with half a node's pairs, a lift with all of them, and a purge with no key, a join and a drop
+// with no pair.
 const ROOM: u64 = 2000;
 
 const CHANGE: u64 = 53;
 
 const END: u64 = 25;
+
+const SPLIT: u64 = 551;
+
+const LIFT: u64 = 999;
+
+const PURGE: u64 = 30;
+
+const JOIN: u64 = 70;
+
+const DROP: u64 = 39;
+
+// What a purge takes for each key, and a join and a drop for each pair.
+const KEY: u64 = 8;
+
+const PAIR: u64 = 16;
 
 // How many pairs a scan tells.
 const PAIRS: u64 = 64;
@@ -82,7 +99,9 @@ pub(crate) struct Rules {
     group: u64,
     pub count: u32,
     sessions: Vec<Session>,
-    leaf: Stamp,
+    // Of each page, and whether it stands in a frame: the root does from the opening on.
+    stamps: Vec<Stamp>,
+    in_frame: Vec<bool>,
     held: Vec<Held>,
     changes: Vec<Change>,
     pub records: Vec<Record>,
@@ -90,8 +109,8 @@ pub(crate) struct Rules {
     pub masters: Vec<Master>,
     pub commits: Vec<Commit>,
     map: BTreeMap<u64, u64>,
-    // The keys that have an entry in the leaf.
-    entries: BTreeSet<u64>,
+    tree: Tree,
+    pub purged: Vec<Purged>,
     pub generation: u64,
     /// How many calls of the disk were made by now, and lines put.
     pub moment: u64,
@@ -129,13 +148,18 @@ impl Rules {
         group: u64,
     ) -> Rules {
         let session = Session::new(left.base);
+        let mut in_frame = Vec::new(alloc);
+        for page in 0..left.tree.count() {
+            in_frame.push(page == 0).expect(rt, MEMORY);
+        }
         let mut rules = Rules {
             alloc,
             rows: vec![in alloc; FREE; rows].expect(rt, MEMORY),
             group,
             count,
             sessions: vec![in alloc; session; count as usize].expect(rt, MEMORY),
-            leaf: NONE,
+            stamps: vec![in alloc; NONE; left.tree.count()].expect(rt, MEMORY),
+            in_frame,
             held: Vec::new(alloc),
             changes: Vec::new(alloc),
             records: Vec::new(alloc),
@@ -143,7 +167,8 @@ impl Rules {
             masters: Vec::new(alloc),
             commits: Vec::new(alloc),
             map: copy_of(rt, alloc, &left.map),
-            entries: keys_of(rt, alloc, &left.entries),
+            tree: left.tree.copied(rt),
+            purged: Vec::new(alloc),
             generation: left.generation.saturating_add(1),
             moment: OPENED,
             text: String::new(alloc),
@@ -324,12 +349,39 @@ impl Rules {
         number
     }
 
-    // One that changes the leaf meets its stamp first, and becomes it.
-    fn stage_change<R: Abort>(&mut self, rt: &R, session: u32, kind: Kind) {
-        self.touch(session, self.leaf);
-        let number = self.stage(rt, session, CHANGE, kind);
+    // The session meets a page's stamp.
+    fn touch_page(&mut self, session: u32, page: usize) {
+        let stamp = self.stamps.get(page).copied().unwrap_or(NONE);
+        self.touch(session, stamp);
+    }
+
+    fn touch_leaf(&mut self, session: u32, key: u64) {
+        let (leaf, _) = self.tree.leaf_of(key);
+        self.touch_page(session, leaf);
+    }
+
+    // One that changes pages meets their stamps first, and becomes them.
+    fn stage_change<R: Abort>(&mut self, rt: &R, session: u32, size: u64, kind: Kind) {
+        for page in kind.pages() {
+            if let Some(page) = page {
+                self.touch_page(session, page);
+            }
+        }
+        let number = self.stage(rt, session, size, kind);
         let log = session;
-        self.leaf = Stamp { number, log };
+        for page in kind.pages() {
+            if let Some(page) = page {
+                if let Some(stamp) = self.stamps.get_mut(page) {
+                    *stamp = Stamp { number, log };
+                }
+            }
+        }
+    }
+
+    // The same of a change of the tree's shape.
+    fn stage_shape<R: Abort>(&mut self, rt: &R, session: u32, size: u64, shape: Shape) {
+        self.stage_change(rt, session, size, Kind::Shape(shape));
+        self.tree.shape(rt, shape, &[]);
     }
 
     // Writes the block in hand, and syncs the log.
@@ -440,7 +492,8 @@ impl Rules {
         if self.is_refused(rt, session, call, key, false) {
             return;
         }
-        self.touch(session, self.leaf);
+        self.bring_way(rt, key);
+        self.touch_leaf(session, key);
         let found = self.map.get(&key).copied();
         match found {
             Some(value) => self.say(rt, format!(in self.alloc; "{session} value {value}")),
@@ -449,24 +502,13 @@ impl Rules {
         self.tell(rt, session, call, Answer::Value(found));
     }
 
-    // The keys of the entries from a key on, in rising order.
-    fn entries_from<R: Abort>(&self, rt: &R, from: u64) -> Vec<u64> {
-        let mut keys = Vec::new(self.alloc);
-        for key in &self.entries {
-            if *key >= from {
-                keys.push(*key).expect(rt, MEMORY);
-            }
-        }
-        keys
-    }
-
     fn tell_pair<R: Abort>(&mut self, rt: &R, session: u32, call: Call, key: u64, value: u64) {
         self.say(rt, format!(in self.alloc; "{session} pair {key} {value}"));
         self.tell(rt, session, call, Answer::Pair { key, value });
     }
 
-    // Goes from entry to entry, and tells the pairs. Of each entry that it meets it takes the row, of one that was deleted too; the leaf's stamp is met with a
-    // pair, or behind the last entry. What it is answered behind the pairs; none if a lock was refused.
+    // Goes from leaf to leaf and from entry to entry, and tells the pairs. Of each entry that it meets it takes the row, of one that was deleted too; a leaf's stamp is
+    // met with a pair, or behind the last entry. What it is answered behind the pairs; none if a lock was refused.
     fn walk<R: Abort>(
         &mut self,
         rt: &R,
@@ -476,27 +518,39 @@ impl Rules {
         to: u64,
     ) -> Option<Answer> {
         let mut pairs = 0u64;
-        for key in &self.entries_from(rt, from) {
-            if self.is_refused(rt, session, call, *key, false) {
-                return None;
+        let mut next = from;
+        for _ in 0..self.tree.count() {
+            self.bring_way(rt, next);
+            let (leaf, high) = self.tree.leaf_of(next);
+            for Pair { key, .. } in &self.tree.pairs(rt, leaf) {
+                if *key < next {
+                    continue;
+                }
+                if self.is_refused(rt, session, call, *key, false) {
+                    return None;
+                }
+                if let Some(value) = self.map.get(key).copied() {
+                    self.touch_page(session, leaf);
+                    if *key > to {
+                        return Some(Answer::End);
+                    }
+                    self.tell_pair(rt, session, call, *key, value);
+                    pairs = pairs.saturating_add(1);
+                    if *key == to {
+                        return Some(Answer::End);
+                    }
+                    if pairs == PAIRS {
+                        let from = key.saturating_add(1);
+                        return Some(Answer::More { from });
+                    }
+                }
             }
-            if let Some(value) = self.map.get(key).copied() {
-                self.touch(session, self.leaf);
-                if *key > to {
-                    return Some(Answer::End);
-                }
-                self.tell_pair(rt, session, call, *key, value);
-                pairs = pairs.saturating_add(1);
-                if *key == to {
-                    return Some(Answer::End);
-                }
-                if pairs == PAIRS {
-                    let from = key.saturating_add(1);
-                    return Some(Answer::More { from });
-                }
+            self.touch_page(session, leaf);
+            match high {
+                Some(high) if high <= to => next = high,
+                _ => return Some(Answer::End),
             }
         }
-        self.touch(session, self.leaf);
         Some(Answer::End)
     }
 
@@ -517,20 +571,194 @@ impl Rules {
         self.tell(rt, session, call, answer);
     }
 
-    // A del of an absent key reads the leaf, and makes no record.
+    // Whether nobody has the key's row, and all logs are flushed up to its last end.
+    fn is_settled(&self, key: u64) -> bool {
+        let row = self.row_of(key);
+        for held in &self.held {
+            if held.row == row {
+                return false;
+            }
+        }
+        let found = self.rows.get(row as usize).copied().unwrap_or(FREE);
+        found.stamp.number <= self.least_flushed()
+    }
+
+    // The deleted keys of a leaf that nobody can need.
+    fn purgeable<R: Abort>(&self, rt: &R, leaf: usize) -> Vec<u64> {
+        let mut keys = Vec::new(self.alloc);
+        for Pair { key, .. } in &self.tree.pairs(rt, leaf) {
+            if self.map.get(key).is_none() && self.is_settled(*key) {
+                keys.push(*key).expect(rt, MEMORY);
+            }
+        }
+        keys
+    }
+
+    // These go out of their leaf, by one record.
+    fn purge<R: Abort>(&mut self, rt: &R, session: u32, page: usize, keys: &[u64]) {
+        let record = self.records.len();
+        for key in keys {
+            let key = *key;
+            self.purged.push(Purged { record, key }).expect(rt, MEMORY);
+        }
+        let size = PURGE.saturating_add(KEY.saturating_mul(keys.len() as u64));
+        let shape = Shape::Purge { page };
+        self.stage_change(rt, session, size, Kind::Shape(shape));
+        self.tree.shape(rt, shape, keys);
+    }
+
+    // A page comes into a frame by a read, and stays there.
+    fn bring(&mut self, page: usize) {
+        let mut is_read = false;
+        if let Some(is_there) = self.in_frame.get_mut(page) {
+            is_read = !*is_there;
+            *is_there = true;
+        }
+        if is_read {
+            self.tick();
+        }
+    }
+
+    // The pages on the way to a key come into frames.
+    fn bring_way<R: Abort>(&mut self, rt: &R, key: u64) {
+        for page in &self.tree.way(rt, key) {
+            self.bring(*page);
+        }
+    }
+
+    // One change of the tree towards room for a key whose leaf is full. What nobody can need goes first; where there is no such, of the full pages above the leaf,
+    // without a gap, the topmost is split, and if all are full the root is lifted. False where there are too few free pages for all that it takes.
+    fn is_grown<R: Abort>(&mut self, rt: &R, session: u32, key: u64) -> bool {
+        let (leaf, _) = self.tree.leaf_of(key);
+        let going = self.purgeable(rt, leaf);
+        if going.len() > 0 {
+            self.purge(rt, session, leaf, &going);
+            return true;
+        }
+        let mut full = 0usize;
+        let mut left = 0;
+        let mut parent = None;
+        for page in self.tree.way(rt, key).iter().rev() {
+            if self.tree.len(*page) < FULL {
+                parent = Some(*page);
+                break;
+            }
+            full = full.saturating_add(1);
+            left = *page;
+        }
+        let takes = match parent {
+            Some(_) => full,
+            None => full.saturating_add(1),
+        };
+        let free = self.tree.count().saturating_sub(self.tree.used());
+        match self.tree.least_free() {
+            Some(right) if takes <= free => {
+                self.bring(right);
+                match parent {
+                    Some(parent) => {
+                        let shape = Shape::Split {
+                            left,
+                            right,
+                            parent,
+                        };
+                        self.stage_shape(rt, session, SPLIT, shape);
+                    }
+                    None => self.stage_shape(rt, session, LIFT, Shape::Lift { child: right }),
+                }
+                true
+            }
+            _ => false,
+        }
+    }
+
+    // Whether there is room for a key, also by changes of the tree.
+    fn is_room<R: Abort>(&mut self, rt: &R, session: u32, key: u64) -> bool {
+        for _ in 0..LEVELS.saturating_add(2) {
+            let (leaf, _) = self.tree.leaf_of(key);
+            if self.tree.has_entry(leaf, key) || self.tree.len(leaf) < FULL {
+                return true;
+            }
+            if !self.is_grown(rt, session, key) {
+                return false;
+            }
+        }
+        false
+    }
+
+    // Two pages are joined, or a page is the root's one child.
+    fn shrink<R: Abort>(&mut self, rt: &R, session: u32, shape: Shape) {
+        let (least, page) = match shape {
+            Shape::Join { right, .. } => (JOIN, right),
+            Shape::Drop { child } => (DROP, child),
+            _ => return,
+        };
+        let size = least.saturating_add(PAIR.saturating_mul(self.tree.len(page) as u64));
+        self.stage_shape(rt, session, size, shape);
+    }
+
+    // Behind a thin leaf each level of the key's way is joined where it is thin, up to the first page that is not. Last the root is dropped, if it has one pair.
+    fn join_up<R: Abort>(&mut self, rt: &R, session: u32, key: u64) {
+        for level in 0..LEVELS {
+            let way = self.tree.way(rt, key);
+            // Above the root there is none, and the root is page 0.
+            let place = way.len().saturating_sub(level).saturating_sub(1);
+            let page = way.get(place).copied().unwrap_or(0);
+            if page == 0 || self.tree.len(page) > THIN {
+                break;
+            }
+            let parent = way.get(place.saturating_sub(1)).copied().unwrap_or(0);
+            // A neighbour is looked at, whether or not it is joined.
+            if let Some((left, right)) = self.tree.sisters(page, parent) {
+                self.bring(left);
+                self.bring(right);
+            }
+            if let Some(shape) = self.tree.join_of(page, parent) {
+                self.shrink(rt, session, shape);
+            }
+        }
+        if let Some(shape) = self.tree.drop_of() {
+            self.shrink(rt, session, shape);
+        }
+    }
+
+    // What comes before a del of a live key. A leaf that is not the root is thin by the entries that somebody can need: then the others go, all by one record, and the way up
+    // is joined.
+    fn tidy<R: Abort>(&mut self, rt: &R, session: u32, key: u64) {
+        let (leaf, _) = self.tree.leaf_of(key);
+        let going = self.purgeable(rt, leaf);
+        if leaf == 0 || self.tree.len(leaf) > THIN.saturating_add(going.len()) {
+            return;
+        }
+        if going.len() > 0 {
+            self.purge(rt, session, leaf, &going);
+        }
+        self.join_up(rt, session, key);
+    }
+
+    // A del of an absent key reads the leaf, and makes no record; one of a live key may tidy. A put of a key without an entry may need room.
     fn write<R: Abort>(&mut self, rt: &R, session: u32, call: Call, key: u64, value: Option<u64>) {
         if self.is_refused(rt, session, call, key, true) {
             return;
         }
+        self.bring_way(rt, key);
+        if value.is_some() && !self.is_room(rt, session, key) {
+            self.refuse(rt, session, call, Refusal::NoPages, "no-pages");
+            return;
+        }
         let was = self.map.get(&key).copied();
+        if was.is_some() && value.is_none() {
+            self.tidy(rt, session, key);
+        }
         if was.is_some() || value.is_some() {
             let change = Change { session, key, was };
             self.changes.push(change).expect(rt, MEMORY);
-            add_key(rt, &mut self.entries, key);
+            let (page, _) = self.tree.leaf_of(key);
+            self.tree.add_entry(rt, page, key);
             set(rt, &mut self.map, key, value);
-            self.stage_change(rt, session, Kind::Change { key, value });
+            let kind = Kind::Change { page, key, value };
+            self.stage_change(rt, session, CHANGE, kind);
         } else {
-            self.touch(session, self.leaf);
+            self.touch_leaf(session, key);
         }
         match was {
             Some(was) => self.say(rt, format!(in self.alloc; "{session} was {was}")),
@@ -548,7 +776,8 @@ impl Rules {
                     others.push(change).expect(rt, MEMORY);
                 } else if is_undone {
                     set(rt, &mut self.map, change.key, change.was);
-                    self.stage_change(rt, session, Kind::PutBack);
+                    let (page, _) = self.tree.leaf_of(change.key);
+                    self.stage_change(rt, session, CHANGE, Kind::PutBack { page });
                 }
             }
         }

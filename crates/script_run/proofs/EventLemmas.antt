@@ -21,7 +21,8 @@ use Rattle.call_parts.specs.run_crashes.Laws.{CommitsNone, OfEachFirst}
 use Rattle.call_parts.proofs.engine_calls.MarkLemmas.{either_false}
 use Rattle.call_parts.specs.engine_trait.Rooms.{needs_sync}
 use Rattle.call_parts.specs.session_state.tidy_rules.Rooms.{MakesRoom}
-use Rattle.call_parts.specs.Rooms.{AreReady, HasDoneFor, IsRoomFor, gives_room, is_paging, makes_sync, puts_back, takes_row, walks}
+use Rattle.call_parts.specs.session_state.tidy_rules.Tidying.{Stage, Tidies, behind}
+use Rattle.call_parts.specs.Rooms.{AreReady, HasDoneFor, IsRoomFor, changes_tree, is_paging, makes_sync, puts_back, takes_row, walks}
 use Rattle.script_run.specs.Runs.{Hand, StoppedIn}
 
 neither : (p q : Bool) → (p || q) ≡ false → (p ≡ false) × (q ≡ false)
@@ -74,7 +75,7 @@ each_none p q so (e ∷ es) each =
 
 -- what a call may have done behind which its disk failed
 abbrev for_room : (own row : ℕ) → Mode → Event → Bool
-for_room own row mode e = takes_row own row mode e || (gives_room own e || is_paging e)
+for_room own row mode e = takes_row own row mode e || (changes_tree own e || is_paging e)
 
 abbrev for_back : (own : ℕ) → Event → Bool
 for_back own e = puts_back own e || is_paging e
@@ -115,7 +116,7 @@ ends_none g xs own c es ready = ready_end_none (needs_sync g xs own c) es ready
 pub room_commits_none : (g : Opening) (xs : List Done) (own : ℕ) (c : Call) (es : List Event) → IsRoomFor g xs own c es → CommitsNone g xs es
 room_commits_none g xs own c es room w = marks_no_end g (state_after g (front xs)) es w [] (ends_none g xs own c es room.0)
 
--- the first events of those that each pass a test, of those of which none does, of none, and of those that make room
+-- the first events of those that each pass a test, of those of which none does, of none, of those that make room, and of those that tidy
 front_of_all : (p : Event → Bool) (first rest : List Event) → all p (first ++ rest) ≡ true → all p first ≡ true
 front_of_all p [] rest each = refl
 front_of_all p (e ∷ first) rest each =
@@ -136,6 +137,10 @@ front_makes : (own : ℕ) (g : Opening) (s : State) (key : ℕ) (first rest : Li
 front_makes own g s key [] rest makes = tt
 front_makes own g s key (e ∷ first) rest makes = (makes.0, front_makes own g (step g s e) key first rest makes.1)
 
+front_tidies : (own : ℕ) (g : Opening) (s : State) (key : ℕ) (at : Stage) (first rest : List Event) → Tidies own g s key at (first ++ rest) → Tidies own g s key at first
+front_tidies own g s key at [] rest tidies = tt
+front_tidies own g s key at (e ∷ first) rest tidies = (tidies.0, front_tidies own g (step g s e) key (behind s at e) first rest tidies.1)
+
 front_ready : (syncs : Bool) (first rest : List Event) → AreReady syncs (first ++ rest) → AreReady syncs first
 front_ready true first rest ready = front_of_all makes_sync first rest ready
 front_ready false first rest ready = front_of_nothing first rest ready
@@ -143,7 +148,7 @@ front_ready false first rest ready = front_of_nothing first rest ready
 front_done : (g : Opening) (xs : List Done) (own : ℕ) (c : Call) (first rest : List Event) → HasDoneFor g xs own c (first ++ rest) → HasDoneFor g xs own c first
 front_done g xs own (call.Put key value) first rest room = (front_of_all (for_room own (g.row_of key) Mode.Alone) first rest room.0, front_makes own g (state_after g (front xs)) key first rest room.1)
 front_done g xs own (call.Get key) first rest room = (front_of_all (for_room own (g.row_of key) Mode.Shared) first rest room.0, front_of_none is_structure first rest room.1)
-front_done g xs own (call.Del key) first rest room = (front_of_all (for_room own (g.row_of key) Mode.Alone) first rest room.0, front_of_none is_structure first rest room.1)
+front_done g xs own (call.Del key) first rest room = (front_of_all (for_room own (g.row_of key) Mode.Alone) first rest room.0, front_tidies own g (state_after g (front xs)) key Stage.Before first rest room.1)
 front_done g xs own (call.Scan from to) first rest walk = (front_of_all (for_walk own) first rest walk.0, front_of_none is_structure first rest walk.1)
 front_done g xs own call.Abort first rest backs = front_of_all (for_back own) first rest backs
 front_done g xs own c first rest ready = front_ready (needs_sync g xs own c) first rest ready

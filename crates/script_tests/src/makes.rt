@@ -240,11 +240,11 @@ static WORKLOADS: [Workload; 6] = [
     Workload {
         name: "few pages",
         format: NARROW,
-        words: "lean make 1 300",
+        words: "lean make 1 500",
         sessions: 4,
         number: 1,
-        transactions: 300,
-        line: "made 300 refused ",
+        transactions: 500,
+        line: "made 500 refused 23 pairs 629 sum 1334703260016\n",
         is_refused: true,
     },
     // Its last transaction is refused too.

@@ -501,7 +501,7 @@ fn each_run_ends_and_prints_as_is_written(rt: HostRuntime) {
 }
 
 // Puts that make room, and disks that hold less than a new one.
-static DISKS: [Case; 6] = [
+static DISKS: [Case; 7] = [
     // 45 blocks for the commits of one change each, two for the leaf that is filled, and then one for a lift, a split and a change: the log was tested
     // before the row was taken, and room that is begun is made in the blocks that are kept back.
     Case {
@@ -657,6 +657,48 @@ static DISKS: [Case; 6] = [
                 0,
                 "open 4 winners 1 undone 0;1 begun 1.1;1 was 900;1 was 902;1 committed 1.1 at 511;1 durable 1.1;1 begun 1.2;1 was none;1 was none;1 no-pages;1 committed 1.2 at 515;1 durable 1.2;"
             ),
+        ],
+        leaves: None,
+    },
+    // Thirty keys are in the left leaf and thirty-one in the right one. Sixteen are deleted, each durable by the sync; the next del finds fourteen left beside them. It purges
+    // the leaf with number 82, joins it with 83, drops the root with 84, and changes its key with 85.
+    Case {
+        name: "space comes back by a del",
+        left_out: None,
+        runs: &[
+            FORMATTED_16,
+            Run {
+                command: Command::Run,
+                script: Lines::Many(&[
+                    Text("1 begin;", 1, 1),
+                    Text("1 put # @;", 1, 61),
+                    Text("1 commit;1 begin;", 1, 1),
+                    Text("1 del #;", 1, 16),
+                    Text("1 commit;sync;1 begin;1 del 17;1 commit;", 1, 1),
+                ]),
+                status: 0,
+                printed: Lines::Many(&[
+                    Text("open 1 winners 0 undone 0;1 begun 1.1;", 1, 1),
+                    Text("1 was none;", 1, 61),
+                    Text("1 committed 1.1 at 64;1 durable 1.1;1 begun 1.2;", 1, 1),
+                    Text("1 was @;", 1, 16),
+                    Text(
+                        "1 committed 1.2 at 81;1 durable 1.2;synced 81;1 begun 1.3;1 was 34;1 committed 1.3 at 86;1 durable 1.3;",
+                        1,
+                        1,
+                    ),
+                ]),
+            },
+            Run {
+                command: Command::Dump,
+                script: Lines::Once(""),
+                status: 0,
+                printed: Lines::Many(&[
+                    Text("open 2 winners 3 undone 0;", 1, 1),
+                    Text("pair # @;", 18, 61),
+                    Text("end;", 1, 1),
+                ]),
+            },
         ],
         leaves: None,
     },

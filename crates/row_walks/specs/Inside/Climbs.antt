@@ -2,18 +2,18 @@
 use Rattle.std.specs.Prelude.{◌≡◌, ◌≤◌, ◌<◌, ◌-◌, ◌^◌, ℕ, suc, true, List, [], Option, Some, None, Result, Ok, Err}
 use Rattle.map_model.specs.declared.call.Refusal.{Refusal}
 use Rattle.map_model.specs.declared.call.Refusal.TheVariants as refusal
-use Rattle.session_state.specs.engine_trait.declared.unserved.Unanswered.TheVariants as unanswered
-use Rattle.session_state.specs.engine_trait.declared.unserved.Unserved.TheVariants as unserved
+use Rattle.row_changes.specs.session_state.engine_trait.declared.unserved.Unanswered.TheVariants as unanswered
+use Rattle.row_changes.specs.session_state.engine_trait.declared.unserved.Unserved.TheVariants as unserved
 use Rattle.lean_disk.specs.Story.{Story}
-use Rattle.session_state.specs.row_words.declared.event.Event.{Event}
-use Rattle.session_state.specs.row_words.Moments.{event_of}
-use Rattle.session_state.specs.row_words.Openings.{opening}
-use Rattle.session_state.specs.rows_trait.declared.view.View.{View}
-use Rattle.session_state.specs.rows_trait.Views.{state}
-use Rattle.session_state.specs.worker_log.Logs.{Log}
-use Rattle.session_state.specs.Staging.{KeepsLog}
-use Rattle.session_state.specs.declared.session.Session.{Session}
-use Rattle.tidy_rules.specs.Tidying.{Stage, behind}
+use Rattle.row_changes.specs.session_state.row_words.declared.event.Event.{Event}
+use Rattle.row_changes.specs.session_state.row_words.Moments.{event_of}
+use Rattle.row_changes.specs.session_state.row_words.Openings.{opening}
+use Rattle.row_changes.specs.session_state.rows_trait.declared.view.View.{View}
+use Rattle.row_changes.specs.session_state.rows_trait.Views.{state}
+use Rattle.row_changes.specs.session_state.worker_log.Logs.{Log}
+use Rattle.row_changes.specs.session_state.Staging.{KeepsLog}
+use Rattle.row_changes.specs.session_state.declared.session.Session.{Session}
+use Rattle.row_tidying.specs.tidy_rules.Tidying.{Stage, behind}
 use Rattle.row_changes.specs.declared.ways.Unmade.{Unmade}
 use Rattle.row_changes.specs.declared.ways.Unmade.TheVariants as unmade
 use Rattle.row_tidying.specs.Changes.{IsMade}

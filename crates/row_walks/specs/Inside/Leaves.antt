@@ -1,20 +1,20 @@
 -- What a tidying does to the leaf before all else, by answer.
 use Rattle.std.specs.Prelude.{◌≡◌, ◌<◌, ◌^◌, ltb, ℕ, Bool, true, false, List, length, Option, Some, None, Result, Ok, Err}
 use Rattle.map_model.specs.declared.call.Refusal.TheVariants as refusal
-use Rattle.session_state.specs.engine_trait.declared.unserved.Unanswered.TheVariants as unanswered
-use Rattle.session_state.specs.engine_trait.declared.unserved.Unserved.{Unserved}
-use Rattle.session_state.specs.engine_trait.declared.unserved.Unserved.TheVariants as unserved
+use Rattle.row_changes.specs.session_state.engine_trait.declared.unserved.Unanswered.TheVariants as unanswered
+use Rattle.row_changes.specs.session_state.engine_trait.declared.unserved.Unserved.{Unserved}
+use Rattle.row_changes.specs.session_state.engine_trait.declared.unserved.Unserved.TheVariants as unserved
 use Rattle.page_model.specs.Redo.{is_some}
-use Rattle.session_state.specs.core_state.Needs.{value_in}
-use Rattle.session_state.specs.core_state.States.{nodes_of}
+use Rattle.row_changes.specs.session_state.core_state.Needs.{value_in}
+use Rattle.row_changes.specs.session_state.core_state.States.{nodes_of}
 use Rattle.lean_disk.specs.Story.{Story}
-use Rattle.session_state.specs.row_words.Openings.{opening}
-use Rattle.session_state.specs.rows_trait.declared.view.View.{View}
-use Rattle.session_state.specs.rows_trait.Views.{state}
-use Rattle.session_state.specs.worker_log.Logs.{Log}
-use Rattle.session_state.specs.Staging.{KeepsLog}
-use Rattle.session_state.specs.declared.session.Session.{Session}
-use Rattle.tidy_rules.specs.Tidying.{Stage, next_tidy, page_at}
+use Rattle.row_changes.specs.session_state.row_words.Openings.{opening}
+use Rattle.row_changes.specs.session_state.rows_trait.declared.view.View.{View}
+use Rattle.row_changes.specs.session_state.rows_trait.Views.{state}
+use Rattle.row_changes.specs.session_state.worker_log.Logs.{Log}
+use Rattle.row_changes.specs.session_state.Staging.{KeepsLog}
+use Rattle.row_changes.specs.session_state.declared.session.Session.{Session}
+use Rattle.row_tidying.specs.tidy_rules.Tidying.{Stage, next_tidy, page_at}
 use Rattle.row_tidying.specs.Outcomes.{IsSpentWithin}
 use Rattle.row_walks.specs.Steps.{IsQuietTo, IsTidied}
 use Rattle.row_walks.specs.declared.leaves.Leaf.{Leaf}

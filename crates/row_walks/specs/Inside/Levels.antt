@@ -1,10 +1,10 @@
 -- What is found of one level of a key's way.
 use Rattle.std.specs.Prelude.{◌≡◌, ◌<◌, ℕ, suc, true, false, Some, None}
-use Rattle.session_state.specs.core_state.Events as happening
-use Rattle.session_state.specs.row_words.Openings.{opening}
-use Rattle.session_state.specs.rows_trait.declared.view.View.{View}
-use Rattle.session_state.specs.rows_trait.Views.{state}
-use Rattle.tidy_rules.specs.Tidying.{is_thin, join_under, page_at}
+use Rattle.row_changes.specs.session_state.core_state.Events as happening
+use Rattle.row_changes.specs.session_state.row_words.Openings.{opening}
+use Rattle.row_changes.specs.session_state.rows_trait.declared.view.View.{View}
+use Rattle.row_changes.specs.session_state.rows_trait.Views.{state}
+use Rattle.row_tidying.specs.tidy_rules.Tidying.{is_thin, join_under, page_at}
 use Rattle.row_tidying.specs.Changes.{CanJoin}
 use Rattle.row_walks.specs.Stages.{IsNeighbour}
 use Rattle.row_walks.specs.declared.levels.Level.{Level}

@@ -1,12 +1,12 @@
 -- What is next from a level on, where all below it is done: where the walk up stops, and whether the root's one child is dropped.
 use Rattle.std.specs.Prelude.{◌≡◌, ◌≤◌, ◌<◌, ◌-◌, ℕ, suc, true, Option, Some, None}
-use Rattle.session_state.specs.core_state.Events as happening
-use Rattle.session_state.specs.core_state.Openings.{Opening}
-use Rattle.session_state.specs.core_state.States.{State, nodes_of}
-use Rattle.session_state.specs.row_words.Openings.{opening}
-use Rattle.session_state.specs.rows_trait.declared.view.View.{View}
-use Rattle.session_state.specs.rows_trait.Views.{state}
-use Rattle.tidy_rules.specs.Tidying.{is_thin, join_under, next_drop, next_up, page_at}
+use Rattle.row_changes.specs.session_state.core_state.Events as happening
+use Rattle.row_changes.specs.session_state.core_state.Openings.{Opening}
+use Rattle.row_changes.specs.session_state.core_state.States.{State, nodes_of}
+use Rattle.row_changes.specs.session_state.row_words.Openings.{opening}
+use Rattle.row_changes.specs.session_state.rows_trait.declared.view.View.{View}
+use Rattle.row_changes.specs.session_state.rows_trait.Views.{state}
+use Rattle.row_tidying.specs.tidy_rules.Tidying.{is_thin, join_under, next_drop, next_up, page_at}
 use Rattle.row_tidying.specs.Changes.{CanDrop, CanJoin}
 use Rattle.row_walks.specs.Inside.Levels.{IsFound}
 use Rattle.row_walks.specs.Stages.{IsNeighbour}

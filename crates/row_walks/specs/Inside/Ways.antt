@@ -2,13 +2,13 @@
 use Rattle.std.specs.Prelude.{◌≡◌, ◌≢◌, ◌≤◌, ◌<◌, ◌-◌, ℕ, suc, true, List, length, slice_index, Some}
 use Rattle.page_model.specs.Check.{names_page}
 use Rattle.page_model.specs.Nodes.{covers}
-use Rattle.session_state.specs.core_state.Openings.{Opening}
-use Rattle.session_state.specs.core_state.States.{Place, State, nodes_of}
-use Rattle.session_state.specs.row_words.Openings.{opening}
-use Rattle.session_state.specs.rows_trait.declared.view.View.{View}
-use Rattle.session_state.specs.rows_trait.Views.{state}
-use Rattle.session_state.specs.btree_descent.Puts.{IsLeafAt}
-use Rattle.tidy_rules.specs.Tidying.{page_at}
+use Rattle.row_changes.specs.session_state.core_state.Openings.{Opening}
+use Rattle.row_changes.specs.session_state.core_state.States.{Place, State, nodes_of}
+use Rattle.row_changes.specs.session_state.row_words.Openings.{opening}
+use Rattle.row_changes.specs.session_state.rows_trait.declared.view.View.{View}
+use Rattle.row_changes.specs.session_state.rows_trait.Views.{state}
+use Rattle.row_changes.specs.session_state.btree_descent.Puts.{IsLeafAt}
+use Rattle.row_tidying.specs.tidy_rules.Tidying.{page_at}
 use Rattle.row_image.specs.Hot.{StandsIn}
 use Rattle.row_image.specs.declared.sight.Sight.{Sight}
 use Rattle.row_changes.specs.Paths.{IsPathTo}

@@ -3,7 +3,7 @@ use Rattle.paged_desks.proofs.session_desks.SeatLemmas.{holds_of}
 use Rattle.paged_desks.specs.session_desks.Parts.{here, shape}
 use Rattle.paged_desks.specs.declared.machine.PagedMachine.{PagedMachine}
 use Rattle.paged_calls.proofs.ChangeSteps.{del_ready}
-use Rattle.paged_calls.proofs.RoomLemmas.{may_change}
+use Rattle.paged_calls.proofs.TidyWarms.{may_write}
 use Rattle.paged_calls.proofs.deleting.del_in_leaf.Goals as goal
 
 pub del_held-requires-clause-holds : goal.del_held-requires-clause-holds
@@ -12,7 +12,7 @@ del_held-requires-clause-holds g c κs within =
     holds_of (shape m) m.seat.view (here m) m.desks.items c.requires.ready.sound.desks
 
 pub del_held-requires-clause-may : goal.del_held-requires-clause-may
-del_held-requires-clause-may g c κs within = may_change g.D.Disk.story c.args.key c.args.machine.now c.requires.ready.works c.requires.small c.requires.key c.requires.may
+del_held-requires-clause-may g c κs within = may_write c.args.key c.args.machine.now c.requires.ready.works c.requires.small c.requires.key c.requires.may
 
 pub returns-clause-ready : goal.returns-clause-ready
 returns-clause-ready g c works =

@@ -1,79 +1,59 @@
-use Rattle.std.proofs.Common.{◌∙◌, Option, ℕ, ap, refl, sym, subst}
-use Rattle.row_room.proofs.row_changes.DelLemmas.{none_lost_by_del}
-use Rattle.row_room.specs.row_changes.Ways.{IsLost}
-use Rattle.paged_calls.proofs.ChangeWarms.{cause_try, dels_err, dels_ok, dels_on, may_same, met_cold, refused_works}
+use Rattle.std.proofs.Common.{◌∙◌, Option, Ok, Err, ℕ, refl, sym}
+use Rattle.row_walks.specs.declared.steps.At.TheVariants as begun
 use Rattle.paged_desks.proofs.EndingLemmas.{Grounds}
-use Rattle.paged_calls.proofs.WarmLemmas.{cause_at, come_none}
+use Rattle.paged_calls.specs.Tidyings.{most_a_del}
+use Rattle.paged_calls.proofs.ChangeWarms.{cause_made, made_works}
+use Rattle.paged_calls.proofs.PutCalls.{cause_kind, ok_round}
+use Rattle.paged_calls.proofs.TidyWarms.{dels_by, may_begin, may_over}
+use Rattle.paged_calls.proofs.WarmLemmas.{cause_at}
 use Rattle.paged_calls.proofs.deleting.del_warm.Goals as goal
 
-pub returns-in-Ok-clause-dels : goal.returns-in-Ok-clause-dels
-returns-in-Ok-clause-dels g c =
-    let e = c.laws.ensures in
-    let l : Grounds = record { reached = e.reached; needs = e.needs; versions = e.versions; kept = e.kept; prefixes = e.prefixes; seals = e.seals } in
+pub returns-in-Err-clause-dels : goal.returns-in-Err-clause-dels
+returns-in-Err-clause-dels g c = c.in-Err.ensures.tidies
+
+pub returns-in-Err-clause-turn : goal.returns-in-Err-clause-turn
+returns-in-Err-clause-turn g c works = c.in-Err.ensures.turn works
+
+pub returns-in-Err-clause-cause_disk_fault : goal.returns-in-Err-clause-cause_disk_fault
+returns-in-Err-clause-cause_disk_fault g c = cause_kind (Unit {0}) (Option ℕ) _ _ c.in-Err.why c.in-Err.ensures.cause_disk_fault
+
+pub del_hot-requires-clause-ready : goal.del_hot-requires-clause-ready
+del_hot-requires-clause-ready g c κs within = c.in_default.ensures.ready refl
+
+pub del_hot-requires-clause-may : goal.del_hot-requires-clause-may
+del_hot-requires-clause-may g c κs within = let t = c.in_default.ensures.tidies in may_over c.args.key t.there c.tidy.new.machine t.goes.may
+
+pub del_hot-requires-clause-small : goal.del_hot-requires-clause-small
+del_hot-requires-clause-small g c κs within = c.in_default.ensures.tidies.goes.small
+
+pub del_hot-requires-clause-warm : goal.del_hot-requires-clause-warm
+del_hot-requires-clause-warm g c κs within = c.in_default.ensures.tidies.goes.warm
+
+pub returns-clause-dels : goal.returns-clause-dels
+returns-clause-dels g c =
+    let b = c.laws.ensures in
+    let l : Grounds = record { reached = b.reached; needs = b.needs; versions = b.versions; kept = b.kept; prefixes = b.prefixes; seals = b.seals } in
     let lawful = (g.met.D.Disk g.world.𝓛 g.world.𝓜 g.world.𝓡 ((λ s x. x), (λ x. x), (λ x. x), (λ x. x))).lawful in
+    let story = g.D.Disk.story in
     let m = c.args.machine.now in
-    let d = c.in-Ok.ensures in
-    dels_ok l g.D.Disk.story lawful c.args.key m m c.del_in_leaf.new.machine (come_none l g.D.Disk.story lawful c.args.key m) c.in-Ok.was c.requires.ready c.requires.may d.aside d.session (d.is_half_aborted d.works) d.dels
+    let u = c.tidy.new.machine in
+    let d = c.del_hot.ensures in
+    dels_by l story lawful c.args.key begun.Before most_a_del m u c.del_hot.new.machine c.in_default.ensures.tidies (c.in_default.ensures.ready refl) d.aside d.session c.del_hot.result (λ works. d.is_half_aborted (d.works ∙ works)) d.dels
 
-pub returns-in-Err-Unserved-clause-dels : goal.returns-in-Err-Unserved-clause-dels
-returns-in-Err-Unserved-clause-dels g c =
-    let e = c.laws.ensures in
-    let l : Grounds = record { reached = e.reached; needs = e.needs; versions = e.versions; kept = e.kept; prefixes = e.prefixes; seals = e.seals } in
-    let lawful = (g.met.D.Disk g.world.𝓛 g.world.𝓜 g.world.𝓡 ((λ s x. x), (λ x. x), (λ x. x), (λ x. x))).lawful in
-    let m = c.args.machine.now in
-    let d = c.in-Err-Unserved.ensures in
-    dels_err l g.D.Disk.story lawful c.args.key m m c.del_in_leaf.new.machine (come_none l g.D.Disk.story lawful c.args.key m) c.in-Err-Unserved.why c.in-Err-Unserved.field-0 c.in-Err-Unserved.field-0-is d.aside d.dels
+pub returns-clause-works : goal.returns-clause-works
+returns-clause-works g c = c.del_hot.ensures.works ∙ made_works g.D.Disk.story c.args.key c.tidy.new.machine c.del_hot.new.machine c.del_hot.result c.del_hot.ensures.dels
 
-pub del_behind-requires-clause-may : goal.del_behind-requires-clause-may
-del_behind-requires-clause-may g c κs within =
-    let m = c.args.machine.now in
-    let u = c.del_in_leaf.new.machine in
-    let d = c.in-Err-Cold.ensures in
-    may_same g.D.Disk.story c.args.key m u (met_cold g.D.Disk.story c.args.key m u c.in-Err-Cold.field-0 _ c.in-Err-Cold.field-0-is d.aside d.dels) c.requires.may
+pub returns-clause-ready : goal.returns-clause-ready
+returns-clause-ready g c works = c.del_hot.ensures.ready (made_works g.D.Disk.story c.args.key c.tidy.new.machine c.del_hot.new.machine c.del_hot.result c.del_hot.ensures.dels ∙ works)
 
-pub returns-in-Err-Cold-clause-dels : goal.returns-in-Err-Cold-clause-dels
-returns-in-Err-Cold-clause-dels g c =
-    let e = c.laws.ensures in
-    let l : Grounds = record { reached = e.reached; needs = e.needs; versions = e.versions; kept = e.kept; prefixes = e.prefixes; seals = e.seals } in
-    let lawful = (g.met.D.Disk g.world.𝓛 g.world.𝓜 g.world.𝓡 ((λ s x. x), (λ x. x), (λ x. x), (λ x. x))).lawful in
-    let m = c.args.machine.now in
-    let u = c.del_in_leaf.new.machine in
-    let d = c.in-Err-Cold.ensures in
-    dels_on l g.D.Disk.story lawful c.args.key m u c.del_behind.new.machine (met_cold g.D.Disk.story c.args.key m u c.in-Err-Cold.field-0 _ c.in-Err-Cold.field-0-is d.aside d.dels) c.del_behind.result c.del_behind.ensures.dels
+pub returns-clause-session : goal.returns-clause-session
+returns-clause-session g c = let p = c.in_default.ensures.session in let d = c.del_hot.ensures.session in (d.1 ∙ p.0, d.2 ∙ p.1)
 
-pub returns-in-Err-Unserved-clause-cause_disk_fault : goal.returns-in-Err-Unserved-clause-cause_disk_fault
-returns-in-Err-Unserved-clause-cause_disk_fault g c = cause_try (Option ℕ) (Option ℕ) _ _ c.in-Err-Unserved.field-0 c.in-Err-Unserved.why c.in-Err-Unserved.field-0-is c.in-Err-Unserved.ensures.cause_disk_fault
+pub returns-clause-turn : goal.returns-clause-turn
+returns-clause-turn g c works = c.del_hot.ensures.session.0 ∙ c.in_default.ensures.turn refl
 
-pub returns-in-Err-Cold-clause-cause_disk_fault : goal.returns-in-Err-Cold-clause-cause_disk_fault
-returns-in-Err-Cold-clause-cause_disk_fault g c =
-    let m = c.args.machine.now in
-    let u = c.del_in_leaf.new.machine in
-    let d = c.in-Err-Cold.ensures in
-    cause_at _ _ _ _ _ (ap g.D.Disk.faults (sym (met_cold g.D.Disk.story c.args.key m u c.in-Err-Cold.field-0 _ c.in-Err-Cold.field-0-is d.aside d.dels).beside.disk)) refl c.del_behind.ensures.cause_disk_fault
+pub returns-clause-cause_disk_fault : goal.returns-clause-cause_disk_fault
+returns-clause-cause_disk_fault g c = cause_at _ _ _ _ _ (sym (c.in_default.ensures.cause_disk_fault.calm (ok_round _ _))) refl (cause_made _ _ c.del_hot.result c.del_hot.ensures.cause_disk_fault)
 
-pub unreachable-requires : goal.unreachable-requires
-unreachable-requires g c = none_lost_by_del c.in-Err-Lost.field-0 _ _ _ _ _ _ _ _ _ _ c.in-Err-Lost.ensures.dels (subst IsLost (sym c.in-Err-Lost.field-0-is) tt)
-
-pub returns-in-Err-Unserved-clause-works : goal.returns-in-Err-Unserved-clause-works
-returns-in-Err-Unserved-clause-works g c = let d = c.in-Err-Unserved.ensures in d.works ∙ refused_works g.D.Disk.story c.args.key c.args.machine.now c.del_in_leaf.new.machine c.in-Err-Unserved.field-0 c.in-Err-Unserved.why c.in-Err-Unserved.field-0-is d.dels
-
-pub returns-in-Err-Unserved-clause-ready : goal.returns-in-Err-Unserved-clause-ready
-returns-in-Err-Unserved-clause-ready g c works = let d = c.in-Err-Unserved.ensures in d.ready (refused_works g.D.Disk.story c.args.key c.args.machine.now c.del_in_leaf.new.machine c.in-Err-Unserved.field-0 c.in-Err-Unserved.why c.in-Err-Unserved.field-0-is d.dels ∙ works)
-
-pub returns-in-Ok-clause-session : goal.returns-in-Ok-clause-session
-returns-in-Ok-clause-session g c = let d = c.in-Ok.ensures.session in (d.1, d.2)
-
-pub returns-in-Ok-clause-turn : goal.returns-in-Ok-clause-turn
-returns-in-Ok-clause-turn g c works = c.in-Ok.ensures.session.0
-
-pub returns-in-Err-Unserved-clause-session : goal.returns-in-Err-Unserved-clause-session
-returns-in-Err-Unserved-clause-session g c = let d = c.in-Err-Unserved.ensures.session in (d.1, d.2)
-
-pub returns-in-Err-Unserved-clause-turn : goal.returns-in-Err-Unserved-clause-turn
-returns-in-Err-Unserved-clause-turn g c works = c.in-Err-Unserved.ensures.session.0
-
-pub returns-in-Err-Cold-clause-session : goal.returns-in-Err-Cold-clause-session
-returns-in-Err-Cold-clause-session g c = let d = c.in-Err-Cold.ensures.session in let b = c.del_behind.ensures.session in (b.0 ∙ d.1, b.1 ∙ d.2)
-
-pub returns-in-Err-Cold-clause-turn : goal.returns-in-Err-Cold-clause-turn
-returns-in-Err-Cold-clause-turn g c works = c.del_behind.ensures.turn works ∙ c.in-Err-Cold.ensures.session.0
+pub tidy-requires-clause-may : goal.tidy-requires-clause-may
+tidy-requires-clause-may g c κs within = may_begin c.args.key c.args.machine.now c.requires.may

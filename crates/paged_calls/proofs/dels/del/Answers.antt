@@ -1,4 +1,4 @@
-use Rattle.std.proofs.Common.{◌∙◌, ℕ, Option, Err, ap, refl, sym}
+use Rattle.std.proofs.Common.{◌≡◌, ◌∙◌, ℕ, Option, Err, ap, refl, sym}
 use Rattle.row_room.proofs.row_changes.StepLemmas.{clock_below, not_fault}
 use Rattle.paged_calls.proofs.ChangeTests.{test_broken, test_comes, test_works}
 use Rattle.paged_calls.proofs.ChangeWarms.{may_taken}
@@ -7,6 +7,7 @@ use Rattle.paged_calls.proofs.DelLemmas.{del_did, del_stopped, del_tested, del_u
 use Rattle.paged_desks.proofs.EndingLemmas.{Grounds}
 use Rattle.paged_calls.proofs.TakingLemmas.{none_is, some_is}
 use Rattle.paged_calls.proofs.WarmLemmas.{cause_none, come_none}
+use Rattle.paged_calls.specs.Tidyings.{most_a_del}
 use Rattle.paged_calls.proofs.dels.del.Goals as goal
 
 pub returns-in-Some-clause-does : goal.returns-in-Some-clause-does
@@ -14,14 +15,14 @@ returns-in-Some-clause-does g c works =
     let e = c.laws.ensures in
     let l : Grounds = record { reached = e.reached; needs = e.needs; versions = e.versions; kept = e.kept; prefixes = e.prefixes; seals = e.seals } in
     let lawful = (g.met.D.Disk g.world.𝓛 g.world.𝓜 g.world.𝓡 ((λ s x. x), (λ x. x), (λ x. x), (λ x. x))).lawful in
-    del_tested l e.answers e.coming g.D.Disk.story lawful c.args.machine.now (c.requires.ready works) c.args.key c.in-Some.why (sym c.change_refusal.ensures ∙ c.in-Some.is)
+    del_tested l e.residence e.answers e.coming e.frames g.D.Disk.story lawful c.args.machine.now (c.requires.ready works) c.args.key c.in-Some.why (sym c.change_refusal.ensures ∙ c.in-Some.is)
 
 pub returns-in-Err-clause-does : goal.returns-in-Err-clause-does
 returns-in-Err-clause-does g c works =
     let e = c.laws.ensures in
     let l : Grounds = record { reached = e.reached; needs = e.needs; versions = e.versions; kept = e.kept; prefixes = e.prefixes; seals = e.seals } in
     let lawful = (g.met.D.Disk g.world.𝓛 g.world.𝓜 g.world.𝓡 ((λ s x. x), (λ x. x), (λ x. x), (λ x. x))).lawful in
-    del_untaken l e.answers e.coming g.D.Disk.story lawful c.args.machine.now (c.requires.ready works) c.args.key (sym c.change_refusal.ensures ∙ c.in_default.is) c.take.new.machine c.take.ensures.ready c.in-Err.why c.in-Err.ensures.not_taken
+    del_untaken l e.residence e.answers e.coming e.frames g.D.Disk.story lawful c.args.machine.now (c.requires.ready works) c.args.key (sym c.change_refusal.ensures ∙ c.in_default.is) c.take.new.machine c.take.ensures.ready c.in-Err.why c.in-Err.ensures.not_taken
 
 pub returns-in-Some-clock_refusal-clause-does : goal.returns-in-Some-clock_refusal-clause-does
 returns-in-Some-clock_refusal-clause-does g c works =
@@ -31,7 +32,7 @@ returns-in-Some-clock_refusal-clause-does g c works =
     let none = sym c.change_refusal.ensures ∙ c.in_default.is in
     let u = c.take.new.machine in
     let t = c.in_default-take.ensures.taken in
-    del_stopped l e.answers e.coming g.D.Disk.story lawful c.args.machine.now (c.requires.ready works) c.args.key none u t c.take.ensures.ready c.in-Some-clock_refusal.why (come_none l g.D.Disk.story lawful c.args.key u) (may_taken c.args.key c.args.machine.now u none t)
+    del_stopped l e.residence e.answers e.coming e.frames g.D.Disk.story lawful c.args.machine.now (c.requires.ready works) c.args.key none u t c.take.ensures.ready c.in-Some-clock_refusal.why (come_none l g.D.Disk.story lawful c.args.key u) (may_taken c.args.key c.args.machine.now u none t)
     (sym c.clock_refusal.ensures ∙ c.in-Some-clock_refusal.is)
 
 pub returns-clause-does : goal.returns-clause-does
@@ -40,7 +41,7 @@ returns-clause-does g c works =
     let l : Grounds = record { reached = e.reached; needs = e.needs; versions = e.versions; kept = e.kept; prefixes = e.prefixes; seals = e.seals } in
     let lawful = (g.met.D.Disk g.world.𝓛 g.world.𝓜 g.world.𝓡 ((λ s x. x), (λ x. x), (λ x. x), (λ x. x))).lawful in
     let w = c.del_warm.ensures in
-    del_did l e.answers e.coming g.D.Disk.story lawful c.args.machine.now (c.requires.ready works) c.args.key (sym c.change_refusal.ensures ∙ c.in_default.is) c.take.new.machine c.in_default-take.ensures.taken c.take.ensures.ready
+    del_did l e.residence e.answers e.coming e.frames g.D.Disk.story lawful c.args.machine.now (c.requires.ready works) c.args.key (sym c.change_refusal.ensures ∙ c.in_default.is) c.take.new.machine c.in_default-take.ensures.taken c.take.ensures.ready
     (clock_below c.take.new.machine.machine.work.session.clock.clock (sym c.clock_refusal.ensures ∙ c.in_default-clock_refusal.is)) c.del_warm.new.machine c.del_warm.result w.ready w.dels
 
 pub del_warm-requires-clause-may : goal.del_warm-requires-clause-may
@@ -77,13 +78,13 @@ pub returns-in-Some-clock_refusal-clause-same : goal.returns-in-Some-clock_refus
 returns-in-Some-clock_refusal-clause-same g c early = absurd (clock_late c.take.new.machine.machine.work.session.clock.clock c.in-Some-clock_refusal.why (sym c.clock_refusal.ensures ∙ c.in-Some-clock_refusal.is) early)
 
 pub returns-clause-same : goal.returns-clause-same
-returns-clause-same g c early = absurd (dels_late g.D.Disk.story c.args.key c.del_warm.result c.take.new.machine c.del_warm.new.machine c.del_warm.ensures.dels early)
+returns-clause-same g c early = absurd (dels_late g.D.Disk.story c.args.key most_a_del c.del_warm.result c.take.new.machine c.del_warm.new.machine c.del_warm.ensures.dels early)
 
 pub returns-in-Some-clock_refusal-clause-come : goal.returns-in-Some-clock_refusal-clause-come
 returns-in-Some-clock_refusal-clause-come g c = clock_comes c.args.machine.now.machine.work.session.workers c.take.new.machine.machine.work.session.clock.clock c.in-Some-clock_refusal.why (sym c.clock_refusal.ensures ∙ c.in-Some-clock_refusal.is)
 
 pub returns-clause-come : goal.returns-clause-come
-returns-clause-come g c = dels_come g.D.Disk.story c.args.key c.args.machine.now.machine.work.session.workers c.del_warm.result c.take.new.machine c.del_warm.new.machine c.del_warm.ensures.dels
+returns-clause-come g c = dels_come g.D.Disk.story c.args.key most_a_del c.args.machine.now.machine.work.session.workers c.del_warm.result c.take.new.machine c.del_warm.new.machine c.del_warm.ensures.dels
 
 pub returns-in-Some-clock_refusal-clause-cause_disk_fault : goal.returns-in-Some-clock_refusal-clause-cause_disk_fault
 returns-in-Some-clock_refusal-clause-cause_disk_fault g c = cause_none _ _ _ (ap g.D.Disk.faults c.in_default-take.ensures.taken.beside.disk) (not_fault (Option ℕ) c.take.new.machine.machine.work.session.clock.clock c.in-Some-clock_refusal.why (sym c.clock_refusal.ensures ∙ c.in-Some-clock_refusal.is))

@@ -1,6 +1,6 @@
 use Rattle.std.proofs.Common.{◌≡◌, ◌≤◌, ◌<◌, ◌-◌, ◌∙◌, ℕ, suc, List, length, refl, sym, ap, subst, arith}
 use Rattle.std.specs.Prelude.{slice_index}
-use Rattle.session_state.specs.rows_trait.Views.{state}
+use Rattle.row_changes.specs.session_state.rows_trait.Views.{state}
 use Rattle.row_image.specs.Hot.{StandsIn}
 use Rattle.row_walks.proofs.LeafLemmas.{answered, leaf_frame, root_leaf}
 use Rattle.row_walks.proofs.LookLemmas.{looked_self}

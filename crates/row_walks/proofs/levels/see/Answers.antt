@@ -1,4 +1,4 @@
-use Rattle.session_state.proofs.Moments.{acts}
+use Rattle.row_changes.proofs.session_state.Moments.{acts}
 use Rattle.row_tidying.proofs.MadeLemmas.{framed}
 use Rattle.row_walks.proofs.SeeLemmas.{holds_looked, none_there, not_bare}
 use Rattle.row_walks.proofs.levels.see.Goals as goal

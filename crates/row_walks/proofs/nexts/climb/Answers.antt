@@ -1,7 +1,7 @@
 use Rattle.std.proofs.Common.{◌≡◌, ◌≤◌, ◌<◌, ◌+◌, ◌-◌, ◌∙◌, ℕ, suc, true, None, refl, sym, subst, arith}
-use Rattle.session_state.specs.row_words.Openings.{opening}
-use Rattle.session_state.specs.rows_trait.Views.{state}
-use Rattle.tidy_rules.specs.Tidying.{is_thin, join_under, page_at}
+use Rattle.row_changes.specs.session_state.row_words.Openings.{opening}
+use Rattle.row_changes.specs.session_state.rows_trait.Views.{state}
+use Rattle.row_tidying.specs.tidy_rules.Tidying.{is_thin, join_under, page_at}
 use Rattle.row_walks.specs.Inside.Levels.{IsFound}
 use Rattle.row_walks.specs.declared.levels.Level.{Level}
 use Rattle.row_walks.specs.declared.levels.Level.TheVariants as level

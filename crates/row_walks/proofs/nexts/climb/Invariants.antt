@@ -1,9 +1,9 @@
 use Rattle.std.proofs.Common.{◌≡◌, ◌≤◌, ◌<◌, ℕ, suc, true, None}
-use Rattle.session_state.specs.Holds.{Holds}
-use Rattle.session_state.specs.row_words.Openings.{opening}
-use Rattle.session_state.specs.rows_trait.Views.{state}
-use Rattle.tidy_rules.specs.Tidying.{is_thin, join_under, page_at}
-use Rattle.row_ends.specs.Flushed.{Looked}
+use Rattle.row_changes.specs.session_state.Holds.{Holds}
+use Rattle.row_changes.specs.session_state.row_words.Openings.{opening}
+use Rattle.row_changes.specs.session_state.rows_trait.Views.{state}
+use Rattle.row_tidying.specs.tidy_rules.Tidying.{is_thin, join_under, page_at}
+use Rattle.row_tidying.specs.row_ends.Flushed.{Looked}
 use Rattle.row_walks.proofs.nexts.climb.Given as goal
 
 abbrev pub invariant-loop-at : goal.invariant-loop-at

@@ -1,6 +1,6 @@
 use Rattle.std.proofs.Common.{◌≡◌, ◌≤◌, ◌<◌, ◌-◌, ◌∙◌, ℕ, List, length, refl, sym, ap, subst, arith}
 use Rattle.std.specs.Prelude.{slice_index}
-use Rattle.session_state.specs.core_state.States.{Place}
+use Rattle.row_changes.specs.session_state.core_state.States.{Place}
 use Rattle.row_walks.specs.Inside.Nexts.{IsLastChild}
 use Rattle.row_walks.proofs.LookLemmas.{core_looked, hot_on, looked_self, looked_then, seen_back}
 use Rattle.row_walks.proofs.RootLemmas.{below_frame, below_hot, last_child, leaf_root, many_root, root_hot}

@@ -1,7 +1,7 @@
 use Rattle.std.proofs.Common.{◌≡◌, ◌-◌, ◌∙◌, suc, None, Ok, Err, Result, refl, sym, subst, arith}
-use Rattle.session_state.specs.engine_trait.Refusals.{clock_refusal}
-use Rattle.session_state.specs.row_words.Openings.{opening}
-use Rattle.session_state.specs.rows_trait.Views.{state}
+use Rattle.row_changes.specs.session_state.engine_trait.Refusals.{clock_refusal}
+use Rattle.row_changes.specs.session_state.row_words.Openings.{opening}
+use Rattle.row_changes.specs.session_state.rows_trait.Views.{state}
 use Rattle.row_changes.proofs.DelLemmas.{same_then}
 use Rattle.row_changes.proofs.StepLemmas.{ok_calm}
 use Rattle.row_changes.specs.declared.ways.Unmade.{Unmade}
@@ -13,7 +13,7 @@ use Rattle.row_walks.specs.declared.leaves.Leaf.TheVariants as leaf
 use Rattle.row_walks.specs.declared.steps.At.TheVariants as at
 use Rattle.row_walks.specs.declared.steps.Tidied.{Tidied}
 use Rattle.row_walks.proofs.LookLemmas.{way_on}
-use Rattle.row_walks.proofs.StepLemmas.{answered_calm, answered_hot, answered_works, behind_told, calm_told, climbs_hot, leaf_as, leaf_refused, leaf_thick, leaf_told, may_tidy, passed_up, quiet_core, steps_up, tidied_by}
+use Rattle.row_walks.proofs.StepLemmas.{answer_wants_none, answered_calm, answered_hot, answered_works, behind_told, calm_told, climbs_hot, leaf_as, leaf_refused, leaf_thick, leaf_told, may_tidy, passed_up, quiet_core, steps_up, tidied_by}
 use Rattle.row_walks.proofs.steps.begin.Goals as goal
 
 pub tidy_leaf-requires-clause-may : goal.tidy_leaf-requires-clause-may
@@ -82,3 +82,15 @@ returns-in-Ok-Purged-clause-cause_disk_fault g c =
 
 pub returns-in-Ok-Thin-clause-cause_disk_fault : goal.returns-in-Ok-Thin-clause-cause_disk_fault
 returns-in-Ok-Thin-clause-cause_disk_fault g c = behind_told (g.D.Disk.faults c.args.work.now.disk) (g.D.Disk.faults c.tidy_leaf.new.work.disk) (g.D.Disk.faults c.go_up.new.work.disk) _ _ c.in-Ok-Thin.ensures.cause_disk_fault (ok_calm _ _) c.go_up.ensures.cause_disk_fault
+
+pub returns-in-Err-clause-higher : goal.returns-in-Err-clause-higher
+returns-in-Err-clause-higher g c = λ page l is. absurd (cc)
+
+pub returns-in-Ok-Thick-clause-higher : goal.returns-in-Ok-Thick-clause-higher
+returns-in-Ok-Thick-clause-higher g c = λ page l is. absurd (cc)
+
+pub returns-in-Ok-Purged-clause-higher : goal.returns-in-Ok-Purged-clause-higher
+returns-in-Ok-Purged-clause-higher g c = λ page l is. absurd (answer_wants_none c.tidy_leaf.new.work.session.clock.clock (at.From 0) c.changed.result c.changed.ensures page l is)
+
+pub returns-in-Ok-Thin-clause-higher : goal.returns-in-Ok-Thin-clause-higher
+returns-in-Ok-Thin-clause-higher g c = c.go_up.ensures.higher

@@ -1,8 +1,9 @@
-use Rattle.std.proofs.Common.{◌≡◌, ◌∙◌, refl, sym, subst}
+use Rattle.std.proofs.Common.{◌≡◌, ◌∙◌, Ok, refl, sym, subst}
 use Rattle.row_walks.specs.Inside.Nexts.{IsNext}
 use Rattle.row_walks.specs.declared.nexts.Next.TheVariants as next
+use Rattle.row_walks.specs.declared.steps.Tidied.TheVariants as tidied
 use Rattle.row_walks.proofs.LookLemmas.{can_drop_on, can_join_on, core_looked}
-use Rattle.row_walks.proofs.StepLemmas.{climbs_from, drop_on, join_on, next_as}
+use Rattle.row_walks.proofs.StepLemmas.{climbs_from, climbs_higher, drop_on, join_on, next_as}
 use Rattle.row_walks.proofs.steps.go_up.Goals as goal
 
 pub returns-in-Nothing-clause-climbs : goal.returns-in-Nothing-clause-climbs
@@ -40,3 +41,18 @@ returns-in-Joins-clause-fits g c = (c.join_at.ensures.fits.0, c.join_at.ensures.
 
 pub returns-in-Drops-clause-fits : goal.returns-in-Drops-clause-fits
 returns-in-Drops-clause-fits g c = (c.drop_at.ensures.fits.0, c.drop_at.ensures.fits.1 ∙ c.look_up.ensures.fits.1)
+
+pub returns-in-Nothing-clause-higher : goal.returns-in-Nothing-clause-higher
+returns-in-Nothing-clause-higher g c = λ page l is. absurd (cc)
+
+pub returns-in-Needs-clause-higher : goal.returns-in-Needs-clause-higher
+returns-in-Needs-clause-higher g c =
+    climbs_higher c.args.key c.args.from (g.R.Rows.view c.args.seat.now) (g.R.Rows.view c.look_up.new.seat) c.args.work.now.session c.args.work.now.session c.args.work.now.log c.args.work.now.log (g.D.Disk.story c.args.work.now.disk) (g.D.Disk.story c.args.work.now.disk) (c.args.work.now ≡ c.args.work.now) (Ok (tidied.Needs c.in-Needs.page c.in-Needs.level)) (returns-in-Needs-clause-climbs g c)
+
+pub returns-in-Joins-clause-higher : goal.returns-in-Joins-clause-higher
+returns-in-Joins-clause-higher g c =
+    climbs_higher c.args.key c.args.from (g.R.Rows.view c.args.seat.now) (g.R.Rows.view c.join_at.new.seat) c.args.work.now.session c.join_at.new.work.session c.args.work.now.log c.join_at.new.work.log (g.D.Disk.story c.args.work.now.disk) (g.D.Disk.story c.join_at.new.work.disk) (c.join_at.new.work ≡ c.args.work.now) c.join_at.result (returns-in-Joins-clause-climbs g c)
+
+pub returns-in-Drops-clause-higher : goal.returns-in-Drops-clause-higher
+returns-in-Drops-clause-higher g c =
+    climbs_higher c.args.key c.args.from (g.R.Rows.view c.args.seat.now) (g.R.Rows.view c.drop_at.new.seat) c.args.work.now.session c.drop_at.new.work.session c.args.work.now.log c.drop_at.new.work.log (g.D.Disk.story c.args.work.now.disk) (g.D.Disk.story c.drop_at.new.work.disk) (c.drop_at.new.work ≡ c.args.work.now) c.drop_at.result (returns-in-Drops-clause-climbs g c)

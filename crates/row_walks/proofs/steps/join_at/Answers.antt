@@ -1,5 +1,5 @@
 use Rattle.std.proofs.Common.{◌≡◌, ◌<◌, ◌+◌, ◌∙◌, ℕ, suc, false, None, Result, refl, sym, ap, subst, arith}
-use Rattle.session_state.specs.engine_trait.Refusals.{clock_refusal}
+use Rattle.row_changes.specs.session_state.engine_trait.Refusals.{clock_refusal}
 use Rattle.row_changes.specs.declared.ways.Unmade.{Unmade}
 use Rattle.row_walks.specs.Inside.Climbs.{Climbs, IsUpMade, answer_to}
 use Rattle.row_walks.specs.declared.steps.At.TheVariants as at

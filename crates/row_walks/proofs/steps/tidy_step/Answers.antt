@@ -1,11 +1,11 @@
 use Rattle.std.proofs.Common.{◌≡◌, ◌-◌, ◌∙◌, suc, None, Ok, Err, refl, sym, subst, arith}
-use Rattle.session_state.specs.row_words.Openings.{opening}
-use Rattle.session_state.specs.rows_trait.Views.{state}
+use Rattle.row_changes.specs.session_state.row_words.Openings.{opening}
+use Rattle.row_changes.specs.session_state.rows_trait.Views.{state}
 use Rattle.row_tidying.specs.Changes.{MayTidy}
 use Rattle.row_walks.specs.Stages.{IsPassed, MayShrink}
 use Rattle.row_walks.specs.declared.steps.At.{At}
 use Rattle.row_walks.specs.declared.steps.At.TheVariants as at
-use Rattle.row_walks.proofs.SeeLemmas.{way_in}
+use Rattle.row_walks.proofs.SeeLemmas.{way_in, way_warm}
 use Rattle.row_walks.proofs.StepLemmas.{clean_over, climbs_hot, may_carried, may_tidy, passed_carried, passed_up, quiet_none, steps_as, steps_from, steps_up}
 use Rattle.row_walks.proofs.steps.tidy_step.Goals as goal
 
@@ -65,3 +65,30 @@ returns-in-Before-clause-cause_cold g c warm cut = c.begin.ensures.cause_cold cu
 pub returns-in-From-clause-cause_cold : goal.returns-in-From-clause-cause_cold
 returns-in-From-clause-cause_cold g c warm cut =
     climbs_hot c.args.key c.args.level (g.R.Rows.view c.reach_leaf.new.seat) (g.R.Rows.view c.go_up.new.seat) c.args.work.now.session c.go_up.new.work.session c.args.work.now.log c.go_up.new.work.log (g.D.Disk.story c.args.work.now.disk) (g.D.Disk.story c.go_up.new.work.disk) (c.go_up.new.work ≡ c.args.work.now) c.go_up.result c.go_up.ensures.climbs cut
+
+pub returns-in-Err-clause-higher : goal.returns-in-Err-clause-higher
+returns-in-Err-clause-higher g c = λ page l is. absurd (cc)
+
+pub returns-in-Over-clause-higher : goal.returns-in-Over-clause-higher
+returns-in-Over-clause-higher g c = λ page l is. absurd (cc)
+
+pub returns-in-Before-clause-higher : goal.returns-in-Before-clause-higher
+returns-in-Before-clause-higher g c = c.begin.ensures.higher
+
+pub returns-in-From-clause-higher : goal.returns-in-From-clause-higher
+returns-in-From-clause-higher g c = c.go_up.ensures.higher
+
+pub returns-in-Err-clause-warm : goal.returns-in-Err-clause-warm
+returns-in-Err-clause-warm g c uncut = absurd (uncut tt)
+
+pub returns-in-Over-clause-warm : goal.returns-in-Over-clause-warm
+returns-in-Over-clause-warm g c uncut =
+    (way_warm c.every_warm.ensures (g.R.Rows.shape c.reach_leaf.new.rows) (g.R.Rows.view c.args.seat.now) (g.R.Rows.view c.reach_leaf.new.seat) c.args.work.now.session c.args.work.now.log c.in_default.ensures.holds c.args.key c.reach_leaf.new.path c.in_default.ensures.reaches)
+
+pub returns-in-Before-clause-warm : goal.returns-in-Before-clause-warm
+returns-in-Before-clause-warm g c uncut =
+    (way_warm c.every_warm.ensures (g.R.Rows.shape c.reach_leaf.new.rows) (g.R.Rows.view c.args.seat.now) (g.R.Rows.view c.reach_leaf.new.seat) c.args.work.now.session c.args.work.now.log c.in_default.ensures.holds c.args.key c.reach_leaf.new.path c.in_default.ensures.reaches)
+
+pub returns-in-From-clause-warm : goal.returns-in-From-clause-warm
+returns-in-From-clause-warm g c uncut =
+    (way_warm c.every_warm.ensures (g.R.Rows.shape c.reach_leaf.new.rows) (g.R.Rows.view c.args.seat.now) (g.R.Rows.view c.reach_leaf.new.seat) c.args.work.now.session c.args.work.now.log c.in_default.ensures.holds c.args.key c.reach_leaf.new.path c.in_default.ensures.reaches)

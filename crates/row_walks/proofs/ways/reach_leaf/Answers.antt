@@ -1,5 +1,5 @@
 use Rattle.std.proofs.Common.{refl}
-use Rattle.session_state.proofs.Moments.{acts}
+use Rattle.row_changes.proofs.session_state.Moments.{acts}
 use Rattle.row_changes.proofs.WayLemmas.{met_cold, warm_met}
 use Rattle.row_walks.proofs.SeeLemmas.{holds_looked, reaches}
 use Rattle.row_walks.proofs.ways.reach_leaf.Goals as goal
