@@ -1,8 +1,9 @@
--- Read Known, Named, Descents, Nexts, Puts, Trails, Dels and Reaches in this order; Inside, Meets, Spots and DelSpots have words of private
--- functions alone.
+-- Read Known, Named, Descents, Peeks, Nexts, Puts, Trails, Dels and Reaches in this order; Inside, Meets, Spots and DelSpots have words of
+-- private functions alone.
 pub mod Named
 pub mod Known
 pub mod Descents
+pub mod Peeks
 pub mod Nexts
 pub mod Puts
 pub mod Trails

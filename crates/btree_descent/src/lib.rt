@@ -10,6 +10,7 @@ pub mod descent;
 pub mod events;
 pub mod next;
 mod node;
+pub mod peek;
 pub mod put;
 pub mod reach;
 mod trace;

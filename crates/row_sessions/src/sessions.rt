@@ -1,10 +1,16 @@
 //! Rows in plain memory and the sessions of all workers on them.
-ghost use Rattle.std.specs.Prelude.{◌≡◌, ◌+◌, IfOk, replicate};
+ghost use Rattle.std.specs.Prelude.{◌≡◌, ◌+◌, ◌<◌, ◌≤◌, ◌^◌, true, [], IfOk, replicate};
+ghost use Rattle.btree_descent.specs.row_words.Openings.{opening};
+ghost use Rattle.btree_descent.specs.rows_trait.Plain.{sizes};
+ghost use Rattle.btree_descent.specs.rows_trait.Rule.{IsPicture, plan};
+ghost use Rattle.btree_descent.specs.rows_trait.Views.{state};
+ghost use Rattle.btree_descent.specs.Known.{IsSound};
+ghost use Rattle.key_locks.specs.Rows as locks;
 ghost use Rattle.row_sessions.specs.Standing.{Stands, first_session};
 
 use crate::drawing::Drawing;
 use crate::opening::are_pages;
-use crate::session::Session;
+use crate::session::{Session, session_of};
 use btree_descent::{BtreeNodeNode as Node, PlainRows, RowsTraitTrace as Trace};
 use key_locks::latches::Latches;
 use row_opening::open_rows;
@@ -85,6 +91,40 @@ impl Sessions {
             locks,
             base,
         })
+    }
+
+    /// Whether a worker has a transaction open.
+    pub fn is_open(&self, worker: u32) -> bool
+        requires stands { Stands self.now }
+        requires worker { worker ≤ self.now.rows.workers }
+        ensures { result ≡ true → ((state self.now.seat.view).core.worker worker).is_open ≡ true }
+    {
+        session_of(&self.sessions, worker).is_open
+    }
+
+    /// The rows and their seat, without the sessions.
+    pub fn into_rows(self) -> (PlainRows, Trace)
+        requires stands { Stands self }
+        ensures picture { IsPicture (plan (sizes result.0.frames result.0.locks result.0.workers) result.1.view.given) result.0.words.items result.1.view }
+        ensures held { result.1.view.held ≡ [] }
+        ensures sized { (0 < result.0.frames) × ((opening result.1.view.given).frames ≡ result.0.frames) }
+        ensures sound { IsSound result.1.view.given }
+        ensures locks { (0 < result.0.locks) × (result.1.view.given.rows ≡ result.0.locks) × locks.IsSound result.1.view.given }
+        ensures workers { ((opening result.1.view.given).workers ≡ result.0.workers) × (result.0.workers ≡ self.rows.workers) × (result.0.workers ≤ 16) }
+        ensures small { result.0.frames + result.0.locks < 2 ^ 32 }
+        ensures seat { result.1.view ≡ self.seat.view }
+    {
+        let Sessions {
+            rows,
+            seat,
+            sessions: _,
+            latches: _,
+            drawing: _,
+            frames: _,
+            locks: _,
+            base: _,
+        } = self;
+        (rows, seat)
     }
 
     /// The words of the rows.

@@ -23,7 +23,7 @@ use Rattle.rows_trait.proofs.Cells.{bool_cases, control_inside, set_cell_apart, 
 use Rattle.rows_trait.proofs.EventLemmas.{silent_sync, begins_are, calm_are}
 use Rattle.rows_trait.proofs.Memory.{Moves, moves_not, remembers_on, remembers_hear, remembers_turn}
 use Rattle.rows_trait.proofs.Keeping.{advances}
-use Rattle.rows_trait.proofs.Stepping.{row_cases, Stepping, fit, at_length, state_is, quiet, goes, few_still, counted_still, low_still, silent_word, begins_now, no_other, not_actor, alone_acts, still_old, silent_rows, fits_after, solo_after, held_still, stays, steady_still}
+use Rattle.rows_trait.proofs.Stepping.{row_cases, Stepping, fit, at_length, seen_all, state_is, quiet, goes, few_still, counted_still, low_still, silent_word, begins_now, no_other, not_actor, alone_acts, still_old, silent_rows, fits_after, solo_after, held_still, stays, steady_still}
 
 module _ (alone : Bool) (spot : TableId) (k : Plan) (happened : List Event) (words : List ℕ) (views : List View) (id : ℕ) (v : View)
     (keeps : Keeps k happened words views) (mine : get_elem? views id ≡ some v) (alive : v.live ≡ true)
@@ -182,6 +182,7 @@ module _ (alone : Bool) (spot : TableId) (k : Plan) (happened : List Event) (wor
             actor = refl;
             made = refl;
             done = refl;
+            all = seen_all on (names n);
             fits = fits_after on (names n) turned_words (Turn c i n ∷ v.steps) v.held (remembers_turn k.sizes turned_words v.steps c i n (remembers_on k.sizes words turned_words v.steps turn_moves (fit on).memory)) (still_old on (names n) turned_words turn_moves turn_still) turned_held (low_still on (names n));
             owner = λ q y. inl y;
             latched = λ q t o. bool_cases (holds v.held q) (λ y. inl y) (λ z. inr (let e = turn_cell q 0 in omega arith, z));
@@ -277,6 +278,7 @@ module _ (alone : Bool) (spot : TableId) (k : Plan) (happened : List Event) (wor
             actor = refl;
             made = refl;
             done = refl;
+            all = seen_all on es;
             fits = fits_after on es flushed v.steps v.held (remembers_on k.sizes words flushed v.steps sync_moves (fit on).memory) (still_old on es flushed sync_moves (λ row e. sync_still row es (moment k happened) sync_own)) synced_held (low_still on es);
             owner = λ q y. inl y;
             latched = λ q t o. bool_cases (holds v.held q) (λ y. inl y) (λ z. inr (let e = flushed_row q 0 in omega arith, z));

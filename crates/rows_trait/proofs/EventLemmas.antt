@@ -7,7 +7,7 @@ use Rattle.row_words.specs.Moments.{Moment, actor_of, by}
 use Rattle.row_words.specs.Sealed.{begun, stepped, run, Shown, changes, heard, IsTame}
 use Rattle.row_words.proofs.SealedLemmas.{shown_stays, heard_stays, run_append, by_append, calm_tame, tame_stays}
 use Rattle.rows_trait.specs.declared.view.View.{View}
-use Rattle.rows_trait.specs.Views.{after_all, holds, AreApart, AreAside, AreSilent, AreTame, AreCalm, BeginsTame, NoSync, may, AreBelow, AreStill, IsStill}
+use Rattle.rows_trait.specs.Views.{after_all, holds, AreApart, AreAside, AreSilent, AreTame, AreCalm, BeginsTame, NoSync, may, AreBelow, AreStill, IsStill, IsPart}
 use Rattle.rows_trait.specs.Inside.{NoneBy}
 
 pub apart_append : (v : View) (m : Moment) (es fs : List Event) → AreApart v m es → AreApart v (run v.given m es) fs → AreApart v m (es ++ fs)
@@ -46,6 +46,9 @@ by_none a (e ∷ es) n = at (actor_of e == a) refl (by_none a es n.1)
 
 pub by_longer : (a : ℕ) (es fs : List Event) → NoneBy a fs → by a (es ++ fs) ≡ by a es
 by_longer a es fs n = by_append a es fs ∙ (ap (λ z. by a es ++ z) (by_none a fs n) ∙ append-nil (by a es))
+
+pub part_more : (a : ℕ) (seen all es : List Event) → IsPart a seen all → NoneBy a es → IsPart a seen (all ++ es)
+part_more a seen all es p n = record { rest = p.rest ++ es; whole = ap (λ z. z ++ es) p.whole ∙ append_assoc seen p.rest es; others = by_longer a p.rest es n ∙ p.others }
 
 pub none_apart : (v : View) (m : Moment) (es : List Event) → AreApart v m es → NoneBy v.actor es
 none_apart v m [] a = tt

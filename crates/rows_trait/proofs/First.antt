@@ -34,7 +34,7 @@ module _ (z : Sizes) (v : Given) (words : List ℕ) (o : IsOpening z v words) wh
       actors = λ i j a b ea eb la lb same. (only i a ea).0 ∙ sym (only j b eb).0;
       owners = λ i j a b ea eb la lb row ha hb. (only i a ea).0 ∙ sym (only j b eb).0;
       makers = λ i j a b ea eb la lb up. (let s = ap (λ z. z.made) (only i a ea).1 in absurd (omega arith), λ u. (only i a ea).0 ∙ sym (only j b eb).0);
-      below = λ i a ea la up. tt;
+      below = λ i a ea la up rest e. let s = ap (λ z. z.made) (only i a ea).1 in absurd (omega arith);
       ended = λ i a ea la n own is. absurd (subst (λ (y : View). Ends n own y.ended) (sym (only i a ea).1) is);
       latched = λ row lt odd. let y = o.latch row lt in absurd (omega arith);
     };

@@ -1,5 +1,6 @@
 -- When a step keeps the rule.
-use Rattle.std.proofs.Common.{◌≡◌, ◌≢◌, ℕ, ◌+◌, ◌*◌, ◌<◌, ◌≤◌, true, false, true≢false, ◌⊎◌, ⊎_elim, List, ◌++◌, length, set, refl, sym, ap, subst, ◌∙◌, arith, append_assoc, length-append}
+use Rattle.std.proofs.Common.{◌≡◌, ◌≢◌, ℕ, ◌+◌, ◌*◌, ◌<◌, ◌≤◌, true, false, true≢false, ◌⊎◌, ⊎_elim, List, ◌++◌, length, set, refl, sym, ap, subst, ◌∙◌, arith, append_assoc, append-nil, length-append, []}
+use Rattle.std.proofs.lemmas.List.{append_cancel_left}
 use Rattle.std.specs.Prelude.{slice_index}
 use mathlib.Core.Option.{some}
 use lib.ListN.{get_elem?}
@@ -15,7 +16,7 @@ use Rattle.rows_trait.specs.Views.{IsEven, after_all, Since, holds, held_at, Are
 use Rattle.rows_trait.specs.Inside.{NoneBy}
 use Rattle.rows_trait.specs.Rule.{Plan, moment, Remembers, IsHeld, Fits, Keeps}
 use Rattle.rows_trait.proofs.Cells.{bool_cases}
-use Rattle.rows_trait.proofs.EventLemmas.{apart_append, apart_shown, below_append, by_longer, still_more, tame_append}
+use Rattle.rows_trait.proofs.EventLemmas.{apart_append, apart_shown, below_append, part_more, still_more, tame_append}
 use Rattle.rows_trait.specs.declared.view.Act.{Act}
 use Rattle.rows_trait.proofs.Memory.{Moves, remembers_on, even_of_has, has_of_since}
 
@@ -82,6 +83,7 @@ pub record Step (k : Plan) (happened : List Event) (words : List ℕ) (views : L
   pub made : w.made ≡ v.made
   pub done : w.ended ≡ v.ended
   pub fits : Fits k (happened ++ es) now w
+  pub all : happened ++ es ≡ w.seen
   pub owner : (row : ℕ) → holds w.held row ≡ true → (holds v.held row ≡ true) ⊎ IsEven (cell k.sizes words row 0)
   pub latched : (row : ℕ) → row < rows_of k.sizes → IsEven (cell k.sizes now row 0 + 1)
       → (holds w.held row ≡ true) ⊎ (IsEven (cell k.sizes words row 0 + 1) × (holds v.held row ≡ false))
@@ -146,17 +148,21 @@ module _ (k : Plan) (happened : List Event) (words : List ℕ) (views : List Vie
         let x = was i a ea la in let y = was j b eb lb in
         let k' = keeps.makers i j x.0 y.0 x.1 y.1 x.2 y.2 (let e = x.4 in omega arith) in
         (let e = x.4 in let f = y.3 in let g = k'.0 in omega arith, λ up'. k'.1 (let e = y.4 in omega arith));
-    below = λ i a ea la up.
-        let x = was i a ea la in
-        let P : ℕ → Type 0 = λ m. AreBelow m (happened ++ es) in
-        subst P x.4 (below_append x.0.made happened es (keeps.below i x.0 x.1 x.2 (let e = x.4 in omega arith)) ((s.acts i x.0 x.1 x.2).0 (let e = x.4 in omega arith)));
+    below = λ i a ea la up rest e. ⊎_elim
+        (λ (t : (i ≡ id) × (w ≡ a)).
+        subst (AreBelow a.made) (append_cancel_left w.seen [] rest (append-nil w.seen ∙ (sym s.all ∙ (e ∙ ap (λ z. z.seen ++ rest) (sym t.1))))) tt)
+        (λ (t : (i ≢ id) × (get_elem? views i ≡ some a)).
+        let f = keeps.fits i a t.1 la in
+        let same : f.rest ++ es ≡ rest = append_cancel_left a.seen (f.rest ++ es) rest (sym (append_assoc a.seen f.rest es) ∙ (ap (λ z. z ++ es) (sym f.whole) ∙ e)) in
+        subst (AreBelow a.made) same (below_append a.made f.rest es (keeps.below i a t.1 la up f.rest f.whole) ((s.acts i a t.1 la).0 up)))
+        (at_set views id i w a ea);
     ended = λ i a ea la n own is.
         let x = was i a ea la in
         let P : List Ended → Type 0 = λ z. Ends n own z in
         let old = subst P (sym x.5) is in
         let k' = keeps.ended i x.0 x.1 x.2 n own old in (
           let e = x.4 in let g = k'.0 in omega arith,
-          k'.1 ∙ sym (by_longer n happened es ((s.acts i x.0 x.1 x.2).1 n own old)),
+          part_more n own happened es k'.1 ((s.acts i x.0 x.1 x.2).1 n own old),
           λ j b eb lb same. let y = was j b eb lb in k'.2 j y.0 y.1 y.2 (y.3 ∙ same),
         );
     latched = λ row lt o. ⊎_elim

@@ -269,6 +269,7 @@ module _ {alone : Bool} {k : Plan} {happened : List Event} {words : List ℕ} {v
     actor = refl;
     made = refl;
     done = refl;
+    all = seen_all es;
     fits = fits_after es words steps v.held r st (held_still es s) low;
     owner = λ row h. inl h;
     latched = λ row lt o. bool_cases (holds v.held row) (λ y. inl y) (λ n. inr (o, n));

@@ -27,7 +27,7 @@ use Rattle.rows_trait.proofs.Holds.{holds_write, write_apart, write_here, holds_
 use Rattle.rows_trait.proofs.EventLemmas.{silent_sync, silent_aside, silent_calm, calm_are}
 use Rattle.rows_trait.proofs.Memory.{Moves, moves_not, remembers_on, remembers_look, remembers_load, remembers_store, remembers_set}
 use Rattle.rows_trait.proofs.Keeping.{Step, odd_of, advances}
-use Rattle.rows_trait.proofs.Stepping.{row_cases, Stepping, fit, at_length, to_view, quiet, goes, longer, few_still, counted_still, version_low, low_still, low_looked, silent_is, silent_word, tame_now, may_other, others_silent, acts_silent, acts_one, still_old, still_looked, silent_rows, still_view, fits_after, solo_after, steady_look, held_still, stays, odd_free, spelled, steady_still}
+use Rattle.rows_trait.proofs.Stepping.{row_cases, Stepping, fit, at_length, seen_all, to_view, quiet, goes, longer, few_still, counted_still, version_low, low_still, low_looked, silent_is, silent_word, tame_now, may_other, others_silent, acts_silent, acts_one, still_old, still_looked, silent_rows, still_view, fits_after, solo_after, steady_look, held_still, stays, odd_free, spelled, steady_still}
 
 module _ (alone : Bool) (spot : TableId) (k : Plan) (happened : List Event) (words : List ℕ) (views : List View) (id : ℕ) (v : View)
     (keeps : Keeps k happened words views) (mine : get_elem? views id ≡ some v) (alive : v.live ≡ true)
@@ -171,6 +171,7 @@ module _ (alone : Bool) (spot : TableId) (k : Plan) (happened : List Event) (wor
             actor = refl;
             made = refl;
             done = refl;
+            all = seen_all on [];
             fits = fits_after on [] stored (Store row i x ∷ v.steps) wrote (remembers_store k.sizes stored v.steps row i x (remembers_on k.sizes words stored v.steps stored_moves (fit on).memory)) (still_old on [] stored stored_moves (silent_rows on [] tt)) stored_held (low_still on []);
             owner = λ q h. inl (sym (holds_write v.held row i x q) ∙ h);
             latched = λ q t o. bool_cases (holds v.held q) (λ y. inl (holds_write v.held row i x q ∙ y)) (λ n. inr (let e = latch_still q in omega arith, n));
@@ -332,6 +333,7 @@ module _ (alone : Bool) (spot : TableId) (k : Plan) (happened : List Event) (wor
         actor = refl;
         made = refl;
         done = refl;
+        all = seen_all on (names version);
         fits = fits_after on (names version) taken_words (Set row (version + 1) ∷ look_at row version v between (names version) ∷ v.steps) taken_held
             (remembers_set k.sizes taken_words (look_at row version v between (names version) ∷ v.steps) row (version + 1)
             (remembers_on k.sizes words taken_words (look_at row version v between (names version) ∷ v.steps) (relatch_moves row (version + 1) lt (let e = is in omega arith)) (remembers_look k.sizes words v.steps row version ((v.seen ++ between) ++ names version) (sym is) (fit on).memory)))
@@ -430,6 +432,7 @@ module _ (alone : Bool) (spot : TableId) (k : Plan) (happened : List Event) (wor
       actor = refl;
       made = refl;
       done = refl;
+      all = seen_all on es;
       fits = fits_after on es given_words (Set row up ∷ v.steps) kept (remembers_set k.sizes given_words v.steps row up (remembers_on k.sizes words given_words v.steps given_moves (fit on).memory)) (still_old on es given_words given_moves still_rows) given_fits (low_still on es);
       owner = λ q h. inl (kept_of q h).1;
       latched = λ q t o. row_cases q row

@@ -4,13 +4,13 @@ use mathlib.Core.Option.{some}
 use lib.ListN.{get_elem?}
 use Rattle.row_words.specs.declared.event.Event.{Event}
 use Rattle.row_words.specs.declared.given.Given.{Given}
-use Rattle.row_words.specs.Moments.{Moment, by}
+use Rattle.row_words.specs.Moments.{Moment}
 use Rattle.row_words.specs.Sealed.{begun, Shown, heard}
 use Rattle.rows_trait.specs.Layout.{Sizes, rows_of, width, cell, count_of, control_at, size_of}
 use Rattle.rows_trait.specs.declared.view.Act.{Act}
 use Rattle.rows_trait.specs.declared.view.Hold.{Hold}
 use Rattle.rows_trait.specs.declared.view.View.{View}
-use Rattle.rows_trait.specs.Views.{IsEven, after_all, Spells, Has, Since, IsStill, Knows, latest, AreLow, holds, held_at, AreApart, AreBelow, Ends, AreTame}
+use Rattle.rows_trait.specs.Views.{IsEven, after_all, Spells, Has, Since, IsStill, Knows, latest, AreLow, holds, held_at, AreApart, AreBelow, Ends, IsPart, AreTame}
 
 -- how many rows there are, and where they began
 pub record Plan : Type 0 where
@@ -69,12 +69,12 @@ pub record Keeps (k : Plan) (happened : List Event) (words : List ℕ) (views : 
   pub actors : (i j : ℕ) (u v : View) → get_elem? views i ≡ some u → get_elem? views j ≡ some v → u.live ≡ true → v.live ≡ true → u.actor ≡ v.actor → i ≡ j
   pub owners : (i j : ℕ) (u v : View) → get_elem? views i ≡ some u → get_elem? views j ≡ some v → u.live ≡ true → v.live ≡ true
       → (row : ℕ) → holds u.held row ≡ true → holds v.held row ≡ true → i ≡ j
-  -- at most one seat makes others, and knows a number above all actors
+  -- at most one seat makes others, with numbers that no event has that it has not seen
   pub makers : (i j : ℕ) (u v : View) → get_elem? views i ≡ some u → get_elem? views j ≡ some v → u.live ≡ true → v.live ≡ true → 0 < u.made → (v.actor < u.made) × (0 < v.made → i ≡ j)
-  pub below : (i : ℕ) (u : View) → get_elem? views i ≡ some u → u.live ≡ true → 0 < u.made → AreBelow u.made happened
-  -- it knows all events of the seats that have ended
-  pub ended : (i : ℕ) (u : View) → get_elem? views i ≡ some u → u.live ≡ true → (a : ℕ) (own : List Event) → Ends a own u.ended
-      → (a < u.made) × (own ≡ by a happened) × ((j : ℕ) (v : View) → get_elem? views j ≡ some v → v.live ≡ true → v.actor ≢ a)
+  pub below : (i : ℕ) (u : View) → get_elem? views i ≡ some u → u.live ≡ true → 0 < u.made → (rest : List Event) → happened ≡ u.seen ++ rest → AreBelow u.made rest
+  -- what a seat that has ended had seen is a beginning, and no event behind it is of its actor
+  pub ended : (i : ℕ) (u : View) → get_elem? views i ≡ some u → u.live ≡ true → (a : ℕ) (seen : List Event) → Ends a seen u.ended
+      → (a < u.made) × IsPart a seen happened × ((j : ℕ) (v : View) → get_elem? views j ≡ some v → v.live ≡ true → v.actor ≢ a)
   -- a latched row is held
   pub latched : (row : ℕ) → row < rows_of k.sizes → IsEven (cell k.sizes words row 0 + 1)
       → (j : ℕ) × (v : View) × (get_elem? views j ≡ some v) × (v.live ≡ true) × (holds v.held row ≡ true)

@@ -3,7 +3,7 @@ use Rattle.std.specs.Prelude.{◌≡◌, ◌≢◌, ℕ, ◌+◌, ◌*◌, ◌%�
 use Rattle.atomic_table.specs.Seated.{TableId}
 use Rattle.row_words.specs.declared.event.Event.{Event}
 use Rattle.row_words.specs.declared.given.Given.{Given}
-use Rattle.row_words.specs.Moments.{Moment, actor_of, is_rising, is_sync}
+use Rattle.row_words.specs.Moments.{Moment, actor_of, by, is_rising, is_sync}
 use Rattle.row_words.specs.Sealed.{begun, stepped, run, Shown, changes, sets, IsTame}
 use Rattle.rows_trait.specs.Layout.{Sizes}
 use Rattle.rows_trait.specs.declared.view.Act.{Act}
@@ -193,10 +193,16 @@ abbrev pub AreBelow : ℕ → List Event → Type 0
 AreBelow m [] = Unit {0}
 AreBelow m (e ∷ es) = (actor_of e < m) × AreBelow m es
 
--- the seat of this actor has ended, with these events
+-- the seat of this actor has ended, when it had seen these events
 abbrev pub Ends : ℕ → List Event → List Ended → Type 0
-Ends a own [] = ⊥
-Ends a own (x ∷ xs) = ((x.actor ≡ a) × (x.own ≡ own)) ⊎ Ends a own xs
+Ends a seen [] = ⊥
+Ends a seen (x ∷ xs) = ((x.actor ≡ a) × (x.seen ≡ seen)) ⊎ Ends a seen xs
+
+-- all of them begin with these, and none of the rest is of this actor
+pub record IsPart (a : ℕ) (seen all : List Event) : Type 0 where
+  pub rest : List Event
+  pub whole : all ≡ seen ++ rest
+  pub others : by a rest ≡ []
 
 -- the view of plain rows' seat at the beginning
 abbrev pub first_plain : Given → View

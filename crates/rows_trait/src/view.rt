@@ -32,10 +32,10 @@ pub struct Hold {
     pub done: bool,
 }
 
-/// A seat that has ended: its actor, and all its events.
+/// A seat that has ended: its actor, and what it had seen.
 pub struct Ended {
     pub actor: u32,
-    pub own: LinkedList<Event>,
+    pub seen: LinkedList<Event>,
 }
 
 /// The view of a seat.
