@@ -10,6 +10,9 @@ use Rattle.row_room.specs.row_changes.Dels.{Dels}
 use Rattle.row_room.specs.row_changes.Puts.{works_behind}
 use Rattle.row_room.specs.row_changes.declared.ways.Unmade.{Unmade}
 use Rattle.row_room.specs.row_changes.declared.ways.Unmade.TheVariants as unmade
+use Rattle.row_walks.specs.AtOnce.{DelsAtOnce}
+use Rattle.row_walks.specs.declared.at_once.AtOnce.{AtOnce}
+use Rattle.row_walks.specs.declared.at_once.AtOnce.TheVariants as at_once
 use Rattle.paged_desks.specs.row_words.declared.event.Event.TheVariants as told
 use Rattle.paged_desks.specs.session_desks.Parts.{SeatFits, shape}
 use Rattle.paged_desks.proofs.session_state.OtherLemmas.{is_own, no_steps, one_step}
@@ -45,3 +48,13 @@ module _ {D : Type 0} (story : D → Story) (law : EveryOther) (standing : Every
   del_ready key (Err (unmade.Unserved _)) w d = absurd d
   del_ready key (Err (unmade.Cold cold)) w d = still d.1 d.0.given d.0.seen
   del_ready key (Err unmade.Lost) w d = absurd d
+
+  -- and of one at once
+  pub at_once_ready : (key : ℕ) (r : Result AtOnce Unmade) → works_behind r ≡ true → DelsAtOnce r key (view_of m) (view_of n) m.machine.work.session m.machine.work.log n.machine.work.log (story m.machine.work.disk) (story n.machine.work.disk) (n.machine.work ≡ m.machine.work) (n.machine.work.disk ≡ m.machine.work.disk) → IsReady story n
+  at_once_ready key (Ok (at_once.Done was)) w d = del_ready key (Ok was) w d.1
+  at_once_ready key (Ok at_once.MayBeThin) w d = still d.unchanged d.given d.seen
+  at_once_ready key (Err (unmade.Unserved (unserved.Refused refusal.RowSpent))) w d = still d.1 d.0.given d.0.seen
+  at_once_ready key (Err (unmade.Unserved (unserved.Unanswered unanswered.DiskFault))) w d = absurd (true≢false (sym w))
+  at_once_ready key (Err (unmade.Unserved _)) w d = absurd d
+  at_once_ready key (Err (unmade.Cold cold)) w d = still d.1 d.0.given d.0.seen
+  at_once_ready key (Err unmade.Lost) w d = absurd d

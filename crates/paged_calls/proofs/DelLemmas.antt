@@ -44,7 +44,6 @@ use Rattle.paged_desks.proofs.EndingLemmas.{Grounds}
 use Rattle.paged_calls.proofs.PieceLemmas.{none_part}
 use Rattle.paged_desks.proofs.StandLemmas.{halves_are}
 use Rattle.paged_desks.specs.core_paging.Paging.{EveryResidence}
-use Rattle.paged_desks.specs.core_state.States.{State}
 use Rattle.paged_desks.specs.call_parts.Deeds.{Fails}
 use Rattle.row_walks.specs.declared.steps.At.{At}
 use Rattle.row_walks.specs.declared.steps.At.TheVariants as begun

@@ -1,5 +1,5 @@
 -- A put behind the taking of its row, in one run to which its machine is tied: pages came and room was made, and then it ended so.
-use Rattle.std.proofs.Common.{◌≡◌, ◌∙◌, ◌⊎◌, inl, inr, ◌≤◌, ◌<◌, ◌+◌, ◌^◌, ◌%◌, ◌==◌, ◌&&◌, ◌||◌, ◌++◌, not, ℕ, suc, Bool, true, false, cond, leb, List, [], ◌∷◌, length, Option, Some, None, ap, refl, sym, subst, arith, append-nil, true≢false}
+use Rattle.std.proofs.Common.{◌≡◌, ◌∙◌, inl, inr, ◌≤◌, ◌<◌, ◌+◌, ◌^◌, ◌%◌, ◌==◌, ◌&&◌, ◌||◌, ◌++◌, not, ℕ, suc, Bool, true, false, cond, leb, List, [], ◌∷◌, length, Option, Some, None, ap, refl, sym, subst, arith, append-nil, true≢false}
 use Rattle.std.proofs.lemmas.Bool.{eq-eqb, le-leb, lt-leb}
 use Rattle.std.proofs.lemmas.List.{length-append}
 use Rattle.map_model.specs.Lists.{all, any, keep}

@@ -17,7 +17,6 @@ use Rattle.page_model.specs.Nodes.{Node, is_leaf}
 use Rattle.page_model.specs.Pairs.{Pair, find, is_in, keep}
 use Rattle.page_model.specs.Redo.{all_keys}
 use Rattle.paged_desks.proofs.page_provider.Fetched.{buts_fetched}
-use Rattle.paged_desks.proofs.page_provider.Kept.{but_none}
 use Rattle.paged_desks.specs.row_words.declared.event.Event.{Event}
 use Rattle.paged_desks.specs.row_words.Moments.{event_of, events_of}
 use Rattle.paged_desks.specs.call_parts.Deeds.{is_fetch}

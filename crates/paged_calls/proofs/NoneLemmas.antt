@@ -2,7 +2,7 @@
 use Rattle.std.proofs.Common.{◌≡◌, ◌∙◌, ◌⊎◌, inl, inr, ◌<◌, ◌&&◌, ◌||◌, ◌==◌, leb, ℕ, Bool, true, false, cond, List, [], ◌∷◌, length, Some, ap, refl, sym, subst, arith, true≢false}
 use Rattle.std.proofs.lemmas.Bool.{and_from, and_parts}
 use Rattle.map_model.proofs.ListLemmas.{at_upd}
-use Rattle.map_model.specs.Lists.{all, any, upd}
+use Rattle.map_model.specs.Lists.{all, any}
 use Rattle.paged_desks.specs.core_paging.Paging.{Residence}
 use Rattle.paged_desks.specs.core_state.Events as happening
 use Rattle.paged_desks.specs.core_state.Lists.{is_empty}

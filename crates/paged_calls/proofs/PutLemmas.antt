@@ -1,5 +1,5 @@
 -- A put, in each run to which its machine is tied.
-use Rattle.std.proofs.Common.{◌≡◌, ◌∙◌, inl, inr, ◌≤◌, ◌<◌, ◌+◌, ◌^◌, ◌%◌, ℕ, true, false, List, ◌∷◌, Option, Some, None, Result, Ok, Err, length, ap, refl, sym, subst, arith, true≢false}
+use Rattle.std.proofs.Common.{◌≡◌, ◌∙◌, inl, inr, ◌≤◌, ◌<◌, ◌+◌, ◌^◌, ◌%◌, ℕ, true, false, List, ◌∷◌, Option, Some, None, Result, Ok, Err, length, ap, refl, sym, subst, arith}
 use Rattle.map_model.specs.declared.call.Answer.{Answer}
 use Rattle.map_model.specs.declared.call.Answer.TheVariants as answer
 use Rattle.map_model.specs.declared.call.Call.TheVariants as call
@@ -31,7 +31,6 @@ use Rattle.paged_desks.specs.session_desks.declared.desk.Desk.{Desk}
 use Rattle.paged_desks.proofs.session_state.ServingLemmas.{refused_not}
 use Rattle.paged_desks.specs.session_state.Staging.{KeepsLog}
 use Rattle.paged_desks.specs.session_state.declared.session.Session.{Session}
-use Rattle.paged_desks.specs.worker_log.Logs.{Log}
 use Rattle.paged_desks.specs.call_parts.Deeds.{Fails}
 use Rattle.paged_desks.proofs.Doing.{hot_few}
 use Rattle.paged_desks.proofs.EndingLemmas.{Grounds}

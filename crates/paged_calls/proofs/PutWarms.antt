@@ -40,7 +40,7 @@ use Rattle.paged_desks.specs.row_words.Moments.{Moment, events_of}
 use Rattle.paged_desks.specs.row_words.Sealed.{begun}
 use Rattle.paged_desks.specs.row_words.Openings.{opening}
 use Rattle.paged_desks.specs.rows_trait.declared.view.View.{View}
-use Rattle.paged_desks.specs.rows_trait.Views.{after_all, state}
+use Rattle.paged_desks.specs.rows_trait.Views.{state}
 use Rattle.paged_desks.proofs.session_desks.SeatLemmas.{holds_of}
 use Rattle.paged_desks.specs.session_desks.Parts.{SeatFits, here, shape}
 use Rattle.paged_desks.proofs.session_state.Moments.{seen_state}
@@ -69,12 +69,11 @@ use Rattle.paged_desks.specs.declared.warming.Unwarmed.TheVariants as stopped
 use Rattle.paged_calls.specs.Changes.{MayStill}
 use Rattle.paged_calls.specs.Growths.{AreLike, HasMade, IsGoing, MayPut}
 use Rattle.paged_calls.specs.Rounds.{GoesOnWarm, HasPut, IsPutCrowded, IsWanted, Rounds, most_a_round, most_behind_wish, round_of}
-use Rattle.paged_calls.specs.Steps.{IsStill}
 use Rattle.paged_calls.specs.declared.growing.Round.{Round}
 use Rattle.paged_calls.specs.declared.growing.Round.TheVariants as round
 use Rattle.paged_calls.proofs.ChangeStands.{ready_changed}
 use Rattle.paged_calls.proofs.ChangeSteps.{beside_of}
-use Rattle.paged_calls.proofs.ChangeWarms.{still_cold, still_self}
+use Rattle.paged_calls.proofs.ChangeWarms.{still_self}
 use Rattle.paged_calls.proofs.EventLemmas.{paging_structure}
 use Rattle.paged_calls.proofs.GrowthStands.{IsMissed, made_grown, made_missed, missed_core, missed_kept, missed_spent, ready_grown, ready_missed}
 use Rattle.paged_calls.proofs.LikeLemmas.{run_came}

@@ -1,5 +1,5 @@
 -- A machine stands while the session whose turn it is enters a record: a change, or a change of the tree.
-use Rattle.std.proofs.Common.{◌≡◌, ◌∙◌, ◌≤◌, ◌<◌, ◌+◌, ◌==◌, ◌||◌, ◌++◌, ◌^◌, ◌⊎◌, inl, inr, ℕ, suc, true, false, IsTrue, List, [], ◌∷◌, Global, Vec, Option, length, ap, refl, sym, subst, arith, true≢false}
+use Rattle.std.proofs.Common.{◌≡◌, ◌∙◌, ◌≤◌, ◌<◌, ◌+◌, ◌==◌, ◌||◌, ◌^◌, ◌⊎◌, inl, inr, ℕ, suc, true, false, IsTrue, List, [], ◌∷◌, Global, Vec, Option, length, ap, refl, sym, subst, arith, true≢false}
 use Rattle.std.proofs.lemmas.Bool.{and_parts, cases_eq, cases_lt, cond-false, ne_eqb}
 use Rattle.map_model.specs.Lists.{Has}
 use Rattle.paged_desks.specs.core_paging.Paging.{Waiting}

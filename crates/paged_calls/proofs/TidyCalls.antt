@@ -1,5 +1,5 @@
 -- Steps of a tidying: faults, and from which level a round begins.
-use Rattle.std.proofs.Common.{◌≡◌, ◌≤◌, ◌<◌, ℕ, Result, Ok, Err, refl, sym, subst, arith}
+use Rattle.std.proofs.Common.{◌≡◌, ℕ, Result, Ok, Err, sym, subst, arith}
 use Rattle.paged_desks.specs.engine_trait.declared.unserved.Unanswered.TheVariants as unanswered
 use Rattle.paged_desks.specs.engine_trait.declared.unserved.Unserved.{Unserved}
 use Rattle.paged_desks.specs.engine_trait.declared.unserved.Unserved.TheVariants as unserved
@@ -34,6 +34,16 @@ cause_step B before now why h = cause_as before now _ _ to from h
 -- what was done is no fault
 pub never_fault : (step : Tidied) → ◌≡◌ {A = Result Tidied Unmade} (Ok step) (Err (unmade.Unserved (unserved.Unanswered unanswered.DiskFault))) → ⊥
 never_fault step e = cc
+
+-- a try that was made met no fault
+pub ok_try : (A B : Type 0) (before now : ℕ) (a : A) (b : B) → HasCause before now (◌≡◌ {A = Result A Unmade} (Ok a) (Err (unmade.Unserved (unserved.Unanswered unanswered.DiskFault)))) → HasCause before now (◌≡◌ {A = Result B Unserved} (Ok b) (Err (unserved.Unanswered unanswered.DiskFault)))
+ok_try A B before now a b h = cause_as before now _ _ (λ e. absurd (first e)) (λ e. absurd (second e)) h
+  where
+    first : ◌≡◌ {A = Result A Unmade} (Ok a) (Err (unmade.Unserved (unserved.Unanswered unanswered.DiskFault))) → ⊥
+    first e = cc
+
+    second : ◌≡◌ {A = Result B Unserved} (Ok b) (Err (unserved.Unanswered unanswered.DiskFault)) → ⊥
+    second e = cc
 
 pub ok_step : (B : Type 0) (before now : ℕ) (step : Tidied) (b : B) → HasCause before now (◌≡◌ {A = Result Tidied Unmade} (Ok step) (Err (unmade.Unserved (unserved.Unanswered unanswered.DiskFault)))) → HasCause before now (◌≡◌ {A = Result B Unserved} (Ok b) (Err (unserved.Unanswered unanswered.DiskFault)))
 ok_step B before now step b h = cause_as before now _ _ (λ e. absurd (never_fault step e)) (λ e. absurd (never e)) h

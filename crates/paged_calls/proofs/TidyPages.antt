@@ -1,5 +1,5 @@
 -- The pages of a tidying: which neighbour a level wants; and that a level that is passed is so still behind the coming of a neighbour of a higher one, and wants none itself.
-use Rattle.std.proofs.Common.{◌≡◌, ◌∙◌, ◌⊎◌, inl, inr, ◌≤◌, ◌<◌, ◌+◌, ◌&&◌, ◌||◌, ◌==◌, not, leb, ltb, ℕ, zero, suc, Bool, true, false, cond, List, [], ◌∷◌, length, Option, Some, None, ap, refl, sym, subst, arith, true≢false}
+use Rattle.std.proofs.Common.{◌≡◌, ◌∙◌, ◌⊎◌, inl, inr, ◌<◌, ◌+◌, ◌&&◌, ◌||◌, ◌==◌, not, leb, ltb, ℕ, zero, suc, Bool, true, false, cond, List, [], ◌∷◌, length, Option, Some, None, ap, refl, sym, subst, arith, true≢false}
 use Rattle.std.proofs.lemmas.Bool.{and_from, and_parts, eq-eqb, eqb-true, lt-ltb}
 use Rattle.map_model.specs.Lists.{any}
 use Rattle.page_model.specs.Check.{is_nil, names_page}
@@ -11,7 +11,7 @@ use Rattle.paged_desks.specs.core_state.Events as happening
 use Rattle.paged_desks.specs.core_state.Openings.{Opening}
 use Rattle.paged_desks.specs.core_state.States.{State, is_hot, nodes_of}
 use Rattle.paged_desks.specs.session_state.tidy_rules.Tidying.{Sisters, is_thin, join_of, join_under, page_among, page_at, sisters, thin_most}
-use Rattle.row_walks.specs.Stages.{IsNeighbour, IsPassed, level_of}
+use Rattle.row_walks.specs.Stages.{IsNeighbour, IsPassed}
 use Rattle.row_walks.specs.declared.steps.At.{At}
 use Rattle.paged_calls.specs.Growths.{AreLike}
 

@@ -1,5 +1,5 @@
 -- The rules of a tidying: what changes neither the tree nor a value, one list of events behind another, and what is next by the sizes of an opening.
-use Rattle.std.proofs.Common.{◌≡◌, ◌∙◌, ◌≤◌, ◌+◌, ◌-◌, ◌&&◌, ◌||◌, ◌==◌, ◌++◌, not, leb, ℕ, zero, suc, Bool, true, false, cond, List, [], ◌∷◌, length, Option, Some, None, ap, refl, sym, subst, true≢false}
+use Rattle.std.proofs.Common.{◌≡◌, ◌∙◌, ◌+◌, ◌-◌, ◌&&◌, ◌||◌, ◌==◌, ◌++◌, not, leb, ℕ, zero, suc, Bool, true, false, cond, List, [], ◌∷◌, length, Option, Some, None, ap, refl, sym, subst, true≢false}
 use Rattle.map_model.specs.Lists.{any}
 use Rattle.page_model.specs.Nodes.{Format}
 use Rattle.page_model.specs.Redo.{is_some}
@@ -9,7 +9,6 @@ use Rattle.paged_desks.specs.core_state.Needs.{value_in}
 use Rattle.paged_desks.specs.core_state.Openings.{Opening}
 use Rattle.paged_desks.specs.core_state.States.{State, nodes_of}
 use Rattle.paged_desks.specs.core_state.Steps.{run, step}
-use Rattle.paged_desks.specs.session_state.tidy_rules.Purges.{purgeable}
 use Rattle.paged_desks.specs.session_state.tidy_rules.Tidying.{IsNextTidy, Sisters, Stage, Tidies, behind, first_of, is_thin, is_thin_leaf, join_of, join_under, next_drop, next_tidy, next_up, page_among, page_at, purge_or, purgeable_in, sisters, thin_most}
 use Rattle.paged_calls.specs.Tidyings.{IsTidyingTo, stage_behind}
 use Rattle.paged_calls.proofs.NoneLemmas.{purgeable_as}

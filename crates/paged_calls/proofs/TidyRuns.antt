@@ -30,7 +30,7 @@ use Rattle.paged_desks.specs.core_state.Steps.{AllMet, at_pages, state_after}
 use Rattle.paged_desks.specs.disk_image.Records.{entry_of}
 use Rattle.paged_desks.specs.disk_runs.Stands.{Stands}
 use Rattle.paged_desks.proofs.engine_calls.EntryLemmas.{every_entry}
-use Rattle.paged_desks.proofs.engine_calls.MarkLemmas.{any_append, keep_none}
+use Rattle.paged_desks.proofs.engine_calls.MarkLemmas.{keep_none}
 use Rattle.paged_desks.specs.engine_calls.Answers.{EveryAnswer}
 use Rattle.paged_desks.specs.engine_calls.Clauses.{EveryComing, IsNewLine}
 use Rattle.paged_desks.specs.engine_calls.Entries.{change_record}
@@ -467,9 +467,6 @@ module _ (l : Grounds) (residence : EveryResidence) (answers : EveryAnswer) (com
           where
             row_there : g.row_of key ≡ key % n.machine.work.session.held.count
             row_there = key_row l.reached l.needs g xs (lock ∷ moves) (shape n.machine) (view_of n) n.machine.work.session key b2 (holds_of (shape n.machine) (view_of n) (here n.machine) n.machine.desks.items now.sound.desks).rows
-
-        absent_structure : any is_structure (first ++ read ∷ []) ≡ false
-        absent_structure = any_append is_structure first (read ∷ []) no_structure refl
 
         absent_half : (w : ℕ) → 0 < w → w ≤ x.workers → (desk_of (here k.machine) k.machine.desks.items w).session.is_half_aborted ≡ (desk_of (here m.machine) m.machine.desks.items w).session.is_half_aborted
         absent_half w lo hi = halves_are story n k beside same.0 half_same w ∙ half_all w lo hi

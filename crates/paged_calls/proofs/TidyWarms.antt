@@ -30,6 +30,9 @@ use Rattle.row_room.specs.row_changes.declared.ways.Unmade.{Unmade}
 use Rattle.row_room.specs.row_changes.declared.ways.Unmade.TheVariants as unmade
 use Rattle.row_walks.specs.Stages.{IsNeighbour, IsPassed, MayShrink, left_of, level_of, stage_of}
 use Rattle.row_walks.specs.Steps.{IsQuietTo, IsShrinkBy, IsTidied, TidySteps}
+use Rattle.row_walks.specs.AtOnce.{DelsAtOnce, IsUndone}
+use Rattle.row_walks.specs.declared.at_once.AtOnce.{AtOnce}
+use Rattle.row_walks.specs.declared.at_once.AtOnce.TheVariants as at_once
 use Rattle.row_walks.specs.declared.steps.At.{At}
 use Rattle.row_walks.specs.declared.steps.At.TheVariants as reached
 use Rattle.row_walks.specs.declared.steps.Tidied.{Tidied}
@@ -155,9 +158,6 @@ module _ {D : Type 0} (story : D → Story) (key : ℕ) (here there : At) (m n :
 -- where nothing was seen but misses
 module _ {D : Type 0} (key : ℕ) (here : At) (m n : PagedMachine D) (q : IsMissed 61 (view_of m) (view_of n)) (e : n.machine.work ≡ m.machine.work) where
   -- what hangs on the core, the opening, the session and the log alone is so there
-  abbrev facts : Given × (State × Work D) → Type 0
-  facts k = MayDel key here n
-
   both : ◌≡◌ {A = Given × (State × Work D)} ((view_of n).given, ((state (view_of n)).core, n.machine.work)) ((view_of m).given, ((state (view_of m)).core, m.machine.work))
   both i = (q.given i, (missed_core 61 (view_of m) (view_of n) q i, e i))
 
@@ -327,6 +327,32 @@ module _ (l : Grounds) {D : Type 0} (story : D → Story) (lawful : (d : D) → 
   ends_then (unserved.Unanswered (unanswered.Damaged place)) e = (record { between = e.0.between; there = e.0.there; made = more e.0.there e.0.between e.0.made; failed = e.0.failed }, nowhere_back e.1)
   ends_then _ e = absurd e
 
+  pub dels_then : (r : Result (Option ℕ) Unserved) → Dels story key mid b r u n → Dels story key here (a + b) r m n
+  dels_then (Ok (Some before)) e = record {
+    between = e.between;
+    there = e.there;
+    made = more e.there e.between e.made;
+    tidy = e.tidy;
+    changed = subst (λ (w : ℕ). IsChanged w (view_of e.between) (view_of n) key TOMBSTONE (Some before) e.between.machine.work.log n.machine.work.log (story e.between.machine.work.disk) (story n.machine.work.disk)) d.turn e.changed;
+    ready = e.ready;
+    aside = e.aside;
+    session = e.session;
+    is_half_aborted = e.is_half_aborted;
+  }
+  dels_then (Ok None) e = record {
+    between = e.between;
+    there = e.there;
+    made = more e.there e.between e.made;
+    unchanged = e.unchanged;
+    read = subst (λ (w : ℕ). HasRead w (view_of e.between) (view_of n) key None) d.turn e.read;
+    ready = e.ready;
+    may = e.may;
+    beside = e.beside;
+    session = e.session;
+    is_half_aborted = e.is_half_aborted;
+  }
+  dels_then (Err why) e = ends_then why e
+
   pub all_then : HasTidiedAll story key mid b u n → HasTidiedAll story key here (a + b) m n
   all_then e = record { there = e.there; made = more e.there n e.made; goes = e.goes; tidy = e.tidy }
 
@@ -397,97 +423,108 @@ leaf_read own g s page key value met =
     let e = and_parts (ltb page g.format.pages) (holds n key) d.1 in
     (ltb-true page g.format.pages e.0, e.1)
 
-module _ (l : Grounds) {D : Type 0} (story : D → Story) (lawful : (d : D) → IsLawful (story d)) (key : ℕ) (here : At) (most : ℕ) (m u n : PagedMachine D) (t : HasTidiedAll story key here most m u) (ready : IsReady story u) (a : IsAside u n) (same : IsSameSession u.machine.work.session n.machine.work.session) where
+module _ (l : Grounds) {D : Type 0} (story : D → Story) (lawful : (d : D) → IsLawful (story d)) (key : ℕ) (here there : At) (most : ℕ) (m u n : PagedMachine D) (made : HasTidied story key here there most m u) (ready : IsReady story u) (a : IsAside u n) (same : IsSameSession u.machine.work.session n.machine.work.session) where
   abbrev HasDone : Result (Option ℕ) Unmade → Type 0
   HasDone r = Did r u.machine.work.session.own (view_of u) (view_of n) key u.machine.work.log n.machine.work.log (story u.machine.work.disk) (story n.machine.work.disk) (n.machine.work ≡ u.machine.work) (n.machine.work.disk ≡ u.machine.work.disk)
 
-  -- a key that was tidied for is there
-  unchanged : HasRead u.machine.work.session.own (view_of u) (view_of n) key None → stage_of t.there ≡ Stage.Before
-  unchanged r = elim t.goes.live [ inl b ↦ b | inr v ↦ absurd (lost v) ]
-    where
-      at : (r.page < (opening (view_of u).given).format.pages) × (holds (nodes_of (state (view_of u)).core r.page) key ≡ true)
-      at = leaf_read u.machine.work.session.own (opening (view_of u).given) (state (view_of u)).core r.page key None r.met
+  module _ (may : MayDel key there u) (live : IsLive key there u) (tidy : IsTidy key there u) where
+    -- a key that was tidied for is there
+    unchanged : HasRead u.machine.work.session.own (view_of u) (view_of n) key None → stage_of there ≡ Stage.Before
+    unchanged r = elim live [ inl b ↦ b | inr v ↦ absurd (lost v) ]
+      where
+        at : (r.page < (opening (view_of u).given).format.pages) × (holds (nodes_of (state (view_of u)).core r.page) key ≡ true)
+        at = leaf_read u.machine.work.session.own (opening (view_of u).given) (state (view_of u)).core r.page key None r.met
 
-      lost : HasValue key u → ⊥
-      lost v = true≢false (sym (v r.page at.0 at.1) ∙ ap is_some (sym r.told))
+        lost : HasValue key u → ⊥
+        lost v = true≢false (sym (v r.page at.0 at.1) ∙ ap is_some (sym r.told))
 
-  pub dels_ok : (was : Option ℕ) → n.machine.work.session.is_half_aborted ≡ u.machine.work.session.is_half_aborted → HasDone (Ok was) → Dels story key here most (Ok was) m n
-  dels_ok (Some before) half d = record {
-    between = u;
-    there = t.there;
-    made = t.made;
-    tidy = t.tidy;
-    changed = subst (λ (w : ℕ). IsChanged w (view_of u) (view_of n) key TOMBSTONE (Some before) u.machine.work.log n.machine.work.log (story u.machine.work.disk) (story n.machine.work.disk)) t.made.turn d;
-    ready = ready;
-    aside = a;
-    session = same;
-    is_half_aborted = half;
-  }
-  dels_ok None half d = record {
-    between = u;
-    there = t.there;
-    made = t.made;
-    unchanged = unchanged d.0;
-    read = subst (λ (w : ℕ). HasRead w (view_of u) (view_of n) key None) t.made.turn d.0;
-    ready = ready;
-    may = t.goes.may;
-    beside = beside_of u n a d.1 d.2;
-    session = same;
-    is_half_aborted = half;
-  }
+    pub dels_ok : (was : Option ℕ) → n.machine.work.session.is_half_aborted ≡ u.machine.work.session.is_half_aborted → HasDone (Ok was) → Dels story key here most (Ok was) m n
+    dels_ok (Some before) half d = record {
+      between = u;
+      there = there;
+      made = made;
+      tidy = tidy;
+      changed = subst (λ (w : ℕ). IsChanged w (view_of u) (view_of n) key TOMBSTONE (Some before) u.machine.work.log n.machine.work.log (story u.machine.work.disk) (story n.machine.work.disk)) made.turn d;
+      ready = ready;
+      aside = a;
+      session = same;
+      is_half_aborted = half;
+    }
+    dels_ok None half d = record {
+      between = u;
+      there = there;
+      made = made;
+      unchanged = unchanged d.0;
+      read = subst (λ (w : ℕ). HasRead w (view_of u) (view_of n) key None) made.turn d.0;
+      ready = ready;
+      may = may;
+      beside = beside_of u n a d.1 d.2;
+      session = same;
+      is_half_aborted = half;
+    }
 
   -- or refused
-  refused : (why : Unserved) → HasDone (Err (unmade.Unserved why)) → TidyEnds story key here most why m n
-  refused (unserved.Refused refusal.RowSpent) d = record {
-    there = t.there;
-    made = tidied_up story key here t.there (most + 0) most m n (omega arith) (tidied_then l story lawful key here t.there t.there most 0 m u n t.made (tidied_none l story lawful key t.there u n (still_cold story u n a d.0.given d.0.seen d.1)));
+  pub dels_refused : (why : Unserved) → HasDone (Err (unmade.Unserved why)) → TidyEnds story key here most why m n
+  dels_refused (unserved.Refused refusal.RowSpent) d = record {
+    there = there;
+    made = tidied_up story key here there (most + 0) most m n (omega arith) (tidied_then l story lawful key here there there most 0 m u n made (tidied_none l story lawful key there u n (still_cold story u n a d.0.given d.0.seen d.1)));
     spent = inl (inl d.0.many);
   }
-  refused (unserved.Unanswered unanswered.DiskFault) d = inl (record { between = u; there = t.there; made = t.made; keeps = subst (λ (w : ℕ). KeepsLog w u.machine.work.log (story u.machine.work.disk) (story n.machine.work.disk)) t.made.turn d })
-  refused _ d = absurd d
+  dels_refused (unserved.Unanswered unanswered.DiskFault) d = inl (record { between = u; there = there; made = made; keeps = subst (λ (w : ℕ). KeepsLog w u.machine.work.log (story u.machine.work.disk) (story n.machine.work.disk)) made.turn d })
+  dels_refused _ d = absurd d
 
   -- by the call's own answer
-  pub dels_by : (r : Result (Option ℕ) Unserved) → (works_behind (as_made r) ≡ true → n.machine.work.session.is_half_aborted ≡ u.machine.work.session.is_half_aborted) → HasDone (as_made r) → Dels story key here most r m n
-  dels_by (Ok was) half d = dels_ok was (half refl) d
-  dels_by (Err why) half d = refused why d
+  pub dels_by : MayDel key there u → IsLive key there u → IsTidy key there u → (r : Result (Option ℕ) Unserved) → (works_behind (as_made r) ≡ true → n.machine.work.session.is_half_aborted ≡ u.machine.work.session.is_half_aborted) → HasDone (as_made r) → Dels story key here most r m n
+  dels_by may live tidy (Ok was) half d = dels_ok may live tidy was (half refl) d
+  dels_by may live tidy (Err why) half d = dels_refused why d
 
--- ## A del, one behind the other
+-- ## At once
 
-pub dels_end : {D : Type 0} (story : D → Story) (key : ℕ) (here : At) (most : ℕ) (m n : PagedMachine D) (why : Unserved) → TidyEnds story key here most why m n → Dels story key here most (Err why) m n
-dels_end story key here most m n why d = d
+-- nothing was done
+pub undone_missed : {D : Type 0} (m n : PagedMachine D) (same : Type 0) → IsUndone (view_of m) (view_of n) same → (most : ℕ) → IsMissed most (view_of m) (view_of n)
+undone_missed m n same d most = record { misses = []; are_misses = tt; few = omega arith; given = d.given; seen = d.seen ∙ sym (append-nil (view_of m).seen) }
 
-module _ (l : Grounds) {D : Type 0} (story : D → Story) (lawful : (d : D) → IsLawful (story d)) (key : ℕ) (here : At) (a b : ℕ) (m u n : PagedMachine D) (d : HasTidied story key here here a m u) where
-  -- pages came first
-  pub dels_then : (r : Result (Option ℕ) Unserved) → Dels story key here b r u n → Dels story key here (a + b) r m n
-  dels_then (Ok (Some before)) e = record {
-    between = e.between;
-    there = e.there;
-    made = tidied_then l story lawful key here here e.there a b m u e.between d e.made;
-    tidy = e.tidy;
-    changed = subst (λ (w : ℕ). IsChanged w (view_of e.between) (view_of n) key TOMBSTONE (Some before) e.between.machine.work.log n.machine.work.log (story e.between.machine.work.disk) (story n.machine.work.disk)) d.turn e.changed;
-    ready = e.ready;
-    aside = e.aside;
-    session = e.session;
-    is_half_aborted = e.is_half_aborted;
-  }
-  dels_then (Ok None) e = record {
-    between = e.between;
-    there = e.there;
-    made = tidied_then l story lawful key here here e.there a b m u e.between d e.made;
-    unchanged = e.unchanged;
-    read = subst (λ (w : ℕ). HasRead w (view_of e.between) (view_of n) key None) d.turn e.read;
-    ready = e.ready;
-    may = e.may;
-    beside = e.beside;
-    session = e.session;
-    is_half_aborted = e.is_half_aborted;
-  }
-  dels_then (Err why) e = ends_then l story lawful key here here a b m u n d why e
+module _ (l : Grounds) {D : Type 0} (story : D → Story) (lawful : (d : D) → IsLawful (story d)) (key most : ℕ) (m n : PagedMachine D) (ready : IsReady story m) (a : IsAside m n) (same : IsSameSession m.machine.work.session n.machine.work.session) where
+  abbrev pub HasDoneAtOnce : Result AtOnce Unmade → Type 0
+  HasDoneAtOnce r = DelsAtOnce r key (view_of m) (view_of n) m.machine.work.session m.machine.work.log n.machine.work.log (story m.machine.work.disk) (story n.machine.work.disk) (n.machine.work ≡ m.machine.work) (n.machine.work.disk ≡ m.machine.work.disk)
 
-pub dels_up : {D : Type 0} (story : D → Story) (key : ℕ) (here : At) (a b : ℕ) (m n : PagedMachine D) → a ≤ b → (r : Result (Option ℕ) Unserved) → Dels story key here a r m n → Dels story key here b r m n
-dels_up story key here a b m n le (Ok (Some before)) e = record { between = e.between; there = e.there; made = tidied_up story key here e.there a b m e.between le e.made; tidy = e.tidy; changed = e.changed; ready = e.ready; aside = e.aside; session = e.session; is_half_aborted = e.is_half_aborted }
-dels_up story key here a b m n le (Ok None) e = record { between = e.between; there = e.there; made = tidied_up story key here e.there a b m e.between le e.made; unchanged = e.unchanged; read = e.read; ready = e.ready; may = e.may; beside = e.beside; session = e.session; is_half_aborted = e.is_half_aborted }
-dels_up story key here a b m n le (Err why) e = ends_up story key here a b m n le why e
+  none_yet : HasTidied story key reached.Before reached.Before most m m
+  none_yet = tidied_up story key reached.Before reached.Before 0 most m m (omega arith) (tidied_none l story lawful key reached.Before m m (still_self story m))
+
+  pub at_once_done : MayDel key reached.Before m → (was : Option ℕ) → n.machine.work.session.is_half_aborted ≡ m.machine.work.session.is_half_aborted → HasDoneAtOnce (Ok (at_once.Done was)) → Dels story key reached.Before most (Ok was) m n
+  at_once_done may was half d = dels_ok l story lawful key reached.Before reached.Before most m m n none_yet ready a same may (inl refl) d.0 was half d.1
+
+  -- as it came out
+  pub once_as : (t q : AtOnce) → t ≡ q → HasDoneAtOnce (Ok t) → HasDoneAtOnce (Ok q)
+  once_as t q e d = subst (λ (x : AtOnce). HasDoneAtOnce (Ok x)) e d
+
+  pub once_cold : (made : Unmade) (cold : Cold) → made ≡ unmade.Cold cold → HasDoneAtOnce (Err made) → HasMetCold key cold.page (view_of m) (view_of n) × (n.machine.work ≡ m.machine.work)
+  once_cold made cold is d = subst (λ (k : Unmade). HasDoneAtOnce (Err k)) is d
+
+  pub once_unserved : (made : Unmade) (why : Unserved) → made ≡ unmade.Unserved why → HasDoneAtOnce (Err made) → HasDoneAtOnce (Err (unmade.Unserved why))
+  once_unserved made why is d = subst (λ (k : Unmade). HasDoneAtOnce (Err k)) is d
+
+  -- nothing is put back
+  pub once_lost : (made : Unmade) → HasDoneAtOnce (Err made) → IsLost made → ⊥
+  once_lost unmade.Lost d is = absurd d
+  once_lost (unmade.Cold cold) d is = is
+  once_lost (unmade.Unserved why) d is = is
+
+  -- whether the machine works on
+  pub once_works : (why : Unserved) → HasDoneAtOnce (Err (unmade.Unserved why)) → works_behind {A = AtOnce} (Err (unmade.Unserved why)) ≡ is_working {A = Option ℕ} (Err why)
+  once_works (unserved.Refused refusal.RowSpent) d = refl
+  once_works (unserved.Unanswered unanswered.DiskFault) d = refl
+  once_works _ d = absurd d
+
+  pub once_works_on : (made : Unmade) (why : Unserved) → made ≡ unmade.Unserved why → HasDoneAtOnce (Err made) → works_behind {A = AtOnce} (Err made) ≡ is_working {A = Option ℕ} (Err why)
+  once_works_on made why is d = ap (λ (k : Unmade). works_behind {A = AtOnce} (Err k)) is ∙ once_works why (once_unserved made why is d)
+
+  -- behind nothing that was done
+  pub once_then : IsMissed 0 (view_of m) (view_of n) → n.machine.work ≡ m.machine.work → (k : PagedMachine D) (r : Result (Option ℕ) Unserved) → Dels story key reached.Before most r n k → Dels story key reached.Before most r m k
+  once_then q e k r d = subst (λ (b : ℕ). Dels story key reached.Before b r m k) (let same : 0 + most ≡ most = omega arith in same) (dels_then l story lawful key reached.Before reached.Before 0 most m n k (tidied_missed l story lawful key reached.Before 0 m n a q e) r d)
+
+  pub at_once_refused : (why : Unserved) → HasDoneAtOnce (Err (unmade.Unserved why)) → Dels story key reached.Before most (Err why) m n
+  at_once_refused why d = dels_refused l story lawful key reached.Before reached.Before most m m n none_yet ready a same why d
 
 -- ## A neighbour
 
@@ -509,9 +546,6 @@ module _ {D : Type 0} (story : D → Story) (key : ℕ) (here : At) (most : ℕ)
     row = (λ i. is_held_by ((rows_there i) (key % (ap (λ (x : Session). x.held.count) k.session) i)).holder ((ap (λ (x : Session). x.own) k.session) i)) ∙ f.row;
     within = subst (λ (q : Given). level_of here ≤ (opening q).format.levels) (sym p.given) f.within;
   }
-
-  pub own_come : n.machine.work.session.own ≡ m.machine.work.session.own
-  own_come = p.turn
 
   -- pages are as they were but for the entries of leaves
   like_come : AreLike (state (view_of m)).core (state (view_of n)).core

@@ -30,7 +30,6 @@ use Rattle.row_room.specs.row_changes.declared.ways.Unmade.{Unmade}
 use Rattle.row_room.specs.row_changes.declared.ways.Unmade.TheVariants as unmade
 use Rattle.row_walks.specs.Stages.{IsNeighbour, IsPassed, left_of, level_of, stage_of}
 use Rattle.row_walks.specs.declared.steps.At.{At}
-use Rattle.row_walks.specs.declared.steps.At.TheVariants as at
 use Rattle.row_walks.specs.declared.steps.Tidied.{Tidied}
 use Rattle.paged_desks.specs.Calls.{IsAside, IsBeside}
 use Rattle.paged_desks.specs.Machines.{IsReady, pages, view_of}

@@ -7,6 +7,7 @@ pub mod WayLemmas
 pub mod ReadLemmas
 pub mod PutLemmas
 pub mod DelLemmas
+pub mod SpotLemmas
 pub mod BackLemmas
 pub mod TakesLemmas
 pub mod TouchLemmas

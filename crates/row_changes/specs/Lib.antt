@@ -1,9 +1,10 @@
--- Read Takes, Ways and Reads; then Puts, with MayChange, what a change needs, and Dels, Paths, Outcomes and Backs.
+-- Read Takes, Ways and Reads; then Puts, with MayChange, what a change needs, and Dels, Spots, Paths, Outcomes and Backs.
 pub mod Takes
 pub mod Ways
 pub mod Reads
 pub mod Puts
 pub mod Dels
+pub mod Spots
 pub mod Paths
 pub mod Outcomes
 pub mod Backs

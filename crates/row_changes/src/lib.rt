@@ -15,7 +15,7 @@ mod ways;
 
 pub use backs::put_back;
 pub use clock::{CLOCK_END, clock_refusal};
-pub use dels::del_held;
+pub use dels::{del_at_spot, del_held, find_spot};
 pub use puts::{Tried, put_in_leaf};
 pub use reads::read_held;
 pub use taking::take_row;
@@ -23,7 +23,7 @@ pub use ways::{Cold, Unmade, unserved_of};
 
 // Passed on to the crates above.
 pub use session_state::{
-    DEEPEST, Following, FreePages, Locked, Mode, Path, Rows, Session, Stages, TOMBSTONE,
-    Unanswered, Unserved, Unstaged, Way, Work, WorkerLog, every_low, every_room, every_warm, next,
-    next_fits, reach,
+    DEEPEST, Following, FreePages, Locked, Mode, Path, Rows, Session, Spot, Stages, TOMBSTONE,
+    Unanswered, Unserved, Unstaged, Way, Work, WorkerLog, again, every_low, every_room, every_warm,
+    next, next_fits, reach,
 };

@@ -1,5 +1,5 @@
 -- One level of a key's way: which page it is, and beside which one it stands.
-use Rattle.std.proofs.Common.{◌≡◌, ◌≢◌, ◌⊎◌, inl, inr, ◌≤◌, ◌<◌, ◌+◌, ◌-◌, ◌==◌, ◌&&◌, ◌||◌, ℕ, zero, suc, Bool, true, false, cond, List, [], ◌∷◌, length, Option, Some, None, refl, sym, ap, ◌∙◌, subst, arith, true≢false, eq-eqb}
+use Rattle.std.proofs.Common.{◌≡◌, ◌≢◌, ◌⊎◌, inl, inr, ◌≤◌, ◌<◌, ◌+◌, ◌-◌, ◌==◌, ◌&&◌, ◌||◌, ℕ, zero, suc, Bool, true, false, cond, List, [], ◌∷◌, length, Some, None, refl, sym, ap, ◌∙◌, arith, eq-eqb}
 use Rattle.std.proofs.lemmas.Bool.{and_from, cases_eq, cond-true, cond-false, eqb-true, ne_eqb}
 use Rattle.page_model.specs.Check.{is_nil}
 use Rattle.page_model.specs.Nodes.{covers}
@@ -10,7 +10,7 @@ use Rattle.row_changes.specs.session_state.core_calls.Room.{EveryRoom}
 use Rattle.row_changes.specs.session_state.core_state.Events.{Event}
 use Rattle.row_changes.specs.session_state.core_state.Openings.{Opening}
 use Rattle.row_changes.specs.session_state.core_state.States.{State, nodes_of}
-use Rattle.row_tidying.specs.tidy_rules.Tidying.{Sisters, first_of, is_thin, join_under, next_drop, next_up, page_among, page_at, sisters}
+use Rattle.row_tidying.specs.tidy_rules.Tidying.{first_of, is_thin, join_under, next_drop, next_up, page_among, page_at, sisters}
 
 -- ## The page of a level
 

@@ -8,3 +8,4 @@ pub mod NextLemmas
 pub mod RootLemmas
 pub mod LeafLemmas
 pub mod StepLemmas
+pub mod ValueLemmas

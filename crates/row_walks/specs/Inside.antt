@@ -4,3 +4,4 @@ pub mod Levels
 pub mod Nexts
 pub mod Leaves
 pub mod Climbs
+pub mod Values

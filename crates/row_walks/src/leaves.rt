@@ -25,7 +25,7 @@ pub(crate) enum Leaf {
 }
 
 // Whether an entry has a value, and no tombstone.
-fn is_value(entry: Option<u64>) -> bool
+pub(crate) fn is_value(entry: Option<u64>) -> bool
     ensures { result ≡ is_value entry }
 {
     match entry {

@@ -13,6 +13,7 @@ pub mod StageLemmas
 pub mod SyncLemmas
 pub mod OpeningLemmas
 -- Passed on to the crates above.
+pub use Rattle.btree_descent.proofs as btree_descent
 pub use Rattle.btree_descent.proofs.btree_node as btree_node
 pub use Rattle.btree_descent.proofs.core_commit as core_commit
 pub use Rattle.btree_descent.proofs.core_state as core_state

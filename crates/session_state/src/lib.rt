@@ -27,10 +27,10 @@ pub use undo::{UndoList, Undone};
 pub use work::{Stages, Work};
 
 // Passed on to the crates above.
-pub use btree_descent::del::{Del, leaf_del};
-pub use btree_descent::descent::{Answer, TOMBSTONE, find};
+pub use btree_descent::del::{Del, del_at, leaf_del};
+pub use btree_descent::descent::{Answer, Stop, TOMBSTONE, again, find};
 pub use btree_descent::next::{Following, Locked, next};
-pub use btree_descent::put::{Put, leaf_put, leaf_put_back};
+pub use btree_descent::put::{Put, Spot, leaf_put, leaf_put_back, locate};
 pub use btree_descent::reach::{Way, reach};
 pub use btree_descent::{
     Body, BtreeNodeNode as Node, DEEPEST, Names, Nothing, PageRef, Path, PlainRows, Record, Rows,

@@ -1,4 +1,4 @@
-use Rattle.std.proofs.Common.{◌≡◌, ◌∙◌, ℕ, Option, Err, ap, refl, sym}
+use Rattle.std.proofs.Common.{◌∙◌, ℕ, Option, Err, ap, refl, sym}
 use Rattle.row_room.proofs.row_changes.StepLemmas.{clock_below, not_fault}
 use Rattle.paged_calls.proofs.ChangeTests.{test_broken, test_comes, test_works}
 use Rattle.paged_calls.proofs.ChangeWarms.{may_taken}

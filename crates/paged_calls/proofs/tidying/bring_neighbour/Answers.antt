@@ -1,12 +1,10 @@
-use Rattle.std.proofs.Common.{◌∙◌, ◌≡◌, inr, ℕ, Ok, Err, ap, refl, sym, subst, arith}
+use Rattle.std.proofs.Common.{◌∙◌, inr, Err, ap, refl, sym, subst}
 use Rattle.paged_desks.specs.core_calls.LogEvents.{IsTightAround, IsTightBeside}
 use Rattle.map_model.specs.declared.call.Refusal.{Refusal}
 use Rattle.paged_desks.specs.engine_trait.declared.unserved.Unserved.{Unserved}
 use Rattle.paged_desks.specs.engine_trait.declared.unserved.Unserved.TheVariants as unserved
 use Rattle.paged_desks.specs.core_state.States.{is_hot}
 use Rattle.paged_desks.specs.image_model.Entries.{Contents}
-use Rattle.paged_desks.specs.rows_trait.Views.{state}
-use Rattle.paged_desks.specs.Machines.{view_of}
 use Rattle.paged_desks.specs.Pages.{most_a_level}
 use Rattle.paged_desks.specs.declared.warming.Unwarmed.TheVariants as stopped
 use Rattle.row_room.proofs.row_changes.StepLemmas.{clock_at_end, clock_below, not_fault}

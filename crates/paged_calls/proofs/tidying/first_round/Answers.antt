@@ -1,4 +1,4 @@
-use Rattle.std.proofs.Common.{◌∙◌, ◌+◌, ◌*◌, inl, Option, Ok, Err, Some, None, ℕ, ap, refl, sym, subst, arith}
+use Rattle.std.proofs.Common.{◌∙◌, ◌+◌, ◌*◌, inl, Option, Ok, Err, Some, None, ap, refl, sym, subst, arith}
 use Rattle.row_room.specs.row_changes.Ways.{IsLost}
 use Rattle.row_walks.specs.declared.steps.At.{At}
 use Rattle.row_walks.specs.declared.steps.At.TheVariants as begun

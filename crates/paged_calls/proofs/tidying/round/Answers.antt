@@ -1,11 +1,11 @@
-use Rattle.std.proofs.Common.{◌∙◌, ◌+◌, ◌*◌, Option, Ok, Err, Some, None, ℕ, refl, sym, arith}
+use Rattle.std.proofs.Common.{◌∙◌, ◌+◌, ◌*◌, Option, Ok, Err, Some, None, refl, sym, arith}
 use Rattle.row_walks.specs.declared.steps.At.{At}
 use Rattle.row_walks.specs.declared.steps.Tidied.TheVariants as tidied
 use Rattle.paged_desks.proofs.EndingLemmas.{Grounds}
 use Rattle.paged_calls.specs.Tidyings.{most_a_neighbour, most_a_step, most_a_tidy_round}
 use Rattle.paged_calls.proofs.TidyCalls.{cause_step, never_fault, ok_step, passed_first}
 use Rattle.paged_calls.proofs.TidyLive.{live_tidied}
-use Rattle.paged_calls.proofs.TidyWarms.{HasStepped, changed_round, clean_round, refused_round, rounds_then, rounds_up, step_works, stepped_as, wished_round}
+use Rattle.paged_calls.proofs.TidyWarms.{changed_round, clean_round, refused_round, rounds_then, rounds_up, step_works, stepped_as, wished_round}
 use Rattle.paged_calls.proofs.WarmLemmas.{cause_at}
 use Rattle.paged_calls.proofs.tidying.round.Goals as goal
 

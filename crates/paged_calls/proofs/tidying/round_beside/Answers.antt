@@ -1,4 +1,4 @@
-use Rattle.std.proofs.Common.{◌∙◌, ◌+◌, ◌-◌, ◌*◌, Option, Ok, Err, Some, None, ℕ, ap, refl, sym, arith}
+use Rattle.std.proofs.Common.{◌∙◌, ◌+◌, ◌*◌, Option, Ok, Err, Some, None, ap, refl, sym, arith}
 use Rattle.row_walks.specs.declared.steps.At.{At}
 use Rattle.row_walks.specs.declared.steps.Tidied.TheVariants as tidied
 use Rattle.paged_desks.proofs.EndingLemmas.{Grounds}

@@ -1,7 +1,5 @@
-use Rattle.std.proofs.Common.{◌≡◌, Ok, Err, ℕ, ap, subst}
+use Rattle.std.proofs.Common.{Err, subst}
 use Rattle.row_room.specs.row_changes.declared.ways.Unmade.{Unmade}
-use Rattle.row_walks.specs.declared.steps.Tidied.{Tidied}
-use Rattle.row_walks.specs.declared.steps.Tidied.TheVariants as tidied
 use Rattle.paged_calls.proofs.TidyWarms.{HasStepped, none_lost, never_needs, same_needs}
 use Rattle.paged_calls.proofs.tidying.step_hot.Goals as goal
 

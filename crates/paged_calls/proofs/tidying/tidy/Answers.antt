@@ -1,4 +1,4 @@
-use Rattle.std.proofs.Common.{◌∙◌, ◌+◌, ◌*◌, Option, Ok, Err, Some, None, ℕ, refl, sym, arith}
+use Rattle.std.proofs.Common.{◌∙◌, ◌+◌, ◌*◌, Option, Some, None, refl, sym, arith}
 use Rattle.row_walks.specs.declared.steps.At.{At}
 use Rattle.row_walks.specs.declared.steps.At.TheVariants as begun
 use Rattle.paged_desks.specs.Machines.{view_of}

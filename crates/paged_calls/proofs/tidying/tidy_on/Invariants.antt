@@ -1,7 +1,6 @@
-use Rattle.std.proofs.Common.{◌≡◌, ◌≤◌, ◌<◌, ◌+◌, ◌*◌, ◌^◌, ℕ}
+use Rattle.std.proofs.Common.{◌≡◌, ◌≤◌, ◌+◌, ◌*◌, ℕ}
 use Rattle.row_walks.specs.Stages.{left_of}
-use Rattle.paged_desks.specs.Machines.{IsReady, pages, view_of}
-use Rattle.paged_desks.specs.paged_rows.Paged.{IsWarm}
+use Rattle.paged_desks.specs.Machines.{IsReady, view_of}
 use Rattle.paged_desks.specs.row_words.Openings.{opening}
 use Rattle.paged_calls.specs.Tidyings.{GoesOn, HasTidied, most_a_tidy_round}
 use Rattle.paged_calls.proofs.tidying.tidy_on.Given as goal
