@@ -10,7 +10,7 @@ ghost use Rattle.checkpointer.specs.Savers.{IsFound, KeepsRun, Looked, MaySave, 
 ghost use Rattle.checkpointer.specs.declared.saver.NotSaved.TheVariants as not_saved;
 
 use disk_runs::DiskFault;
-use lean_disk::Disk;
+use lean_disk::Part;
 
 /// A page that is not on the disk as it stands in its frame, and its number.
 #[derive(Clone, Copy, Debug, PartialEq, Eq)]
@@ -30,7 +30,8 @@ pub enum NotSaved {
 /// Rows with the pages in frames, and what is known of the pages' slots on the disk. Nobody else steps on the rows.
 ///
 /// Rows do not know in which run of the core they stand: each call speaks of every opening as which they may have begun.
-pub trait Saver<D: Disk> {
+/// The pages' area comes with a call: over a whole disk an impl's methods could call nothing that is generic over it.
+pub trait Saver<P: Part> {
     /// Its rows may have begun as this opening.
     ghost opens: { Self → Opening → Type 0 };
 
@@ -70,31 +71,35 @@ pub trait Saver<D: Disk> {
 
     /// Saves the dirty page of a frame to the slot that is not its firm one, with a sync of the pages before it if that one
     /// was written since the last.
-    fn save(&mut self, disk: &mut D, frame: u32) -> Result<(), NotSaved>
+    fn save(&mut self, dev: &mut P, frame: u32) -> Result<(), NotSaved>
         requires ready { ready self.old }
+        requires area { (P.seat dev.old).area ≡ 1 }
         requires frame { frame < frames_of self.old }
         requires dirty { (o : Opening) → opens self.old o → MaySave o (state_after o (front self.old)) frame }
         ensures ready { (result ≡ Err not_saved.DiskFault → ⊥) → ready self.new }
         ensures frames { frames_of self.new ≡ frames_of self.old }
         ensures opens { (o : Opening) → opens self.old o ↔ opens self.new o }
-        ensures saved { OnOk result ((o : Opening) → opens self.old o → Saves o (front self.old) (front self.new) frame (knows self.old) (knows self.new) (D.story disk.old) (D.story disk.new)) }
-        ensures stopped { result ≡ Err not_saved.RowSpent → (disk.new ≡ disk.old) × ((o : Opening) → opens self.old o → Stops o (front self.old) (front self.new) (knows self.old) (knows self.new) (D.story disk.old) (D.story disk.new)) }
-        ensures keeps { (o : Opening) → opens self.old o → KeepsRun o (front self.old) (knows self.old) (D.story disk.old) (D.story disk.new) }
+        ensures saved { OnOk result ((o : Opening) → opens self.old o → Saves o (front self.old) (front self.new) frame (knows self.old) (knows self.new) (P.story dev.old) (P.story dev.new)) }
+        ensures stopped { result ≡ Err not_saved.RowSpent → (dev.new ≡ dev.old) × ((o : Opening) → opens self.old o → Stops o (front self.old) (front self.new) (knows self.old) (knows self.new) (P.story dev.old) (P.story dev.new)) }
+        ensures keeps { (o : Opening) → opens self.old o → KeepsRun o (front self.old) (knows self.old) (P.story dev.old) (P.story dev.new) }
         ensures since { (base : Self) (n : ℕ) → since base n self.old → since base (n + 1) self.new }
-        ensures frame { Framed 1 (D.story disk.old) (D.story disk.new) }
+        ensures frame { Framed 1 (P.story dev.old) (P.story dev.new) }
+        ensures seat { P.seat dev.new ≡ P.seat dev.old }
 
         ensures cause_row_spent { result ≡ Err not_saved.RowSpent → spent self.new }
-        ensures cause_disk_fault { HasCause (D.faults disk.old) (D.faults disk.new) (result ≡ Err not_saved.DiskFault) };
+        ensures cause_disk_fault { HasCause (P.faults dev.old) (P.faults dev.new) (result ≡ Err not_saved.DiskFault) };
 
     /// Syncs the pages' area.
-    fn settle(&mut self, disk: &mut D) -> Result<(), DiskFault>
+    fn settle(&mut self, dev: &mut P) -> Result<(), DiskFault>
         requires ready { ready self.old }
+        requires area { (P.seat dev.old).area ≡ 1 }
         ensures ready { OnOk result (ready self.new) }
         ensures opens { (o : Opening) → opens self.old o ↔ opens self.new o }
-        ensures settled { OnOk result ((o : Opening) → opens self.old o → Settles o (front self.old) (front self.new) (knows self.old) (knows self.new) (D.story disk.old) (D.story disk.new)) }
-        ensures keeps { (o : Opening) → opens self.old o → KeepsRun o (front self.old) (knows self.old) (D.story disk.old) (D.story disk.new) }
+        ensures settled { OnOk result ((o : Opening) → opens self.old o → Settles o (front self.old) (front self.new) (knows self.old) (knows self.new) (P.story dev.old) (P.story dev.new)) }
+        ensures keeps { (o : Opening) → opens self.old o → KeepsRun o (front self.old) (knows self.old) (P.story dev.old) (P.story dev.new) }
         ensures since { (base : Self) (n : ℕ) → since base n self.old → since base n self.new }
-        ensures frame { Framed 1 (D.story disk.old) (D.story disk.new) }
+        ensures frame { Framed 1 (P.story dev.old) (P.story dev.new) }
+        ensures seat { P.seat dev.new ≡ P.seat dev.old }
 
-        ensures cause { HasCause (D.faults disk.old) (D.faults disk.new) (IsErr result) };
+        ensures cause { HasCause (P.faults dev.old) (P.faults dev.new) (IsErr result) };
 }

@@ -1,0 +1,4 @@
+pub mod FrameLemmas
+pub mod RunLemmas
+pub mod SaverLemmas
+pub mod PagerLemmas

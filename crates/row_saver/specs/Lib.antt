@@ -1,0 +1,4 @@
+-- Read Savers, then Laws. Inside has words of private functions.
+pub mod Savers
+pub mod Laws
+pub mod Inside
