@@ -1,0 +1,4 @@
+pub mod Finding
+pub mod Locking
+pub mod Looking
+pub mod Two

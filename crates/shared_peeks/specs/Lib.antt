@@ -1,0 +1,2 @@
+pub mod Peeked
+pub mod Locked
