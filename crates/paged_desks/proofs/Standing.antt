@@ -1,5 +1,6 @@
 -- A machine stands while pages move.
 use Rattle.std.proofs.Common.{◌≡◌, ◌∙◌, ◌≤◌, ◌↔◌, ℕ, zero, suc, if◌then◌else◌, Bool, true, false, List, [], ◌∷◌, length, ap, refl, sym, subst, arith}
+use Rattle.core_covers.specs.Firsts.{first_of}
 use Rattle.desk_parts.specs.core_calls.LogEvents.{behind}
 use Rattle.desk_parts.specs.core_calls.Room.{free_list, frees_from}
 use Rattle.desk_parts.specs.core_state.Needs.{holds_row}
@@ -47,6 +48,7 @@ module _ (z : Shape) (v u : View) (given : u.given ≡ v.given) (idle : u.held �
     idle = idle;
     rows = rows_on z v u x.own x.workers x.frames x.held.count given h.rows;
     session = subst (λ (t : State). IsOf x (t.worker x.own)) (sym r.is) h.session;
+    first = ap (λ (t : State). first_of t x.own) r.is ∙ h.first;
     numbers = h.numbers;
     flushed = ap (λ (t : State). t.flushed x.own) r.is ∙ h.flushed;
     floor = subst (λ (q : Given × State). x.clock.floor ≤ flushed_by_all (opening q.0) q.1) (λ i. (sym given i, sym r.is i)) h.floor;

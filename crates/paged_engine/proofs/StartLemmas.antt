@@ -25,6 +25,7 @@ use Rattle.paged_desks.specs.key_locks.Rows as locking
 use Rattle.paged_desks.specs.key_locks.Rows.{IsWorker}
 use Rattle.paged_desks.specs.key_locks.Soundness.{EverySound, unbegun}
 use Rattle.paged_desks.specs.worker_log.Logs.{Log}
+use Rattle.paged_desks.specs.core_covers.Firsts.{first_of}
 use Rattle.paged_desks.specs.session_state.Free.{nodes_in}
 use Rattle.paged_desks.specs.session_state.Holds.{AreNumbers, AreRows, Holds, IsOf}
 use Rattle.paged_desks.specs.session_state.Numbers.{AreNumbered}
@@ -73,7 +74,7 @@ as_few f (suc n) p = let ih = as_few f n (suc p) in go (f p).live ih
 
 -- what is so of a first session does not hang on its number
 pub first_too : (n : ℕ) (x : Session) (own : ℕ) (free : List ℕ) (few : own ≤ 16) → IsFirst n x → IsFirst n (record x { own = own; free = free; few = few })
-first_too n x own free few s = record { group = s.group; behind = s.behind; works = s.works; is_open = s.is_open; txn = s.txn; clock = s.clock; floor = s.floor; debt = s.debt; end = s.end; undo = s.undo; is_half_aborted = s.is_half_aborted; rows = s.rows }
+first_too n x own free few s = record { group = s.group; behind = s.behind; works = s.works; is_open = s.is_open; txn = s.txn; clock = s.clock; floor = s.floor; debt = s.debt; end = s.end; undo = s.undo; first = s.first; is_half_aborted = s.is_half_aborted; rows = s.rows }
 
 -- ## Where they begin
 
@@ -217,6 +218,7 @@ module _ (laws : Laws) (b : Begun) where
         idle = refl;
         rows = rows_are;
         session = at (λ (t : State). IsOf x (t.worker x.own)) of_start;
+        first = at (λ (t : State). first_of t x.own ≡ x.first) (sym s.first);
         numbers = numbers;
         flushed = at (λ (t : State). t.flushed x.own ≡ log.flushed) (base_is ∙ sym flushed);
         floor = floor;

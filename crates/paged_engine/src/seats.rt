@@ -58,6 +58,7 @@ fn first_session(
         end: master.floor,
         unflushed: 0,
         frames: size.frames,
+        first: None,
         undo: UndoList::new(alloc)?,
         held: HeldRows::new(alloc, size.rows)?,
         free,

@@ -35,6 +35,8 @@ use Rattle.session_state.specs.Staging.{Staging}
 use Rattle.session_state.specs.Undo.{HasRoomToUndo, newest_of, undo_of, without_newest}
 use Rattle.session_state.specs.declared.session.Session.{Session}
 use Rattle.session_state.specs.declared.undo.Undone.{Undone}
+use Rattle.session_state.specs.core_covers.Firsts.{first_of}
+use Rattle.session_state.proofs.FirstLemmas.{first_staged}
 use Rattle.session_state.proofs.HoldLemmas.{rows_on}
 use Rattle.row_changes.proofs.PutLemmas.{same_flushed}
 use Rattle.row_changes.proofs.SeenLemmas.{none_seen, seen_core}
@@ -194,7 +196,7 @@ module _ (rooms : EveryRoom) (z : Shape) (v w : View) (x : Session) (log : Log) 
     st = subst (λ (k : Session). Staging (Ok tt) k y rs now log log_now old new S f0 f1) (half_set x true few) staging
 
     abbrev next : Session
-    next = record x { is_half_aborted = true; clock = risen x.clock y.clock; undo = without_newest x.undo }
+    next = record x { is_half_aborted = true; clock = risen x.clock y.clock; first = y.first; undo = without_newest x.undo }
 
     entry_told : st.came.entry ≡ entry
     entry_told = let q : st.came.entry ∷ rs ≡ entry ∷ rs = sym st.came.told ∙ staged_is in cc
@@ -248,6 +250,7 @@ module _ (rooms : EveryRoom) (z : Shape) (v w : View) (x : Session) (log : Log) 
       idle = held;
       rows = rows_on z v w x.own x.workers x.frames x.held.count d.ran.given h.rows;
       session = subst (λ k. IsOf next (k.worker x.own)) (sym core_is) (subst (IsOf next) (sym worker_is) session_on);
+      first = ap (λ k. first_of k x.own) core_is ∙ first_staged s behind x y r h.session is_open h.first (ap (λ k. k.is_open) worker_is) (ap (λ k. k.txn) worker_is) refl refl refl refl (sym clock_is) st.first;
       numbers = numbers_on;
       flushed = ap (λ k. k.flushed x.own) core_is ∙ (h.flushed ∙ sym flushed_is);
       floor = subst (λ n. x.clock.floor ≤ n) (λ i. flushed_by_all (opening (sym d.ran.given i)) (sym core_is i)) h.floor;

@@ -23,17 +23,22 @@ use Rattle.row_changes.specs.Reads.{HasRead}
 use Rattle.row_changes.specs.Ways.{IsLost}
 use Rattle.row_changes.specs.declared.ways.Unmade.{Unmade}
 use Rattle.row_changes.specs.declared.ways.Unmade.TheVariants as unmade
-use Rattle.session_state.specs.Staging.{IsButClock}
+use Rattle.session_state.specs.Staging.{IsButClock, IsButStaged}
 use Rattle.session_state.specs.declared.session.Session.{Session}
+use Rattle.session_state.specs.core_covers.Firsts.{first_of}
+use Rattle.session_state.proofs.FirstLemmas.{first_read}
 use Rattle.session_state.proofs.HoldLemmas.{rows_on}
 use Rattle.session_state.proofs.Moments.{free_same}
 use Rattle.row_changes.proofs.SeenLemmas.{seen_core}
 
 -- ## The session
 
--- it stays the same by what it meets
+-- it stays the same by what it meets, and by what it stages
 pub same_by_clock : (x y : Session) → IsButClock x y → IsSameSession x y
 same_by_clock x y e = (ap (λ (k : Session). k.own) e, ap (λ (k : Session). k.workers) e, ap (λ (k : Session). k.group) e)
+
+pub same_by_staged : (x y : Session) → IsButStaged x y → IsSameSession x y
+same_by_staged x y e = (ap (λ (k : Session). k.own) e, ap (λ (k : Session). k.workers) e, ap (λ (k : Session). k.group) e)
 
 pub same_then : (x y z : Session) → IsSameSession x y → IsSameSession y z → IsSameSession x z
 same_then x y z p q = (q.0 ∙ p.0, q.1 ∙ p.1, q.2 ∙ p.2)
@@ -140,6 +145,7 @@ module _ (z : Shape) (v w : View) (x y : Session) (log : Log) (key : ℕ) (h : H
     idle = held;
     rows = rows_on z v w x.own x.workers x.frames x.held.count given_is h.rows;
     session = subst (λ k. IsOf next (k.worker x.own)) (sym core_is) (subst (IsOf next) (sym worker_is) session_on);
+    first = ap (λ k. first_of k x.own) core_is ∙ (first_read s (happens (opening v.given) s read) x.own _ (ap (λ k. k.is_open) worker_is) (ap (λ k. k.txn) worker_is) refl refl ∙ h.first);
     numbers = numbers_on;
     flushed = ap (λ k. k.flushed x.own) core_is ∙ h.flushed;
     floor = subst (λ n. x.clock.floor ≤ n) (λ i. flushed_by_all (opening (sym given_is i)) (sym core_is i)) h.floor;

@@ -40,6 +40,8 @@ use Rattle.session_state.specs.declared.session.Session.{Session}
 use Rattle.row_changes.proofs.TakeLemmas.{row_is}
 use Rattle.session_state.specs.Undo.{HasHand, HasRoomToStage}
 use Rattle.session_state.proofs.UndoLemmas.{hand_after, many_of, room_after, room_kept, room_to_end, room_to_undo}
+use Rattle.session_state.specs.core_covers.Firsts.{first_of}
+use Rattle.session_state.proofs.FirstLemmas.{first_staged}
 use Rattle.session_state.proofs.HoldLemmas.{rows_on}
 use Rattle.session_state.proofs.Moments.{free_same}
 use Rattle.row_changes.proofs.SeenLemmas.{none_seen, seen_core, still}
@@ -58,6 +60,7 @@ holds_still z v w x log given seen held h =
       idle = held;
       rows = rows_on z v w x.own x.workers x.frames x.held.count given h.rows;
       session = subst (λ s. IsOf x (s.worker x.own)) (sym core) h.session;
+      first = ap (λ s. first_of s x.own) core ∙ h.first;
       numbers = h.numbers;
       flushed = ap (λ s. s.flushed x.own) core ∙ h.flushed;
       floor = floor_same v w x.clock.floor given (ap (λ s. s.flushed) core) h.floor;
@@ -218,7 +221,7 @@ module _ {many : ℕ} (rooms : EveryRoom) (z : Shape) (v w : View) (x : Session)
 
   module _ (old new : Story) (S : Type 0) (f0 f1 : ℕ) (held : w.held ≡ []) (st : Staging (Ok tt) x y rs now log log_now old new S f0 f1) (last : log_now.last ≡ y.clock.clock) where
     abbrev u : Session
-    u = record x { clock = risen x.clock y.clock; undo = record { key = key; word = word_or (2 ^ 63) before } ∷ x.undo }
+    u = record x { clock = risen x.clock y.clock; first = y.first; undo = record { key = key; word = word_or (2 ^ 63) before } ∷ x.undo }
 
     flushed_is : log_now.flushed ≡ log.flushed
     flushed_is = same_flushed st.came.entry log log_now st.came.after
@@ -271,6 +274,7 @@ module _ {many : ℕ} (rooms : EveryRoom) (z : Shape) (v w : View) (x : Session)
       idle = held;
       rows = rows_on z v w x.own x.workers x.frames x.held.count d.ran.given h.rows;
       session = subst (λ k. IsOf u (k.worker x.own)) (sym core_is) (subst (λ k. IsOf u k) (sym worker_is) session_on);
+      first = ap (λ k. first_of k x.own) core_is ∙ first_staged s t x y r h.session f.is_open h.first (ap (λ k. k.is_open) worker_is) (ap (λ k. k.txn) worker_is) refl refl refl refl (sym (ap (λ c. c.clock) there)) st.first;
       numbers = numbers_on;
       flushed = ap (λ k. k.flushed x.own) core_is ∙ (h.flushed ∙ sym flushed_is);
       floor = floor_same v w x.clock.floor d.ran.given (ap (λ k. k.flushed) core_is) h.floor;

@@ -24,6 +24,8 @@ use Rattle.session_state.specs.flush_avoidance.Clocks.{after_touch}
 use Rattle.row_changes.specs.Reads.{HasRead}
 use Rattle.session_state.specs.Holds.{Holds, IsOf}
 use Rattle.session_state.specs.declared.session.Session.{Session}
+use Rattle.session_state.specs.core_covers.Firsts.{first_of}
+use Rattle.session_state.proofs.FirstLemmas.{first_read}
 use Rattle.session_state.proofs.HoldLemmas.{rows_on}
 use Rattle.session_state.proofs.Moments.{free_same, seen_state}
 use Rattle.row_changes.proofs.TakeLemmas.{numbers_on, row_is}
@@ -141,6 +143,7 @@ module _ (z : Shape) (v w : View) (x : Session) (log : Log) (h : Holds z v x log
     idle = held_is ∙ h.idle;
     rows = rows_on z v w x.own x.workers x.frames x.held.count read_given h.rows;
     session = subst (λ k. IsOf now (k.worker x.own)) (sym core_is) (subst (λ k. IsOf now k) (sym at_worker) now_of);
+    first = ap (λ k. first_of k x.own) core_is ∙ (first_read s (happens (opening v.given) s (happening.Event.Read x.own a.page key (pages.said found.word))) x.own _ (ap (λ k. k.is_open) at_worker) (ap (λ k. k.txn) at_worker) refl refl ∙ h.first);
     numbers = numbers_on x now log x.held refl (omega arith) h.numbers;
     flushed = ap (λ k. k.flushed x.own) core_is ∙ h.flushed;
     floor = subst (λ n. x.clock.floor ≤ n) (λ i. flushed_by_all (opening (sym read_given i)) (sym core_is i)) h.floor;

@@ -32,6 +32,8 @@ use Rattle.session_state.specs.Held.{Held, with_row}
 use Rattle.session_state.specs.Holds.{AreNumbers, AreRows, Holds, IsOf}
 use Rattle.row_changes.specs.Takes.{IsHindered, IsSpent, Takes}
 use Rattle.session_state.specs.declared.session.Session.{Session}
+use Rattle.session_state.specs.core_covers.Firsts.{first_of}
+use Rattle.session_state.proofs.FirstLemmas.{first_same}
 use Rattle.session_state.proofs.HoldLemmas.{rows_on}
 use Rattle.row_changes.proofs.ConflictLemmas.{blocking_hinders, lone_free}
 use Rattle.session_state.proofs.HeldLemmas.{reader_has}
@@ -180,6 +182,7 @@ holds_still z v w x log given seen held h = record {
   idle = held ∙ h.idle;
   rows = rows_on z v w x.own x.workers x.frames x.held.count given h.rows;
   session = subst (λ m. IsOf x (m.core.worker x.own)) (sym same) h.session;
+  first = ap (λ m. first_of m.core x.own) same ∙ h.first;
   numbers = h.numbers;
   flushed = ap (λ m. m.core.flushed x.own) same ∙ h.flushed;
   floor = subst (λ n. x.clock.floor ≤ n) (λ i. flushed_by_all (opening (sym given i)) (sym same i).core) h.floor;
@@ -262,6 +265,7 @@ module _ (z : Shape) (v w : View) (x : Session) (log : Log) (h : Holds z v x log
     idle = held_is ∙ h.idle;
     rows = subst (λ n. AreRows z w x.own x.workers x.frames n) (sym (with_count x.held row)) (rows_on z v w x.own x.workers x.frames x.held.count given h.rows);
     session = subst (λ k. IsOf y (k.worker x.own)) (sym core_is) (subst (λ b. IsOf y b) (sym at_worker) now_of);
+    first = ap (λ k. first_of k x.own) core_is ∙ (first_same s (happens (opening v.given) s (happening.Event.Lock x.own row m)) x.own (ap (λ k. k.is_open) at_worker) (ap (λ k. k.txn) at_worker) refl ∙ h.first);
     numbers = numbers_on x y log (with_row x.held row) refl (omega arith) h.numbers;
     flushed = ap (λ k. k.flushed x.own) core_is ∙ h.flushed;
     floor = subst (λ n. x.clock.floor ≤ n) (λ i. flushed_by_all (opening (sym given i)) (sym core_is i)) h.floor;

@@ -39,7 +39,7 @@ pub record IsPutBack (v w : View) (x y : Session) (was is : Log) (old new : Stor
   pub after : After entry was is
   pub stands : StagesOn x.own entry was is old new
   pub keeps : KeepsLog x.own was old new
-  pub session : y ≡ record x { is_half_aborted = true; clock = risen x.clock y.clock; undo = without_newest x.undo }
+  pub session : y ≡ record x { is_half_aborted = true; clock = risen x.clock y.clock; first = y.first; undo = without_newest x.undo }
   pub fewer : suc (length y.undo) ≡ length x.undo
 
 -- nothing was seen, and a page of the way of its key is not hot

@@ -34,10 +34,12 @@ use Rattle.row_ends.specs.Begins.{Begins, MayBegin}
 use Rattle.row_ends.specs.Flushed.{Looked, flushed_to}
 use Rattle.session_state.proofs.ServingLemmas.{refused_none, refused_was}
 use Rattle.session_state.specs.Holds.{Holds, IsOf}
+use Rattle.session_state.specs.core_covers.Firsts.{first_of}
 use Rattle.row_ends.specs.Tests.{begin_test}
 use Rattle.row_ends.specs.Begins.{begun_session}
 use Rattle.session_state.specs.Others.{Steps}
 use Rattle.session_state.specs.declared.session.Session.{Session}
+use Rattle.session_state.proofs.FirstLemmas.{first_begun}
 use Rattle.session_state.proofs.HoldLemmas.{rows_on}
 use Rattle.row_ends.proofs.FlushLemmas.{flushed_all, flushed_from, flushed_low}
 use Rattle.session_state.proofs.Moments.{acts, free_same, goes_seen, goes_state, met_core}
@@ -137,6 +139,7 @@ holds_still z v w x log given seen held h = record {
   idle = held ∙ h.idle;
   rows = rows_on z v w x.own x.workers x.frames x.held.count given h.rows;
   session = subst (λ m. IsOf x (m.core.worker x.own)) (sym same) h.session;
+  first = ap (λ m. first_of m.core x.own) same ∙ h.first;
   numbers = h.numbers;
   flushed = ap (λ m. m.core.flushed x.own) same ∙ h.flushed;
   floor = subst (λ n. x.clock.floor ≤ n) (λ i. flushed_by_all (opening (sym given i)) (sym same i).core) h.floor;
@@ -254,6 +257,9 @@ module _ (begins : controls.EveryBegin) (z : Shape) (v w : View) (x : Session) (
   at_worker : upd core_before.worker x.own (begun (core_before.worker x.own) all_flushed) x.own ≡ begun (core_before.worker x.own) all_flushed
   at_worker = ap (λ b. cond b (begun (core_before.worker x.own) all_flushed) (core_before.worker x.own)) (eq-eqb x.own x.own refl)
 
+  worker_is : (state w).core.worker x.own ≡ begun (core_before.worker x.own) all_flushed
+  worker_is = ap (λ k. k.worker x.own) core_is ∙ at_worker
+
   pub after_begin : Holds z w (begun_session x all_flushed) log
   after_begin = record {
     alone = h.alone;
@@ -268,6 +274,7 @@ module _ (begins : controls.EveryBegin) (z : Shape) (v w : View) (x : Session) (
       end = h.session.end;
       undo = refl;
     }));
+    first = first_begun core_before (state w).core x.own (λ r i. (h.rows.clocked v.seen r i).1) (ap (λ a. a.is_open) worker_is) (ap (λ a. a.txn) worker_is) (ap (λ k. k.entries) core_is);
     numbers = record {
       last = h.numbers.last;
       order = h.numbers.order;

@@ -28,9 +28,10 @@ use Rattle.session_state.specs.lean_proto.Controls.{CanEnd}
 use Rattle.row_ends.specs.Ends.{AreMine, Ended, Latched, Latching, MayEnd, MayFlush, end_of, gives, waiting_session}
 use Rattle.row_ends.specs.Flushed.{Looked, flushed_to}
 use Rattle.session_state.specs.Holds.{Holds, IsOf}
-use Rattle.session_state.specs.Numbers.{HaveRoom}
+use Rattle.session_state.specs.Numbers.{AreClocked, HaveRoom}
 use Rattle.session_state.specs.Undo.{HasHand}
 use Rattle.session_state.specs.declared.session.Session.{Session}
+use Rattle.session_state.proofs.FirstLemmas.{first_ended}
 use Rattle.session_state.proofs.HoldLemmas.{rows_on}
 use Rattle.row_ends.proofs.FlushLemmas.{behind_commit, flushed_all}
 use Rattle.session_state.proofs.WaitLemmas.{behind_flush, behind_more, behind_same, floor_flush}
@@ -221,7 +222,7 @@ module _ (z : Shape) (b : View) (x : Session) (log : Log) (h : Holds z b x log) 
       alone = h.alone;
       idle = held ∙ e.idle;
       rows = rows_on z b u x.own x.workers x.frames x.held.count (given ∙ e.given) h.rows;
-      session = subst (λ a. IsOf (waiting_session x number waiting) a) (sym (ap (λ k. k x.own) worker_u ∙ worker_w)) (record {
+      session = subst (λ a. IsOf (waiting_session x number waiting) a) (sym at_worker) (record {
         is_open = refl;
         txn = h.session.txn;
         clock = number_at;
@@ -230,6 +231,7 @@ module _ (z : Shape) (b : View) (x : Session) (log : Log) (h : Holds z b x log) 
         end = number_at;
         undo = refl;
       });
+      first = first_ended (state u).core x.own (ap (λ a. a.is_open) at_worker);
       numbers = record {
         last = omega arith;
         order = omega arith;
@@ -253,6 +255,9 @@ module _ (z : Shape) (b : View) (x : Session) (log : Log) (h : Holds z b x log) 
       free = free_same b u x.free (given ∙ e.given) (page_u ∙ page_w) h.free;
       spare = h.spare;
     }
+      where
+        at_worker : (state u).core.worker x.own ≡ finished (s0.worker x.own) (suc (s0.worker x.own).clock)
+        at_worker = ap (λ k. k x.own) worker_u ∙ worker_w
 
   -- where nothing was flushed
   pub after_end_holds : (is : Log) → HasHand is → is.flushed ≡ log.flushed → is.last ≡ number → cond commit (suc x.unflushed) x.unflushed < x.group → Holds z w (waiting_session x number (cond commit (suc x.unflushed) x.unflushed)) is
@@ -281,7 +286,7 @@ module _ (z : Shape) (b : View) (x : Session) (log : Log) (h : Holds z b x log) 
 
   -- no entry of its log is above that
   below : (r : Entry) → Has r (state w).core.entries → is_commit r.kind ≡ true → r.log ≡ x.own → r.number ≤ number
-  below r i is own_is = let q = subst (λ k. (es : List Event) (r : Entry) → Has r (after_all k es).core.entries → r.number ≤ ((after_all k es).core.worker r.log).clock) (sym e.given) h.rows.clocked w.seen r i in
+  below r i is own_is = let q = (subst (λ k. AreClocked k) (sym e.given) h.rows.clocked w.seen r i).0 in
       let c = ap (λ k. ((state w).core.worker k).clock) own_is ∙ clock_w in omega arith
 
   module _ (u : View) (given : u.given ≡ w.given) (seen : u.seen ≡ w.seen ++ Flush x.own number ∷ []) (held : u.held ≡ w.held) where

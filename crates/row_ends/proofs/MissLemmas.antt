@@ -13,6 +13,7 @@ use Rattle.session_state.specs.rows_trait.Views.{Shape, state}
 use Rattle.session_state.specs.key_locks.Latching.{is_marked}
 use Rattle.row_ends.specs.Ends.{AreAmong, AreMine, Missed}
 use Rattle.session_state.specs.Holds.{Holds, IsOf}
+use Rattle.session_state.specs.core_covers.Firsts.{first_of}
 use Rattle.session_state.specs.declared.session.Session.{Session}
 use Rattle.session_state.proofs.HoldLemmas.{rows_on}
 use Rattle.row_ends.proofs.LatchLemmas.{replicated}
@@ -43,6 +44,7 @@ holds_missed z y v w x log same m h = subst (λ k. Holds k w x log) (sym same) (
   idle = m.idle;
   rows = rows_on z v w x.own x.workers x.frames x.held.count m.given h.rows;
   session = subst (λ k. IsOf x (k.worker x.own)) (sym core_is) h.session;
+  first = ap (λ k. first_of k x.own) core_is ∙ h.first;
   numbers = h.numbers;
   flushed = ap (λ k. k.flushed x.own) core_is ∙ h.flushed;
   floor = subst (λ k. x.clock.floor ≤ flushed_by_all (opening k) (state w).core) (sym m.given) (subst (λ (k : State). x.clock.floor ≤ flushed_by_all (opening v.given) k) (sym core_is) h.floor);

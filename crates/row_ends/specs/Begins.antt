@@ -1,5 +1,5 @@
 -- A begin: where it may come, and what it did.
-use Rattle.std.specs.Prelude.{◌≡◌, ◌+◌, ◌<◌, ◌^◌, ℕ, suc, true, false, ◌++◌, [], ◌∷◌}
+use Rattle.std.specs.Prelude.{◌≡◌, ◌+◌, ◌<◌, ◌^◌, ℕ, suc, true, false, ◌++◌, [], ◌∷◌, None}
 use Rattle.session_state.specs.core_state.Events as happening
 use Rattle.session_state.specs.core_state.Needs.{may}
 use Rattle.session_state.specs.core_state.States.{flushed_by_all}
@@ -15,7 +15,7 @@ use Rattle.session_state.specs.declared.session.Session.{Session}
 
 -- a session after a begin that found its log flushed up to this number
 abbrev pub begun_session : Session → ℕ → Session
-begun_session x floor = record x { is_open = true; clock = after_begin x.clock floor; txn = x.txn + 1; undo = []; is_half_aborted = false }
+begun_session x floor = record x { is_open = true; clock = after_begin x.clock floor; txn = x.txn + 1; first = None; undo = []; is_half_aborted = false }
 
 -- No test refuses it: the engine works, no transaction is open, the clock has not come to its end, and blocks for changes are left.
 pub record MayBegin (x : Session) (log : Log) : Type 0 where

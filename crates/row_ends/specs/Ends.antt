@@ -1,5 +1,5 @@
 -- The end of a transaction: its lock rows are latched, its end is stored, the rows are given back, and its log is flushed.
-use Rattle.std.specs.Prelude.{◌≡◌, ◌⊎◌, ◌+◌, ◌≤◌, ◌<◌, ◌^◌, ℕ, Bool, true, false, List, [], ◌∷◌, ◌++◌, length, drop}
+use Rattle.std.specs.Prelude.{◌≡◌, ◌⊎◌, ◌+◌, ◌≤◌, ◌<◌, ◌^◌, ℕ, Bool, true, false, List, [], ◌∷◌, ◌++◌, length, drop, None}
 use Rattle.map_model.specs.Lists.{Has}
 use Rattle.session_state.specs.core_state.Needs.{holds_row, may}
 use Rattle.session_state.specs.core_state.Steps.{AllMet, run}
@@ -143,7 +143,7 @@ pub record Ended (own most : ℕ) (v : View) (commit : Bool) (floor : ℕ) (w : 
 
 -- a session whose transaction has ended by this number
 abbrev pub ended_session : Session → ℕ → Session
-ended_session x number = record x { is_open = false; clock = record x.clock { clock = number }; end = number; undo = []; is_half_aborted = false; held = record { count = x.held.count; rows = [] } }
+ended_session x number = record x { is_open = false; clock = record x.clock { clock = number }; end = number; first = None; undo = []; is_half_aborted = false; held = record { count = x.held.count; rows = [] } }
 
 -- one that ended by a commit, so many of which wait for a flush then
 abbrev pub waiting_session : Session → (number waiting : ℕ) → Session

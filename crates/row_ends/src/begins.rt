@@ -55,6 +55,7 @@ fn begun(session: &mut Session, floor: u64)
     session.is_open = true;
     session.clock.begin(floor);
     session.txn += 1;
+    session.first = None;
     session.undo.clear();
     session.is_half_aborted = false;
 }

@@ -58,6 +58,7 @@ pub(crate) fn close(session: &mut Session, number: u64)
     session.is_open = false;
     session.clock.clock = number;
     session.end = number;
+    session.first = None;
     session.undo.clear();
     session.is_half_aborted = false;
     session.held.clear();

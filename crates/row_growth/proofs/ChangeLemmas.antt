@@ -26,7 +26,7 @@ use Rattle.row_changes.specs.Puts.{MayChange}
 use Rattle.row_growth.specs.Rooms.{IsExpected, answer_of, session_after}
 use Rattle.row_changes.specs.session_state.Staging.{Staging}
 use Rattle.row_changes.specs.session_state.declared.session.Session.{Session}
-use Rattle.row_changes.proofs.DelLemmas.{same_by_clock, same_then}
+use Rattle.row_changes.proofs.DelLemmas.{same_by_staged, same_then}
 use Rattle.row_growth.proofs.GrowthLemmas.{sound}
 use Rattle.row_changes.proofs.PutLemmas.{low_page}
 use Rattle.row_changes.proofs.session_state.UndoLemmas.{room_to_end}
@@ -92,6 +92,6 @@ faults_told x y rs now log log_now old new S same f0 f1 sf _ t d = absurd t
 -- it is the same session, whatever came of it
 pub session_kept : (x y : Session) (rs now : List Record) (log log_now : Log) (old new : Story) (S same : Type 0) (f0 f1 : ℕ) → (same → y ≡ x) → (o : Outcome) → Drew o (λ r. Staging r x y rs now log log_now old new S f0 f1) same
     → (k : Session) → k ≡ session_after o y → IsSameSession x k
-session_kept x y rs now log log_now old new S same f0 f1 sx outcome.Done d k e = same_then x y k (same_by_clock x y d.session) (ap (λ (s : Session). s.own) e, ap (λ (s : Session). s.workers) e, ap (λ (s : Session). s.group) e)
-session_kept x y rs now log log_now old new S same f0 f1 sx (outcome.Unstaged why) d k e = same_then x y k (same_by_clock x y d.session) (ap (λ (s : Session). s.own) e, ap (λ (s : Session). s.workers) e, ap (λ (s : Session). s.group) e)
+session_kept x y rs now log log_now old new S same f0 f1 sx outcome.Done d k e = same_then x y k (same_by_staged x y d.session) (ap (λ (s : Session). s.own) e, ap (λ (s : Session). s.workers) e, ap (λ (s : Session). s.group) e)
+session_kept x y rs now log log_now old new S same f0 f1 sx (outcome.Unstaged why) d k e = same_then x y k (same_by_staged x y d.session) (ap (λ (s : Session). s.own) e, ap (λ (s : Session). s.workers) e, ap (λ (s : Session). s.group) e)
 session_kept x y rs now log log_now old new S same f0 f1 sx _ d k e = let q = e ∙ sx d in (ap (λ (s : Session). s.own) q, ap (λ (s : Session). s.workers) q, ap (λ (s : Session). s.group) q)

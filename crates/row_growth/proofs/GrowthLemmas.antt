@@ -4,11 +4,12 @@ use Rattle.map_model.specs.Lists.{Has, keep}
 use Rattle.map_model.proofs.ListLemmas.{upd_same}
 use Rattle.page_model.specs.Records as records
 use Rattle.page_model.specs.Tree.{IsTree}
-use Rattle.row_changes.specs.session_state.image_model.Entries.{Entry, Kind, is_commit}
+use Rattle.row_changes.specs.session_state.image_model.Entries.{Entry, Kind, is_commit, is_record}
 use Rattle.row_changes.specs.session_state.core_state.Needs.{holds_row, may}
 use Rattle.row_changes.specs.session_state.core_state.Openings.{Opening}
 use Rattle.row_changes.specs.session_state.core_state.States.{Place, State, Worker, in_frame, nodes_of}
 use Rattle.row_changes.specs.session_state.core_state.Steps.{at_pages, happens, moves, page_entry, records_in}
+use Rattle.row_changes.specs.session_state.core_covers.Firsts.{first_of}
 use Rattle.row_changes.specs.session_state.core_calls.LogEvents.{behind}
 use Rattle.row_changes.specs.session_state.core_calls.Warms.{IsWarmFrom}
 use Rattle.row_changes.specs.session_state.core_calls.Room.{free_list, room_takes}
@@ -40,6 +41,7 @@ use Rattle.row_changes.specs.session_state.Undo.{HasHand, HasRoomToStage, undo_o
 use Rattle.row_growth.specs.Rooms.{IsGrown, IsGrowth, IsSpentBehind}
 use Rattle.row_changes.specs.session_state.Staging.{Staging}
 use Rattle.row_changes.specs.session_state.declared.session.Session.{Session}
+use Rattle.row_changes.proofs.session_state.FirstLemmas.{first_staged}
 use Rattle.row_changes.proofs.session_state.HoldLemmas.{rows_on}
 use Rattle.row_changes.proofs.TouchLemmas.{Touched, touched}
 use Rattle.row_changes.proofs.Misses.{misses_core}
@@ -72,6 +74,7 @@ holds_same z v w x log given core held h = record {
   idle = held;
   rows = rows_on z v w x.own x.workers x.frames x.held.count given h.rows;
   session = subst (λ s. IsOf x (s.worker x.own)) (sym core) h.session;
+  first = ap (λ s. first_of s x.own) core ∙ h.first;
   numbers = h.numbers;
   flushed = ap (λ s. s.flushed x.own) core ∙ h.flushed;
   floor = floor_same v w x.clock.floor given (ap (λ s. s.flushed) core) h.floor;
@@ -136,7 +139,7 @@ growth_leaves own g s _ a = absurd a
 
 -- ## Behind a change
 
-module _ (z : Shape) (v w : View) (x : Session) (log : Log) (h : Holds z v x log) (key : ℕ) (f : MayChange v x log key) (kind : Kind) (no_commit : is_commit kind ≡ false) (e : Event) (ps : List ℕ) (made : records.Record) (entry_in : State → Entry)
+module _ (z : Shape) (v w : View) (x : Session) (log : Log) (h : Holds z v x log) (key : ℕ) (f : MayChange v x log key) (kind : Kind) (no_commit : is_commit kind ≡ false) (recorded : is_record kind ≡ true) (e : Event) (ps : List ℕ) (made : records.Record) (entry_in : State → Entry)
     (rs now : List Record) (y : Session) (log_now : Log) (d : Changed z.alone x.own e entry_in v rs w y.clock now)
     (does : happens (opening v.given) (state v).core (event_of e) ≡ moves (state v).core kind x.own ps made)
     (enters : entry_in (state v).core ≡ page_entry kind (state v).core x.own (at_pages (state v).core x.own ((state v).core.worker x.own) ps) ps made) where
@@ -197,7 +200,7 @@ module _ (z : Shape) (v w : View) (x : Session) (log : Log) (h : Holds z v x log
   module _ (old new : Story) (S : Type 0) (f0 f1 : ℕ) (held : w.held ≡ []) (st : Staging (Ok tt) x y rs now log log_now old new S f0 f1) (last : log_now.last ≡ y.clock.clock)
       (page : ℕ) (rest : List ℕ) (least : x.free ≡ page ∷ rest) (left : free_list (opening v.given) (happens (opening v.given) s (event_of e)) ≡ rest) where
     abbrev u : Session
-    u = record x { clock = risen x.clock y.clock; free = rest }
+    u = record x { clock = risen x.clock y.clock; first = y.first; free = rest }
 
     flushed_is : log_now.flushed ≡ log.flushed
     flushed_is = same_flushed st.came.entry log log_now st.came.after
@@ -241,6 +244,7 @@ module _ (z : Shape) (v w : View) (x : Session) (log : Log) (h : Holds z v x log
       idle = held;
       rows = rows_on z v w x.own x.workers x.frames x.held.count d.ran.given h.rows;
       session = subst (λ k. IsOf u (k.worker x.own)) (sym core_is) (subst (λ k. IsOf u k) (sym worker_is) session_on);
+      first = ap (λ k. first_of k x.own) core_is ∙ first_staged s t x y r h.session f.is_open h.first (ap (λ k. k.is_open) worker_is ∙ met_by.is_open) (ap (λ k. k.txn) worker_is ∙ met_by.txn) refl recorded refl met_by.txn (sym (ap (λ c. c.clock) clock_of)) st.first;
       numbers = numbers_on;
       flushed = ap (λ k. k.flushed x.own) core_is ∙ (h.flushed ∙ sym flushed_is);
       floor = floor_same v w x.clock.floor d.ran.given (ap (λ k. k.flushed) core_is) h.floor;

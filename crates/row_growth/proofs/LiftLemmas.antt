@@ -101,17 +101,17 @@ module _ (rooms : EveryRoom) (z : Shape) (v w : View) (x y : Session) (log log_n
 
     module _ (held : w.held ≡ []) (st : Staging (Ok tt) x y rs now log log_now old new S f0 f1) (last : log_now.last ≡ y.clock.clock) where
       lift_met : may g s (happening.Event.Lift x.own l.page) ≡ true
-      lift_met = met z v w x log h key f Kind.Lift refl (Lift x.own l.page) (0 ∷ l.page ∷ []) (lift_record (nodes_of s) (gsns_of s) l.page) (lift_entry x.own l.page) rs now y log_now l.change refl refl
+      lift_met = met z v w x log h key f Kind.Lift refl refl (Lift x.own l.page) (0 ∷ l.page ∷ []) (lift_record (nodes_of s) (gsns_of s) l.page) (lift_entry x.own l.page) rs now y log_now l.change refl refl
 
       left_is : free_list g (happens g s (happening.Event.Lift x.own l.page)) ≡ without_first x.free
       left_is = (rooms g s key).lift (sound z v x log h).tree x.own l.page (without_first x.free) lift_met (sym h.free ∙ least_is)
 
       pub lift_holds_on : Holds z w (record y { free = without_first y.free }) log_now
-      lift_holds_on = holds_grown z v w x log h key f Kind.Lift refl (Lift x.own l.page) (0 ∷ l.page ∷ []) (lift_record (nodes_of s) (gsns_of s) l.page) (lift_entry x.own l.page) rs now y log_now l.change refl refl
+      lift_holds_on = holds_grown z v w x log h key f Kind.Lift refl refl (Lift x.own l.page) (0 ∷ l.page ∷ []) (lift_record (nodes_of s) (gsns_of s) l.page) (lift_entry x.own l.page) rs now y log_now l.change refl refl
           old new S f0 f1 held st last l.page (without_first x.free) least_is left_is
 
       pub lift_grown : IsGrown key v w x (record y { free = without_first y.free }) log log_now old new
-      lift_grown = grown z v w x log h key f Kind.Lift refl (Lift x.own l.page) (0 ∷ l.page ∷ []) (lift_record (nodes_of s) (gsns_of s) l.page) (lift_entry x.own l.page) rs now y log_now l.change refl refl
+      lift_grown = grown z v w x log h key f Kind.Lift refl refl (Lift x.own l.page) (0 ∷ l.page ∷ []) (lift_record (nodes_of s) (gsns_of s) l.page) (lift_entry x.own l.page) rs now y log_now l.change refl refl
           old new S f0 f1 held st last l.page (without_first x.free) least_is left_is refl (subst (λ k. IsNextRoom x.own g s key (happening.Event.Lift x.own k)) (sym here) can.takes.next) can.takes.fits
           (warm_lift g s key x.own l.page (sound z v x log h).residence.root frame (ap s.place here ∙ can.stands))
           (λ now. takes_lift rooms g s key x.own l.page refl (sound z v x log h).tree now f.key_low can.takes.next.2)

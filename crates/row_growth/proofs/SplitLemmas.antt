@@ -152,17 +152,17 @@ module _ (rooms : EveryRoom) (z : Shape) (v w : View) (x y : Session) (log log_n
 
     module _ (held : w.held ≡ []) (st : Staging (Ok tt) x y rs now log log_now old new S f0 f1) (last : log_now.last ≡ y.clock.clock) where
       split_met : may g s (happening.Event.Split x.own l.left l.right l.parent 30) ≡ true
-      split_met = met z v w x log h key f Kind.Split refl (Split x.own l.left l.right l.parent 30) (l.left ∷ l.right ∷ l.parent ∷ []) (split_record (nodes_of s) (gsns_of s) l.left l.right l.parent 30) (split_entry x.own l.left l.right l.parent) rs now y log_now l.change refl refl
+      split_met = met z v w x log h key f Kind.Split refl refl (Split x.own l.left l.right l.parent 30) (l.left ∷ l.right ∷ l.parent ∷ []) (split_record (nodes_of s) (gsns_of s) l.left l.right l.parent 30) (split_entry x.own l.left l.right l.parent) rs now y log_now l.change refl refl
 
       left_is : free_list g (happens g s (happening.Event.Split x.own l.left l.right l.parent 30)) ≡ without_first x.free
       left_is = (rooms g s key).split (sound z v x log h).tree x.own l.left l.right l.parent 30 (without_first x.free) split_met (sym h.free ∙ least_is)
 
       pub split_holds_on : Holds z w (record y { free = without_first y.free }) log_now
-      split_holds_on = holds_grown z v w x log h key f Kind.Split refl (Split x.own l.left l.right l.parent 30) (l.left ∷ l.right ∷ l.parent ∷ []) (split_record (nodes_of s) (gsns_of s) l.left l.right l.parent 30) (split_entry x.own l.left l.right l.parent) rs now y log_now l.change refl refl
+      split_holds_on = holds_grown z v w x log h key f Kind.Split refl refl (Split x.own l.left l.right l.parent 30) (l.left ∷ l.right ∷ l.parent ∷ []) (split_record (nodes_of s) (gsns_of s) l.left l.right l.parent 30) (split_entry x.own l.left l.right l.parent) rs now y log_now l.change refl refl
           old new S f0 f1 held st last l.right (without_first x.free) least_is left_is
 
       pub split_grown : IsGrown key v w x (record y { free = without_first y.free }) log log_now old new
-      split_grown = grown z v w x log h key f Kind.Split refl (Split x.own l.left l.right l.parent 30) (l.left ∷ l.right ∷ l.parent ∷ []) (split_record (nodes_of s) (gsns_of s) l.left l.right l.parent 30) (split_entry x.own l.left l.right l.parent) rs now y log_now l.change refl refl
+      split_grown = grown z v w x log h key f Kind.Split refl refl (Split x.own l.left l.right l.parent 30) (l.left ∷ l.right ∷ l.parent ∷ []) (split_record (nodes_of s) (gsns_of s) l.left l.right l.parent 30) (split_entry x.own l.left l.right l.parent) rs now y log_now l.change refl refl
           old new S f0 f1 held st last l.right (without_first x.free) least_is left_is refl next_is can.takes.fits
           (warm_split g s key x.own l.left l.right l.parent a (ap s.place left_here ∙ can.takes.left_hot) b (ap s.place right_is ∙ can.stands) d (ap s.place parent_here ∙ can.takes.parent_hot))
           (λ now. takes_split rooms g s key x.own l.left l.right l.parent refl (sound z v x log h).tree now (subst (λ k. k < g.format.pages) (sym left_here) can.takes.below)

@@ -179,7 +179,7 @@ module _ (purges : EveryPurged) (rooms : EveryRoom) (z : Shape) (v : View) (x : 
           stands = t.made.stands;
           keeps = t.made.keeps;
           short = t.made.short;
-          session = t.made.session ∙ (λ i. record x { clock = risen x.clock y.clock; free = sym (ap (λ (k : Session). k.free) t.made.session) i });
+          session = t.made.session ∙ (λ i. record x { clock = risen x.clock y.clock; first = y.first; free = sym (ap (λ (k : Session). k.free) t.made.session) i });
           free = ap (λ (k : Session). k.free) t.made.session;
           takes =
               let none : room_takes (opening w.given) (state w).core key ≡ 0 = (λ i. room_takes (opening (t.made.given i)) (t.made.happened i) key) ∙ made.takes in

@@ -67,7 +67,7 @@ pub record IsRoomed (key : ℕ) (v w : View) (x y : Session) (was is : Log) (old
   pub stands : StagesOn x.own entry was is old new
   pub keeps : KeepsLog x.own was old new
   pub short : length (records_text (entry ∷ [])) ≤ 1031
-  pub session : y ≡ record x { clock = risen x.clock y.clock; free = y.free }
+  pub session : y ≡ record x { clock = risen x.clock y.clock; first = y.first; free = y.free }
   pub free : TakesPage event x.free y.free (room_refusal (opening v.given) (state v).core key ≡ None)
   -- there are fewer to come
   pub takes : room_takes (opening w.given) (state w).core key < room_takes (opening v.given) (state v).core key

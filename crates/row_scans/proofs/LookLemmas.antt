@@ -32,7 +32,9 @@ use Rattle.row_changes.specs.session_state.btree_descent.Descents.{MetCold}
 use Rattle.row_changes.specs.session_state.btree_descent.Known.{Sound}
 use Rattle.row_changes.specs.session_state.btree_descent.Nexts.{AreLocked, IsFirstUnlocked, MayWalk, MetUnlocked, Walked}
 use Rattle.row_changes.specs.session_state.Holds.{Holds, IsOf}
+use Rattle.row_changes.specs.session_state.core_covers.Firsts.{first_of}
 use Rattle.row_changes.specs.session_state.declared.session.Session.{Session}
+use Rattle.row_changes.proofs.session_state.FirstLemmas as records
 use Rattle.row_changes.proofs.session_state.HoldLemmas.{rows_on}
 use Rattle.row_changes.proofs.session_state.Moments.{free_same}
 use Rattle.row_changes.specs.Ways.{HasMetCold}
@@ -270,13 +272,14 @@ module _ (trees : EveryTree) (z : Shape) (v w : View) (x : Session) (log : Log) 
       least : (g : Opening) → flushed_by_all g n ≡ flushed_by_all g s
       commits : waits n x.own ≡ waits s x.own
       worker : n.worker x.own ≡ at_pages s x.own (s.worker x.own) (d.page ∷ [])
+      first : first_of n x.own ≡ first_of s x.own
 
     at_worker : upd s.worker x.own (at_pages s x.own (s.worker x.own) (d.page ∷ [])) x.own ≡ at_pages s x.own (s.worker x.own) (d.page ∷ [])
     at_worker = ap (λ b. cond b (at_pages s x.own (s.worker x.own) (d.page ∷ [])) (s.worker x.own)) (eq-eqb x.own x.own refl)
 
     leaves_of : (b : told.Met) → Leaves (happens (opening v.given) s (event_of (Next x.own d.page key b)))
-    leaves_of (event.Pair at value) = record { page = refl; row = refl; flushed = refl; least = λ g. refl; commits = refl; worker = at_worker }
-    leaves_of (event.Gap high) = record { page = refl; row = refl; flushed = refl; least = λ g. refl; commits = refl; worker = at_worker }
+    leaves_of (event.Pair at value) = record { page = refl; row = refl; flushed = refl; least = λ g. refl; commits = refl; worker = at_worker; first = records.first_read s (happens (opening v.given) s (event_of (Next x.own d.page key (event.Pair at value)))) x.own _ (ap (λ k. k.is_open) at_worker) (ap (λ k. k.txn) at_worker) refl refl }
+    leaves_of (event.Gap high) = record { page = refl; row = refl; flushed = refl; least = λ g. refl; commits = refl; worker = at_worker; first = records.first_same s (happens (opening v.given) s (event_of (Next x.own d.page key (event.Gap high)))) x.own (ap (λ k. k.is_open) at_worker) (ap (λ k. k.txn) at_worker) refl }
 
     leaves : Leaves (state w).core
     leaves = subst Leaves (sym core_is) (leaves_of a)
@@ -287,6 +290,7 @@ module _ (trees : EveryTree) (z : Shape) (v w : View) (x : Session) (log : Log) 
       idle = held_is ∙ h.idle;
       rows = rows_on z v w x.own x.workers x.frames x.held.count walk_given h.rows;
       session = subst (IsOf now) (sym leaves.worker) now_of;
+      first = leaves.first ∙ h.first;
       numbers = numbers_on x now log x.held refl (omega arith) h.numbers;
       flushed = ap (λ f. f x.own) leaves.flushed ∙ h.flushed;
       floor = subst (λ n. x.clock.floor ≤ n) (sym (leaves.least (opening v.given)) ∙ (λ i. flushed_by_all (opening (sym walk_given i)) (state w).core)) h.floor;

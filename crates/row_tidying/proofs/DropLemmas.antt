@@ -115,7 +115,7 @@ module _ (free : EveryFreed) (z : Shape) (v w : View) (x y : Session) (log log_n
     told = told_changed z.alone x.own (Drop x.own l.page) (drop_entry x.own l.page) v rs w y.clock now l.change
 
     drop_met : may g s (happening.Event.Drop x.own l.page) ≡ true
-    drop_met = met z v w x log h f Kind.Drop refl (Drop x.own l.page) [] (0 ∷ l.page ∷ []) (drop_record (nodes_of s) (gsns_of s) l.page) (drop_entry x.own l.page) rs now y log_now told refl refl refl
+    drop_met = met z v w x log h f Kind.Drop refl refl (Drop x.own l.page) [] (0 ∷ l.page ∷ []) (drop_record (nodes_of s) (gsns_of s) l.page) (drop_entry x.own l.page) rs now y log_now told refl refl refl
 
     freed_is : free_list g (happens g s (happening.Event.Drop x.own l.page)) ≡ put_in page x.free
     freed_is = (free g s).drop tree x.own l.page drop_met ∙ (λ i. put_in (here i) (sym h.free i))
@@ -124,13 +124,13 @@ module _ (free : EveryFreed) (z : Shape) (v w : View) (x y : Session) (log log_n
       pub drop_leaves_on : Holds z w (record y { free = put_in page y.free }) log_now
       drop_leaves_on =
           subst (λ k. Holds z w (record y { free = put_in page k }) log_now) (sym (ap (λ (k : Session). k.free) st.session))
-          (holds_made z v w x log h f Kind.Drop refl (Drop x.own l.page) [] (0 ∷ l.page ∷ []) (drop_record (nodes_of s) (gsns_of s) l.page) (drop_entry x.own l.page) rs now y log_now told refl refl refl
+          (holds_made z v w x log h f Kind.Drop refl refl (Drop x.own l.page) [] (0 ∷ l.page ∷ []) (drop_record (nodes_of s) (gsns_of s) l.page) (drop_entry x.own l.page) rs now y log_now told refl refl refl
           old new S f0 f1 held st last (put_in page x.free) freed_is)
 
       pub is_dropped : IsDropped frame page v w x (record y { free = put_in page y.free }) log log_now old new
       is_dropped = subst (λ k. IsDropped frame k v w x (record y { free = put_in k y.free }) log log_now old new) here (record {
         stands = ap s.place here ∙ can.stands;
-        made = freed_as (is_made z v w x log h f Kind.Drop refl (Drop x.own l.page) [] (0 ∷ l.page ∷ []) (drop_record (nodes_of s) (gsns_of s) l.page) (drop_entry x.own l.page) rs now y log_now told refl refl refl
+        made = freed_as (is_made z v w x log h f Kind.Drop refl refl (Drop x.own l.page) [] (0 ∷ l.page ∷ []) (drop_record (nodes_of s) (gsns_of s) l.page) (drop_entry x.own l.page) rs now y log_now told refl refl refl
             old new S f0 f1 held st last (put_in l.page x.free));
       })
         where

@@ -24,7 +24,7 @@ use Rattle.row_changes.specs.session_state.Staging.{Staging}
 use Rattle.row_changes.specs.session_state.declared.session.Session.{Session}
 use Rattle.row_changes.proofs.session_state.UndoLemmas.{room_to_end}
 use Rattle.row_changes.specs.Puts.{works_after}
-use Rattle.row_changes.proofs.DelLemmas.{same_by_clock, same_then}
+use Rattle.row_changes.proofs.DelLemmas.{same_by_staged, same_then}
 use Rattle.row_changes.proofs.PutLemmas.{low_page}
 use Rattle.row_tidying.specs.Changes.{MayTidy}
 use Rattle.row_tidying.specs.Ends.{IsExpected, IsExpectedOf, answer_of, cleared_of, session_after, session_behind}
@@ -82,13 +82,13 @@ module _ (x y : Session) (rs now : List Record) (log log_now : Log) (old new : S
 
   -- it is the same session, whatever came of it
   pub session_kept : (same → y ≡ x) → (page : ℕ) (o : Outcome) → Drew o (λ r. Staging r x y rs now log log_now old new S f0 f1) same → (k : Session) → k ≡ session_after o page y → IsSameSession x k
-  session_kept sx page outcome.Done d k e = same_then x y k (same_by_clock x y d.session) (ap (λ (s : Session). s.own) e, ap (λ (s : Session). s.workers) e, ap (λ (s : Session). s.group) e)
-  session_kept sx page (outcome.Unstaged why) d k e = same_then x y k (same_by_clock x y d.session) (ap (λ (s : Session). s.own) e, ap (λ (s : Session). s.workers) e, ap (λ (s : Session). s.group) e)
+  session_kept sx page outcome.Done d k e = same_then x y k (same_by_staged x y d.session) (ap (λ (s : Session). s.own) e, ap (λ (s : Session). s.workers) e, ap (λ (s : Session). s.group) e)
+  session_kept sx page (outcome.Unstaged why) d k e = same_then x y k (same_by_staged x y d.session) (ap (λ (s : Session). s.own) e, ap (λ (s : Session). s.workers) e, ap (λ (s : Session). s.group) e)
   session_kept sx page _ d k e = let q = e ∙ sx d in (ap (λ (s : Session). s.own) q, ap (λ (s : Session). s.workers) q, ap (λ (s : Session). s.group) q)
 
   pub session_spared : (same → y ≡ x) → (o : Purged) → DrewOf o (λ r. Staging r x y rs now log log_now old new S f0 f1) same → (k : Session) → k ≡ session_behind o y → IsSameSession x k
-  session_spared sx purged.Done d k e = same_then x y k (same_by_clock x y d.session) (ap (λ (s : Session). s.own) e, ap (λ (s : Session). s.workers) e, ap (λ (s : Session). s.group) e)
-  session_spared sx (purged.Refused (outcome.Unstaged why)) d k e = same_then x y k (same_by_clock x y d.session) (ap (λ (s : Session). s.own) e, ap (λ (s : Session). s.workers) e, ap (λ (s : Session). s.group) e)
+  session_spared sx purged.Done d k e = same_then x y k (same_by_staged x y d.session) (ap (λ (s : Session). s.own) e, ap (λ (s : Session). s.workers) e, ap (λ (s : Session). s.group) e)
+  session_spared sx (purged.Refused (outcome.Unstaged why)) d k e = same_then x y k (same_by_staged x y d.session) (ap (λ (s : Session). s.own) e, ap (λ (s : Session). s.workers) e, ap (λ (s : Session). s.group) e)
   session_spared sx _ d k e = let q = e ∙ sx d in (ap (λ (s : Session). s.own) q, ap (λ (s : Session). s.workers) q, ap (λ (s : Session). s.group) q)
 
   -- and whether it works is told

@@ -181,7 +181,7 @@ module _ (free : EveryFreed) (z : Shape) (v w : View) (x y : Session) (log log_n
     told = told_changed z.alone x.own (Join x.own l.left l.right l.parent) (join_entry x.own l.left l.right l.parent) v rs w y.clock now l.change
 
     join_met : may g s (happening.Event.Join x.own l.left l.right l.parent) ≡ true
-    join_met = met z v w x log h f Kind.Join refl (Join x.own l.left l.right l.parent) [] (l.left ∷ l.right ∷ l.parent ∷ []) (join_record (nodes_of s) (gsns_of s) l.left l.right l.parent) (join_entry x.own l.left l.right l.parent) rs now y log_now told refl refl refl
+    join_met = met z v w x log h f Kind.Join refl refl (Join x.own l.left l.right l.parent) [] (l.left ∷ l.right ∷ l.parent ∷ []) (join_record (nodes_of s) (gsns_of s) l.left l.right l.parent) (join_entry x.own l.left l.right l.parent) rs now y log_now told refl refl refl
 
     freed_is : free_list g (happens g s (happening.Event.Join x.own l.left l.right l.parent)) ≡ put_in page x.free
     freed_is = (free g s).join tree x.own l.left l.right l.parent join_met ∙ (λ i. put_in (right_is i) (sym h.free i))
@@ -190,7 +190,7 @@ module _ (free : EveryFreed) (z : Shape) (v w : View) (x y : Session) (log log_n
       pub join_leaves_on : Holds z w (record y { free = put_in page y.free }) log_now
       join_leaves_on =
           subst (λ k. Holds z w (record y { free = put_in page k }) log_now) (sym (ap (λ (k : Session). k.free) st.session))
-          (holds_made z v w x log h f Kind.Join refl (Join x.own l.left l.right l.parent) [] (l.left ∷ l.right ∷ l.parent ∷ []) (join_record (nodes_of s) (gsns_of s) l.left l.right l.parent) (join_entry x.own l.left l.right l.parent) rs now y log_now told refl refl refl
+          (holds_made z v w x log h f Kind.Join refl refl (Join x.own l.left l.right l.parent) [] (l.left ∷ l.right ∷ l.parent ∷ []) (join_record (nodes_of s) (gsns_of s) l.left l.right l.parent) (join_entry x.own l.left l.right l.parent) rs now y log_now told refl refl refl
           old new S f0 f1 held st last (put_in page x.free) freed_is)
 
       pub is_joined : IsJoined a b d page v w x (record y { free = put_in page y.free }) log log_now old new
@@ -200,7 +200,7 @@ module _ (free : EveryFreed) (z : Shape) (v w : View) (x y : Session) (log log_n
         left_stands = ap s.place left_here ∙ can.left_stands;
         right_stands = ap s.place right_is ∙ can.right_stands;
         parent_stands = ap s.place parent_here ∙ can.parent_stands;
-        made = freed_as (is_made z v w x log h f Kind.Join refl (Join x.own l.left l.right l.parent) [] (l.left ∷ l.right ∷ l.parent ∷ []) (join_record (nodes_of s) (gsns_of s) l.left l.right l.parent) (join_entry x.own l.left l.right l.parent) rs now y log_now told refl refl refl
+        made = freed_as (is_made z v w x log h f Kind.Join refl refl (Join x.own l.left l.right l.parent) [] (l.left ∷ l.right ∷ l.parent ∷ []) (join_record (nodes_of s) (gsns_of s) l.left l.right l.parent) (join_entry x.own l.left l.right l.parent) rs now y log_now told refl refl refl
             old new S f0 f1 held st last (put_in l.right x.free));
       })
         where

@@ -5,11 +5,12 @@ use Rattle.map_model.specs.Lists.{Has, any, keep}
 use Rattle.map_model.proofs.ListLemmas.{upd_same}
 use Rattle.page_model.specs.Nodes.{Node, covers}
 use Rattle.page_model.specs.Records as records
-use Rattle.row_changes.specs.session_state.image_model.Entries.{Contents, Entry, Kind, is_commit, touches, written}
+use Rattle.row_changes.specs.session_state.image_model.Entries.{Contents, Entry, Kind, is_commit, is_record, touches, written}
 use Rattle.row_changes.specs.session_state.core_state.Needs.{are_hot, holds_row, may, needs, pages_of}
 use Rattle.row_changes.specs.session_state.core_state.Openings.{Opening}
 use Rattle.row_changes.specs.session_state.core_state.States.{Place, State, Worker, in_frame, is_hot}
 use Rattle.row_changes.specs.session_state.core_state.Steps.{at_pages, happens, moves, page_entry, records_in, refs_of}
+use Rattle.row_changes.specs.session_state.core_covers.Firsts.{first_of}
 use Rattle.row_changes.specs.session_state.core_calls.LogEvents.{behind}
 use Rattle.row_changes.specs.session_state.core_calls.Warms.{IsWarmFrom}
 use Rattle.row_changes.specs.session_state.core_calls.Room.{free_list, frees_from}
@@ -39,6 +40,7 @@ use Rattle.row_changes.specs.session_state.Holds.{AreNumbers, Holds, IsOf}
 use Rattle.row_changes.specs.session_state.Staging.{Staging}
 use Rattle.row_changes.specs.session_state.Undo.{HasHand, HasRoomToStage, undo_of}
 use Rattle.row_changes.specs.session_state.declared.session.Session.{Session}
+use Rattle.row_changes.proofs.session_state.FirstLemmas.{first_staged}
 use Rattle.row_changes.proofs.session_state.HoldLemmas.{rows_on}
 use Rattle.row_changes.proofs.session_state.Moments.{met_core}
 use Rattle.row_changes.proofs.session_state.UndoLemmas.{hand_after, room_after, room_kept, room_to_end, room_to_undo}
@@ -73,6 +75,7 @@ holds_same z v w x log given core held h = record {
   idle = held;
   rows = rows_on z v w x.own x.workers x.frames x.held.count given h.rows;
   session = subst (λ s. IsOf x (s.worker x.own)) (sym core) h.session;
+  first = ap (λ s. first_of s x.own) core ∙ h.first;
   numbers = h.numbers;
   flushed = ap (λ s. s.flushed x.own) core ∙ h.flushed;
   floor = floor_same v w x.clock.floor given (ap (λ s. s.flushed) core) h.floor;
@@ -178,7 +181,7 @@ module _ (g : Opening) (s : State) (own : ℕ) (kind : Kind) (ps : List ℕ) (ma
 
 -- ## Behind a change
 
-module _ (z : Shape) (v w : View) (x : Session) (log : Log) (h : Holds z v x log) (f : MayTidy x log) (kind : Kind) (no_commit : is_commit kind ≡ false) (e : Event) (misses : List Event) (ps : List ℕ) (made : records.Record) (entry_in : State → Entry)
+module _ (z : Shape) (v w : View) (x : Session) (log : Log) (h : Holds z v x log) (f : MayTidy x log) (kind : Kind) (no_commit : is_commit kind ≡ false) (recorded : is_record kind ≡ true) (e : Event) (misses : List Event) (ps : List ℕ) (made : records.Record) (entry_in : State → Entry)
     (rs now : List Record) (y : Session) (log_now : Log) (d : Told z.alone x.own e misses entry_in v rs w y.clock now)
     (does : happens (opening v.given) (state v).core (event_of e) ≡ moves (state v).core kind x.own ps made)
     (enters : entry_in (state v).core ≡ page_entry kind (state v).core x.own (at_pages (state v).core x.own ((state v).core.worker x.own) ps) ps made)
@@ -259,7 +262,7 @@ module _ (z : Shape) (v w : View) (x : Session) (log : Log) (h : Holds z v x log
 
     module _ (rest : List ℕ) (left : free_list (opening v.given) (happens (opening v.given) s (event_of e)) ≡ rest) where
       abbrev u : Session
-      u = record (record x { clock = risen x.clock y.clock }) { free = rest }
+      u = record (record x { clock = risen x.clock y.clock; first = y.first }) { free = rest }
 
       session_on : IsOf u b
       session_on = record {
@@ -300,6 +303,7 @@ module _ (z : Shape) (v w : View) (x : Session) (log : Log) (h : Holds z v x log
         idle = held;
         rows = rows_on z v w x.own x.workers x.frames x.held.count d.ran.given h.rows;
         session = subst (λ k. IsOf u (k.worker x.own)) (sym core_is) (subst (λ k. IsOf u k) (sym worker_is) session_on);
+        first = ap (λ k. first_of k x.own) core_is ∙ first_staged s t x y r h.session f.is_open h.first (ap (λ k. k.is_open) worker_is ∙ met_by.is_open) (ap (λ k. k.txn) worker_is ∙ met_by.txn) refl recorded refl met_by.txn (sym (ap (λ c. c.clock) clock_of)) st.first;
         numbers = numbers_on;
         flushed = ap (λ k. k.flushed x.own) core_is ∙ (h.flushed ∙ sym flushed_is);
         floor = floor_same v w x.clock.floor d.ran.given (ap (λ k. k.flushed) core_is) h.floor;

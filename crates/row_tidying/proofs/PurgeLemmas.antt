@@ -102,7 +102,7 @@ module _ (free : EveryFreed) (z : Shape) (v w : View) (x y : Session) (log log_n
       pub purge_holds_on : Holds z w y log_now
       purge_holds_on =
           subst (λ k. Holds z w (record y { free = k }) log_now) (sym (ap (λ (k : Session). k.free) st.session))
-          (holds_made z v w x log h f Kind.Purge refl (Purge x.own l.page l.keys) l.misses (l.page ∷ []) (purge_record (gsns_of s) l.page l.keys) (purge_entry x.own l.page l.keys) rs now y log_now told_is refl refl refl
+          (holds_made z v w x log h f Kind.Purge refl refl (Purge x.own l.page l.keys) l.misses (l.page ∷ []) (purge_record (gsns_of s) l.page l.keys) (purge_entry x.own l.page l.keys) rs now y log_now told_is refl refl refl
           old new S f0 f1 held st last x.free free_is)
 
       pub is_purged : IsPurged frame most v w x y log log_now old new
@@ -112,7 +112,7 @@ module _ (free : EveryFreed) (z : Shape) (v w : View) (x y : Session) (log log_n
         few = l.only.1;
         stands = stands_there;
         made = subst (λ ks. IsMade (Purge x.own l.page ks) l.misses x.free v w x y log log_now old new) keys_are (subst (λ (f : List ℕ). IsMade (Purge x.own l.page l.keys) l.misses x.free v w x (record y { free = f }) log log_now old new) (sym (ap (λ (k : Session). k.free) st.session))
-            (is_made z v w x log h f Kind.Purge refl (Purge x.own l.page l.keys) l.misses (l.page ∷ []) (purge_record (gsns_of s) l.page l.keys) (purge_entry x.own l.page l.keys) rs now y log_now told_is refl refl refl
+            (is_made z v w x log h f Kind.Purge refl refl (Purge x.own l.page l.keys) l.misses (l.page ∷ []) (purge_record (gsns_of s) l.page l.keys) (purge_entry x.own l.page l.keys) rs now y log_now told_is refl refl refl
             old new S f0 f1 held st last x.free));
         some = let e = ap (λ (ks : List ℕ). length ks) keys_are in let k = l.some in omega arith;
         left = let e = ap (λ (ks : List ℕ). length ks) keys_are in let k = l.left in let q = ap (λ m. length (m.core.page l.page).node.pairs) then_is in omega arith;

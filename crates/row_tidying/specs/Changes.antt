@@ -57,7 +57,7 @@ pub record CanDrop (v : View) (frame page : ℕ) : Type 0 where
 -- ## What was done
 
 -- The event was seen next, and misses behind it, and the core is as it makes it. Its record was staged; of the session its clock and its debt have
--- risen, and these pages are free. No page is moved, and each way that was hot is so still.
+-- risen, the first record of its transaction may be this one, and these pages are free. No page is moved, and each way that was hot is so still.
 pub record IsMade (e : Event) (misses : List Event) (free : List ℕ) (v w : View) (x y : Session) (was is : Log) (old new : Story) : Type 0 where
   pub given : w.given ≡ v.given
   pub seen : w.seen ≡ v.seen ++ e ∷ misses
@@ -70,6 +70,6 @@ pub record IsMade (e : Event) (misses : List Event) (free : List ℕ) (v w : Vie
   pub stands : StagesOn x.own entry was is old new
   pub keeps : KeepsLog x.own was old new
   pub short : length (records_text (entry ∷ [])) ≤ 1031
-  pub session : y ≡ record x { clock = risen x.clock y.clock; free = free }
+  pub session : y ≡ record x { clock = risen x.clock y.clock; first = y.first; free = free }
   pub stays : (state w).core.place ≡ (state v).core.place
   pub warm : (key : ℕ) → IsWarm v key → IsWarm w key

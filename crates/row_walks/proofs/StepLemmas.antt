@@ -234,7 +234,7 @@ module _ (key : ℕ) (a : At) (level : ℕ) (v u w : View) (x y : Session) (was 
     stands = k.made.stands;
     keeps = k.made.keeps;
     short = k.made.short;
-    session = k.made.session ∙ (λ i. record x { clock = risen x.clock y.clock; free = freed k.event x.free });
+    session = k.made.session ∙ (λ i. record x { clock = risen x.clock y.clock; first = y.first; free = freed k.event x.free });
     stays = moved (λ q m. (state w).core.place ≡ m.place) k.made.stays;
     warm = moved (λ q m. IsWarmFrom (opening q) m key 0 → IsWarm w key) (k.made.warm key);
   }

@@ -76,7 +76,7 @@ pub record IsTidied (key : ℕ) (a b : At) (v w : View) (x y : Session) (was is 
   pub stands : StagesOn x.own entry was is old new
   pub keeps : KeepsLog x.own was old new
   pub short : length (records_text (entry ∷ [])) ≤ 1031
-  pub session : y ≡ record x { clock = risen x.clock y.clock; free = freed event x.free }
+  pub session : y ≡ record x { clock = risen x.clock y.clock; first = y.first; free = freed event x.free }
   -- no page is moved, and the way to the key is hot still
   pub stays : (state w).core.place ≡ (state v).core.place
   pub warm : IsWarm v key → IsWarm w key

@@ -1,4 +1,4 @@
--- No entry has a number above its worker's clock.
+-- No entry has a number above its worker's clock, nor a transaction above its worker's.
 use Rattle.std.proofs.Common.{◌≤◌, ◌++◌, refl, sym, subst}
 use Rattle.map_model.specs.Lists.{Has}
 use Rattle.btree_descent.specs.image_model.Entries.{Entry}
@@ -13,5 +13,5 @@ use Rattle.session_state.specs.Numbers.{AreClocked}
 -- on rows that began as an opening
 pub entries_clocked : EveryReached → (g : Opening) (v : Given) → Opens g v → AreClocked v
 entries_clocked reached g v opens es =
-    subst (λ (s : State). (r : Entry) → Has r s.entries → r.number ≤ (s.worker r.log).clock) (sym (reached g v opens es))
-    (λ r i. (((good_run g (events_of v.before ++ events_of es) (start g) (good_start g)).inv.workers r.log).numbers r i refl).0)
+    subst (λ (s : State). (r : Entry) → Has r s.entries → (r.number ≤ (s.worker r.log).clock) × (r.txn ≤ (s.worker r.log).txn)) (sym (reached g v opens es))
+    (λ r i. ((good_run g (events_of v.before ++ events_of es) (start g) (good_start g)).inv.workers r.log).numbers r i refl)

@@ -4,6 +4,7 @@ pub mod EntryNumbers
 pub mod UndoLemmas
 pub mod ReserveLemmas
 pub mod WaitLemmas
+pub mod FirstLemmas
 pub mod HoldLemmas
 pub mod ServingLemmas
 pub mod OtherLemmas
@@ -11,6 +12,7 @@ pub mod HeldLemmas
 pub mod FreeLemmas
 pub mod StageLemmas
 pub mod SyncLemmas
+pub mod CutLemmas
 pub mod OpeningLemmas
 -- Passed on to the crates above.
 pub use Rattle.btree_descent.proofs as btree_descent
@@ -21,6 +23,7 @@ pub use Rattle.btree_descent.proofs.image_model as image_model
 pub use Rattle.btree_descent.proofs.log_record as log_record
 pub use Rattle.btree_descent.proofs.row_words as row_words
 pub use Rattle.btree_descent.proofs.rows_trait as rows_trait
+pub use Rattle.core_covers.proofs as core_covers
 pub use Rattle.engine_calls.proofs as engine_calls
 pub use Rattle.engine_calls.proofs.core_calls as core_calls
 pub use Rattle.engine_calls.proofs.core_crash as core_crash

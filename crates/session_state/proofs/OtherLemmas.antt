@@ -16,6 +16,9 @@ use Rattle.btree_descent.specs.core_state.States.{Row, State, flushed_by_all, gs
 use Rattle.btree_descent.specs.core_state.Steps as core
 use Rattle.btree_descent.specs.core_state.Steps.{AllMet, end_entry, happens, locked, put_back, unlocked}
 use Rattle.btree_descent.proofs.core_state.Locality.{every_local}
+use Rattle.core_covers.specs.Firsts as covers
+use Rattle.core_covers.specs.Firsts.{FirstSteps, first_of}
+use Rattle.core_covers.proofs.FirstLemmas.{every_first_step}
 use Rattle.engine_calls.specs.core_calls.LogEvents.{behind}
 use Rattle.engine_calls.proofs.MarkLemmas.{met_join}
 use Rattle.btree_descent.specs.row_words.declared.event.Event.{Event}
@@ -87,17 +90,19 @@ record Stays (g : Opening) (u : ℕ) (s t : State) : Type 0 where
   worker : t.worker u ≡ s.worker u
   flushed : t.flushed u ≡ s.flushed u
   commits : behind t u ≡ behind s u
+  first : first_of t u ≡ first_of s u
   held : (i : ℕ) → holds_row (t.row i) u ≡ holds_row (s.row i) u
   least : flushed_by_all g s ≤ flushed_by_all g t
 
 stays : (g : Opening) (u : ℕ) (s : State) → Stays g u s s
-stays g u s = record { worker = refl; flushed = refl; commits = refl; held = λ i. refl; least = omega arith }
+stays g u s = record { worker = refl; flushed = refl; commits = refl; first = refl; held = λ i. refl; least = omega arith }
 
 stays_on : (g : Opening) (u : ℕ) (s t r : State) → Stays g u s t → Stays g u t r → Stays g u s r
 stays_on g u s t r a b = record {
   worker = b.worker ∙ a.worker;
   flushed = b.flushed ∙ a.flushed;
   commits = b.commits ∙ a.commits;
+  first = b.first ∙ a.first;
   held = λ i. b.held i ∙ a.held i;
   least = let p = a.least in let q = b.least in omega arith;
 }
@@ -116,21 +121,38 @@ module _ (g : Opening) (s : State) (own u : ℕ) (other : u ≡ own → ⊥) whe
   kept : (e : happening.Event) → local.is_of e u ≡ false → local.is_sync e ≡ false → Kept (happens g s e)
   kept e none part = let l = every_local g s e in (l.workers u none part, l.flushed u none part)
 
+  -- its first record is the same
+  firsts : (t : State) → Kept t → FirstSteps s t u
+  firsts t k = every_first_step s t u (ap (λ a. a.is_open) k.0) (ap (λ a. a.txn) k.0)
+
   -- no row and no flushed number changes, and no commit of u is entered
-  quiet : (t : State) → Kept t → t.row ≡ s.row → t.flushed ≡ s.flushed → behind t u ≡ behind s u → Stays g u s t
-  quiet t k row flushed commits = record {
+  quiet : (t : State) → Kept t → t.row ≡ s.row → t.flushed ≡ s.flushed → behind t u ≡ behind s u → first_of t u ≡ first_of s u → Stays g u s t
+  quiet t k row flushed commits first = record {
     worker = k.0;
     flushed = k.1;
     commits = commits;
+    first = first;
     held = λ i. ap (λ (f : ℕ → Row). holds_row (f i) u) row;
     least = let q = ap (λ (f : ℕ → ℕ). least f g.workers) flushed in omega arith;
   }
 
   still : (t : State) → Kept t → t.row ≡ s.row → t.flushed ≡ s.flushed → t.entries ≡ s.entries → Stays g u s t
-  still t k row flushed entries = quiet t k row flushed (behind_same s t u entries k.1)
+  still t k row flushed entries = quiet t k row flushed (behind_same s t u entries k.1) ((firsts t k).same entries)
 
-  enters : (t : State) → Kept t → t.row ≡ s.row → t.flushed ≡ s.flushed → (r : Entry) → t.entries ≡ r ∷ s.entries → (is_commit r.kind && (r.log == u)) ≡ false → Stays g u s t
-  enters t k row flushed r entries none = quiet t k row flushed (behind_more s t u r entries k.1 none)
+  -- an entry of another log is none of u's, whatever it is
+  enters : (t : State) → Kept t → t.row ≡ s.row → t.flushed ≡ s.flushed → (r : Entry) → t.entries ≡ r ∷ s.entries → (r.log == u) ≡ false → Stays g u s t
+  enters t k row flushed r entries none = quiet t k row flushed (behind_more s t u r entries k.1 (else_none (is_commit r.kind))) ((firsts t k).other r entries own_none)
+    where
+      else_none : (b : Bool) → (b && (r.log == u)) ≡ false
+      else_none true = none
+      else_none false = refl
+
+      own_none : covers.is_own u (s.worker u).txn r ≡ false
+      own_none = go (is_record r.kind)
+        where
+          go : (b : Bool) → (b && ((r.log == u) && (r.txn == (s.worker u).txn))) ≡ false
+          go true = ap (λ c. c && (r.txn == (s.worker u).txn)) none
+          go false = refl
 
   -- a row changes, but not for u
   turns : (t : State) → Kept t → (i : ℕ) (o : Row) → holds_row o u ≡ holds_row (s.row i) u → t.row ≡ upd s.row i o → t.flushed ≡ s.flushed → t.entries ≡ s.entries → Stays g u s t
@@ -138,17 +160,14 @@ module _ (g : Opening) (s : State) (own u : ℕ) (other : u ≡ own → ⊥) whe
     worker = k.0;
     flushed = k.1;
     commits = behind_same s t u entries k.1;
+    first = (firsts t k).same entries;
     held = λ j. ap (λ (f : ℕ → Row). holds_row (f j) u) row ∙ at_upd (λ n (r : Row). holds_row r u ≡ holds_row (s.row n) u) s.row i o j same (λ _. refl);
     least = let q = ap (λ (f : ℕ → ℕ). least f g.workers) flushed in omega arith;
   }
 
-  back : (w p : ℕ) (changes : List Entry) → Kept (put_back g s w p changes) → Stays g u s (put_back g s w p changes)
-  back w p [] k = stays g u s
-  back w p (c ∷ cs) k = enters (put_back g s w p (c ∷ cs)) k refl refl (core.write_entry g Kind.Put_back s w (core.at_pages s w (s.worker w) (p ∷ [])) p c.key c.before) refl refl
-
-  no_commit : (commit : Bool) (w : ℕ) → (w == own) ≡ true → (is_commit (cond commit Kind.Commit Kind.Abort) && (w == u)) ≡ false
-  no_commit true w is = not_of w is
-  no_commit false w is = refl
+  back : (w p : ℕ) (changes : List Entry) → (w == u) ≡ false → Kept (put_back g s w p changes) → Stays g u s (put_back g s w p changes)
+  back w p [] none k = stays g u s
+  back w p (c ∷ cs) none k = enters (put_back g s w p (c ∷ cs)) k refl refl (core.write_entry g Kind.Put_back s w (core.at_pages s w (s.worker w) (p ∷ [])) p c.key c.before) refl none
 
   stays_event : (e : Event) → is_of own e ≡ true → needs g s (event_of e) ≡ true → Stays g u s (happens g s (event_of e))
   stays_event (told.Begin w f) is need = let e = happening.Event.Begin w f in still (happens g s e) (kept e (not_of w is) refl) refl refl refl
@@ -158,34 +177,34 @@ module _ (g : Opening) (s : State) (own u : ℕ) (other : u ≡ own → ⊥) whe
   stays_event (told.Read w p k a) is need =
       let e = happening.Event.Read w p k a in
       let b = core.at_pages s w (s.worker w) (p ∷ []) in
-      enters (happens g s e) (kept e (not_of w is) refl) refl refl (core.read_entry w b k (word_in g.format (s.page p).node k) (is_held_by (s.row (g.row_of k)).holder w)) refl refl
+      enters (happens g s e) (kept e (not_of w is) refl) refl refl (core.read_entry w b k (word_in g.format (s.page p).node k) (is_held_by (s.row (g.row_of k)).holder w)) refl (not_of w is)
   stays_event (told.Next w p k (met.Pair j x)) is need =
       let e = happening.Event.Next w p k (MapAnswer.Pair j x) in
       let b = core.at_pages s w (s.worker w) (p ∷ []) in
-      enters (happens g s e) (kept e (not_of w is) refl) refl refl (core.read_entry w b j (word_in g.format (s.page p).node j) (is_held_by (s.row (g.row_of j)).holder w)) refl refl
+      enters (happens g s e) (kept e (not_of w is) refl) refl refl (core.read_entry w b j (word_in g.format (s.page p).node j) (is_held_by (s.row (g.row_of j)).holder w)) refl (not_of w is)
   stays_event (told.Next w p k (met.Gap h)) is need = let e = happening.Event.Next w p k (MapAnswer.Gap h) in still (happens g s e) (kept e (not_of w is) refl) refl refl refl
   stays_event (told.Change w p k v) is need =
       let e = happening.Event.Change w p k v in
-      enters (happens g s e) (kept e (not_of w is) refl) refl refl (core.write_entry g Kind.Change s w (core.at_pages s w (s.worker w) (p ∷ [])) p k v) refl refl
-  stays_event (told.PutBack w p) is need = back w p (s.worker w).changes (kept (happening.Event.Put_back w p) (not_of w is) refl)
+      enters (happens g s e) (kept e (not_of w is) refl) refl refl (core.write_entry g Kind.Change s w (core.at_pages s w (s.worker w) (p ∷ [])) p k v) refl (not_of w is)
+  stays_event (told.PutBack w p) is need = back w p (s.worker w).changes (not_of w is) (kept (happening.Event.Put_back w p) (not_of w is) refl)
   stays_event (told.Split w l r q i) is need =
       let e = happening.Event.Split w l r q i in
-      enters (happens g s e) (kept e (not_of w is) refl) refl refl (core.page_entry Kind.Split s w (core.at_pages s w (s.worker w) (l ∷ r ∷ q ∷ [])) (l ∷ r ∷ q ∷ []) (page_needs.split_record (nodes_of s) (gsns_of s) l r q i)) refl refl
+      enters (happens g s e) (kept e (not_of w is) refl) refl refl (core.page_entry Kind.Split s w (core.at_pages s w (s.worker w) (l ∷ r ∷ q ∷ [])) (l ∷ r ∷ q ∷ []) (page_needs.split_record (nodes_of s) (gsns_of s) l r q i)) refl (not_of w is)
   stays_event (told.Lift w c) is need =
       let e = happening.Event.Lift w c in
-      enters (happens g s e) (kept e (not_of w is) refl) refl refl (core.page_entry Kind.Lift s w (core.at_pages s w (s.worker w) (0 ∷ c ∷ [])) (0 ∷ c ∷ []) (page_needs.lift_record (nodes_of s) (gsns_of s) c)) refl refl
+      enters (happens g s e) (kept e (not_of w is) refl) refl refl (core.page_entry Kind.Lift s w (core.at_pages s w (s.worker w) (0 ∷ c ∷ [])) (0 ∷ c ∷ []) (page_needs.lift_record (nodes_of s) (gsns_of s) c)) refl (not_of w is)
   stays_event (told.Join w l r q) is need =
       let e = happening.Event.Join w l r q in
-      enters (happens g s e) (kept e (not_of w is) refl) refl refl (core.page_entry Kind.Join s w (core.at_pages s w (s.worker w) (l ∷ r ∷ q ∷ [])) (l ∷ r ∷ q ∷ []) (page_needs.join_record (nodes_of s) (gsns_of s) l r q)) refl refl
+      enters (happens g s e) (kept e (not_of w is) refl) refl refl (core.page_entry Kind.Join s w (core.at_pages s w (s.worker w) (l ∷ r ∷ q ∷ [])) (l ∷ r ∷ q ∷ []) (page_needs.join_record (nodes_of s) (gsns_of s) l r q)) refl (not_of w is)
   stays_event (told.Drop w c) is need =
       let e = happening.Event.Drop w c in
-      enters (happens g s e) (kept e (not_of w is) refl) refl refl (core.page_entry Kind.Drop s w (core.at_pages s w (s.worker w) (0 ∷ c ∷ [])) (0 ∷ c ∷ []) (page_needs.drop_record (nodes_of s) (gsns_of s) c)) refl refl
+      enters (happens g s e) (kept e (not_of w is) refl) refl refl (core.page_entry Kind.Drop s w (core.at_pages s w (s.worker w) (0 ∷ c ∷ [])) (0 ∷ c ∷ []) (page_needs.drop_record (nodes_of s) (gsns_of s) c)) refl (not_of w is)
   stays_event (told.Purge w p keys) is need =
       let e = happening.Event.Purge w p keys in
-      enters (happens g s e) (kept e (not_of w is) refl) refl refl (core.page_entry Kind.Purge s w (core.at_pages s w (s.worker w) (p ∷ [])) (p ∷ []) (page_needs.purge_record (gsns_of s) p keys)) refl refl
+      enters (happens g s e) (kept e (not_of w is) refl) refl refl (core.page_entry Kind.Purge s w (core.at_pages s w (s.worker w) (p ∷ [])) (p ∷ []) (page_needs.purge_record (gsns_of s) p keys)) refl (not_of w is)
   stays_event (told.End w commit f) is need =
       let e = happening.Event.End w commit f in
-      enters (happens g s e) (kept e (not_of w is) refl) refl refl (end_entry (cond commit Kind.Commit Kind.Abort) w (s.worker w) f) refl (no_commit commit w is)
+      enters (happens g s e) (kept e (not_of w is) refl) refl refl (end_entry (cond commit Kind.Commit Kind.Abort) w (s.worker w) f) refl (not_of w is)
   stays_event (told.Unlock w i) is need =
       let e = happening.Event.Unlock w i in
       turns (happens g s e) (kept e (not_of w is) refl) i (unlocked (s.row i) w (s.worker w).end) (unlock_else (s.row i) w u (apart w is) (s.worker w).end) refl refl refl
@@ -193,6 +212,7 @@ module _ (g : Opening) (s : State) (own u : ℕ) (other : u ≡ own → ⊥) whe
     worker = k.0;
     flushed = k.1;
     commits = behind_same s (happens g s (happening.Event.Flush w n)) u refl k.1;
+    first = refl;
     held = λ i. refl;
     least = floor_flush g s w n (flushed_by_all g s) (leb-true (s.flushed w) n (and_parts (leb (s.flushed w) n) (any (λ r. is_record r.kind && ((r.log == w) && (r.number == n))) s.entries) need).0) (omega arith);
   }
@@ -229,6 +249,7 @@ every_other z v w x y log log_of_y h k other _ _ _ t = record {
   rows = rows_on z v w x.own x.workers x.frames x.held.count t.given h.rows;
   session = let i = subst (λ a. IsOf x a) (sym now.worker) h.session in record { is_open = i.is_open; txn = i.txn; clock = i.clock; floor = i.floor; debt = i.debt; end = i.end; undo = i.undo };
   numbers = let n = h.numbers in record { last = n.last; order = n.order; end = n.end; room = n.room; undo_room = n.undo_room; flush_room = n.flush_room; hand = n.hand; closed_txn = n.closed_txn; txn = n.txn; few = n.few; behind = n.behind };
+  first = now.first ∙ h.first;
   flushed = now.flushed ∙ h.flushed;
   floor = let a = h.floor in let b = now.least in let c = ap (λ q. flushed_by_all (opening q) (state w).core) t.given in omega arith;
   behind = now.commits ∙ h.behind;

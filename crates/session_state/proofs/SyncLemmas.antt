@@ -10,6 +10,7 @@ use Rattle.btree_descent.specs.core_state.Lists.{most}
 use Rattle.btree_descent.specs.core_state.Needs.{holds_row, is_behind, may}
 use Rattle.btree_descent.specs.core_state.States.{State, flushed_by_all}
 use Rattle.btree_descent.specs.core_state.Steps.{happens}
+use Rattle.core_covers.specs.Firsts.{first_of}
 use Rattle.engine_calls.proofs.core_calls.EntryLemmas.{commit_record}
 use Rattle.engine_calls.specs.core_calls.LogEvents as log_events
 use Rattle.lean_disk.specs.Story.{Story}
@@ -138,6 +139,7 @@ module _ (z : Shape) (v : View) (x : Session) (log : Log) (h : Holds z v x log) 
       idle = t.held ∙ h.idle;
       rows = rows_on z v w x.own x.workers x.frames x.held.count given h.rows;
       session = subst (λ (k : State). IsOf (record x { unflushed = 0 }) (k.worker x.own)) (sym core_w) (let i = h.session in record { is_open = i.is_open; txn = i.txn; clock = i.clock; floor = i.floor; debt = i.debt; end = i.end; undo = i.undo });
+      first = ap (λ (k : State). first_of k x.own) core_w ∙ h.first;
       numbers = record {
         last = h.numbers.last;
         order = omega arith;
@@ -208,6 +210,7 @@ every_synced z v w x log number h whole e = record {
   idle = e.held ∙ h.idle;
   rows = rows_on z v w x.own x.workers x.frames x.held.count e.given h.rows;
   session = subst (λ (k : State). IsOf (synced_session x number) (k.worker x.own)) (sym core_w) (let i = h.session in record { is_open = i.is_open; txn = i.txn; clock = clock_is; floor = i.floor; debt = i.debt; end = i.end; undo = i.undo });
+  first = ap (λ (k : State). first_of k x.own) core_w ∙ h.first;
   numbers = let n = h.numbers in record {
     last = omega arith;
     order = omega arith;
@@ -256,4 +259,4 @@ every_synced z v w x log number h whole e = record {
         let c = h.flushed in let d = h.numbers.order in let k = h.numbers.last in let r = reach in omega arith
 
     below : (r : Entry) → Has r (state v).core.entries → is_commit r.kind ≡ true → r.log ≡ x.own → r.number ≤ number
-    below r i is own_is = let a = h.rows.clocked v.seen r i in let b = ap (λ k. ((state v).core.worker k).clock) own_is in let c = own_low in omega arith
+    below r i is own_is = let a = (h.rows.clocked v.seen r i).0 in let b = ap (λ k. ((state v).core.worker k).clock) own_is in let c = own_low in omega arith

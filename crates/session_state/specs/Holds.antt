@@ -4,6 +4,7 @@ use Rattle.page_model.specs.Limits.{most_sessions, transaction_changes}
 use Rattle.map_model.specs.Lists.{Has}
 use Rattle.btree_descent.specs.core_state.States.{Worker, flushed_by_all}
 use Rattle.btree_descent.specs.core_state.Needs.{holds_row}
+use Rattle.core_covers.specs.Firsts.{first_of}
 use Rattle.engine_calls.specs.core_calls.LogEvents.{behind}
 use Rattle.engine_calls.specs.core_calls.Room.{free_list}
 use Rattle.btree_descent.specs.row_words.Openings.{opening}
@@ -76,6 +77,7 @@ pub record Holds (z : Shape) (v : View) (x : Session) (log : Log) : Type 0 where
   pub idle : v.held ≡ []
   pub rows : AreRows z v x.own x.workers x.frames x.held.count
   pub session : IsOf x ((state v).core.worker x.own)
+  pub first : first_of (state v).core x.own ≡ x.first
   pub numbers : AreNumbers x log
   pub flushed : (state v).core.flushed x.own ≡ log.flushed
   pub floor : x.clock.floor ≤ flushed_by_all (opening v.given) (state v).core

@@ -23,6 +23,7 @@ pub use Rattle.btree_descent.specs.lean_proto as lean_proto
 pub use Rattle.btree_descent.specs.log_record as log_record
 pub use Rattle.btree_descent.specs.row_words as row_words
 pub use Rattle.btree_descent.specs.rows_trait as rows_trait
+pub use Rattle.core_covers.specs as core_covers
 pub use Rattle.core_numbers.specs as core_numbers
 pub use Rattle.engine_calls.specs as engine_calls
 pub use Rattle.engine_calls.specs.core_calls as core_calls

@@ -26,6 +26,6 @@ HaveRoom v = (w p : ℕ) → ((state v).core.worker w).is_open ≡ true → Fits
 abbrev pub AreClocksLow : View → Type 0
 AreClocksLow v = (w : ℕ) → ((state v).core.worker w).clock ≤ max v.given.base (2 ^ 62 + 66 * most_sessions)
 
--- at each moment that can come no entry of a worker has a number above its clock
+-- at each moment that can come no entry of a worker has a number above its clock, and none is of a transaction that is still to come
 abbrev pub AreClocked : Given → Type 0
-AreClocked v = (es : List Event) (r : Entry) → Has r (after_all v es).core.entries → r.number ≤ ((after_all v es).core.worker r.log).clock
+AreClocked v = (es : List Event) (r : Entry) → Has r (after_all v es).core.entries → (r.number ≤ ((after_all v es).core.worker r.log).clock) × (r.txn ≤ ((after_all v es).core.worker r.log).txn)

@@ -1,5 +1,5 @@
 -- A session as it begins, and the shape of the rows that its engine has.
-use Rattle.std.specs.Prelude.{◌≡◌, ◌<◌, ℕ, true, false, []}
+use Rattle.std.specs.Prelude.{◌≡◌, ◌<◌, ℕ, true, false, [], None}
 use Rattle.btree_descent.specs.rows_trait.Plain.{sizes}
 use Rattle.btree_descent.specs.rows_trait.Views.{Shape, no_place}
 use Rattle.session_state.specs.declared.session.Session.{Session}
@@ -16,6 +16,7 @@ pub record IsFirst (base : ℕ) (x : Session) : Type 0 where
   pub debt : x.clock.debt ≡ 0
   pub end : x.end ≡ base
   pub undo : x.undo ≡ []
+  pub first : x.first ≡ None
   pub is_half_aborted : x.is_half_aborted ≡ false
   pub rows : x.held.rows ≡ []
 

@@ -1,6 +1,7 @@
 -- What came of a record that a change asked its log to stage.
-use Rattle.std.specs.Prelude.{◌≡◌, ◌≤◌, ℕ, suc, List, [], ◌∷◌, length, Result, Ok, Err}
+use Rattle.std.specs.Prelude.{◌≡◌, ◌≤◌, ℕ, suc, List, [], ◌∷◌, length, Option, Some, Result, Ok, Err}
 use Rattle.btree_descent.specs.draw_trait.declared.draw.Unstaged.{Unstaged}
+use Rattle.core_covers.specs.Firsts.{or_else}
 use Rattle.btree_descent.specs.draw_trait.declared.draw.Unstaged.TheVariants.{DiskFault, LogFull}
 use Rattle.lean_disk.specs.Faults.{HasCause}
 use Rattle.lean_disk.specs.Moments.{Framed}
@@ -17,6 +18,10 @@ use Rattle.session_state.specs.declared.session.Session.{Session}
 -- the session is as it was, but for its clock and its debt
 abbrev pub IsButClock : (x y : Session) → Type 0
 IsButClock x y = y ≡ record x { clock = risen x.clock y.clock }
+
+-- or but for these, and for its transaction's first record
+abbrev pub IsButStaged : (x y : Session) → Type 0
+IsButStaged x y = y ≡ record x { clock = risen x.clock y.clock; first = y.first }
 
 -- what a log and its disk keep whatever comes of a record
 pub record KeepsLog (own : ℕ) (was : Log) (old new : Story) : Type 0 where
@@ -46,8 +51,15 @@ Came (Ok u) own before now was is old new SameDisk = WasStaged own before now wa
 Came (Err (LogFull used limit)) own before now was is old new SameDisk = WasFull was is SameDisk
 Came (Err DiskFault) own before now was is old new SameDisk = KeepsLog own was old new
 
--- and whatever came of it: the disk's faults are told, and beside log and disk the session's clock alone may have changed
+-- the number of the transaction's first record behind one that came of this, with this number
+abbrev pub first_behind : Result (Unit {0}) Unstaged → ℕ → Option ℕ → Option ℕ
+first_behind (Ok u) number first = or_else first (Some number)
+first_behind (Err e) number first = first
+
+-- And whatever came of it: the disk's faults are told, and beside log and disk the session's clock alone may have changed, and its transaction's first record,
+-- which has the clock's number if it is this one.
 pub record Staging (r : Result (Unit {0}) Unstaged) (x y : Session) (before now : List Record) (was is : Log) (old new : Story) (SameDisk : Type 0) (faults_before faults_now : ℕ) : Type 0 where
   pub came : Came r x.own before now was is old new SameDisk
   pub cause : HasCause faults_before faults_now (r ≡ Err DiskFault)
-  pub session : IsButClock x y
+  pub session : IsButStaged x y
+  pub first : y.first ≡ first_behind r y.clock.clock x.first

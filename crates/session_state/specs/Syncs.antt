@@ -1,4 +1,4 @@
--- What a sync does: each session's log is flushed, and then all are synced up to the greatest clock.
+-- What a sync does: each session's log is flushed, and then all are synced up to the greatest clock. And what is so behind a cut.
 use Rattle.std.specs.Prelude.{◌≡◌, ◌↔◌, ◌≤◌, ◌<◌, ◌+◌, ◌*◌, ◌||◌, ◌==◌, ℕ, Bool, true, false, leb, List, ◌++◌, [], ◌∷◌, length, if◌then◌else◌}
 use Rattle.map_model.specs.Lists.{Has}
 use Rattle.btree_descent.specs.image_model.Entries.{Entry, is_record}
@@ -14,8 +14,9 @@ use Rattle.btree_descent.specs.row_words.Moments.{events_of}
 use Rattle.btree_descent.specs.row_words.Openings.{opening}
 use Rattle.btree_descent.specs.rows_trait.declared.view.View.{View}
 use Rattle.btree_descent.specs.rows_trait.Views.{Shape, state}
-use Rattle.engine_calls.specs.worker_log.Calls.{flushed_log}
+use Rattle.engine_calls.specs.worker_log.Calls.{cut_log, flushed_log}
 use Rattle.engine_calls.specs.worker_log.Logs.{Log}
+use Rattle.row_cuts.specs.Cuts.{HasCut}
 use Rattle.session_state.specs.Holds.{Holds}
 use Rattle.session_state.specs.Others.{Steps}
 use Rattle.session_state.specs.Undo.{HasRoomToUndo, filled}
@@ -83,3 +84,9 @@ pub record HasSynced (v w : View) (number : ℕ) : Type 0 where
 -- Behind a sync each session whose log is flushed whole is as between two calls, with its clock and its log raised to the number.
 abbrev pub EverySynced : Type 0
 EverySynced = (z : Shape) (v w : View) (x : Session) (log : Log) (number : ℕ) → Holds z v x log → log.flushed ≡ log.last → HasSynced v w number → Holds z w (synced_session x number) (raised log number)
+
+-- ## A cut
+
+-- Behind a cut of all logs each session is as between two calls, whatever blocks its log has passed.
+abbrev pub EveryCut : Type 0
+EveryCut = (z : Shape) (v w : View) (x : Session) (log : Log) (number passed : ℕ) (heads : List ℕ) → Holds z v x log → HasCut z v number heads w → Holds z w x (cut_log passed log)

@@ -1,7 +1,7 @@
 // What holds of sessions beside each other, and of the room in their logs.
 ghost use Rattle.session_state.specs.Others.{EveryOther};
 ghost use Rattle.session_state.specs.Reserves.{EveryReserve};
-ghost use Rattle.session_state.specs.Syncs.{EveryFlush, EverySynced};
+ghost use Rattle.session_state.specs.Syncs.{EveryCut, EveryFlush, EverySynced};
 
 /// What a session has in memory lasts while a call of another session of the same rows goes on, but for the free pages, which are those
 /// that the other has left.
@@ -12,6 +12,11 @@ pub fn every_other()
 /// Behind a sync each session whose log is flushed whole is as between two calls.
 pub fn every_synced()
     ensures { EverySynced }
+{}
+
+/// Behind a cut of all logs each session is as between two calls.
+pub fn every_cut()
+    ensures { EveryCut }
 {}
 
 /// Which sessions may be flushed, so that what they have still to put back finds room.

@@ -18,7 +18,7 @@ pub use btree_descent::Staged;
 pub use engine_calls::stage_end;
 pub use free::FreePages;
 pub use held::HeldRows;
-pub use laws::{every_flush, every_other, every_reserve, every_synced};
+pub use laws::{every_cut, every_flush, every_other, every_reserve, every_synced};
 pub use numbers::{clocks_low, next_fits};
 pub use opening::further_session;
 pub use session::Session;

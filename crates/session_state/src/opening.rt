@@ -27,6 +27,7 @@ pub fn further_session(alloc: Global, own: u32, first: &Session) -> Result<Sessi
         end: first.end,
         unflushed: first.unflushed,
         frames: first.frames,
+        first: first.first,
         undo: UndoList::new(alloc)?,
         held: HeldRows::new(alloc, first.held.count())?,
         free: FreePages::new(alloc, &[])?,

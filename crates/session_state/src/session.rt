@@ -9,7 +9,7 @@ use flush_avoidance::Clock;
 
 /// A session: its number, which is its worker's and its log's too, of so many; how many of its commits are flushed at once; whether no
 /// device has failed; what the core's worker has; whether an abort has put changes back and was then refused; how many of its commits wait
-/// for a flush; how many frames there are; what is still to put back; the lock rows that it holds; and the pages that are free. Whether the
+/// for a flush; how many frames there are; the number of its transaction's first record, if there is one; what is still to put back; the lock rows that it holds; and the pages that are free. Whether the
 /// engine works and which pages are free is known by the session whose turn it is.
 #[derive(Drop)]
 pub struct Session {
@@ -24,6 +24,7 @@ pub struct Session {
     pub end: u64,
     pub unflushed: u32,
     pub frames: u32,
+    pub first: Option<u64>,
     pub undo: UndoList,
     pub held: HeldRows,
     pub free: FreePages,

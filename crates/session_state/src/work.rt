@@ -107,6 +107,8 @@ impl<D: Stages> Draw for Work<D> {
         }
         match self.disk.stage_on(&mut self.log, self.session.own, entry) {
             Ok(()) => {
+                // The first record of a transaction keeps logs from being cut behind it.
+                self.session.first = self.session.first.or(Some(entry.gsn));
                 self.staged = one_more::<Brand>(&self.staged, entry);
                 Ok(())
             }

@@ -1,7 +1,7 @@
 use Rattle.std.proofs.Common.{◌≡◌, ℕ, ◌∷◌, Option, Some, Err, ap, refl, subst, arith}
 use Rattle.session_state.specs.btree_descent.declared.descent.TheConstants.{TOMBSTONE}
 use Rattle.row_changes.specs.Puts.{IsChanged}
-use Rattle.row_changes.proofs.DelLemmas.{holds_absent, is_absent, same_by_clock}
+use Rattle.row_changes.proofs.DelLemmas.{holds_absent, is_absent, same_by_clock, same_by_staged}
 use Rattle.row_changes.proofs.PutLemmas.{holds_as, holds_changed, holds_still, is_changed, may_put, not_last, value_said}
 use Rattle.row_changes.proofs.SeenLemmas.{none_seen}
 use Rattle.row_changes.proofs.SpotLemmas.{spent_since}
@@ -76,13 +76,13 @@ returns-in-Done-clause-cause_disk_fault g c =
     cause_from (g.D.Disk.faults c.args.work.now.disk) (g.D.Disk.faults c.args.work.now.disk) (g.D.Disk.faults c.del_at.new.draw.disk) _ _ refl c.in-Done.ensures.drew.cause (λ q. absurd (ok_calm _ _ q)) (λ p. absurd (cc))
 
 pub returns-in-Done-clause-session : goal.returns-in-Done-clause-session
-returns-in-Done-clause-session g c = same_by_clock c.args.work.now.session c.del_at.new.draw.session c.in-Done.ensures.drew.session
+returns-in-Done-clause-session g c = same_by_staged c.args.work.now.session c.del_at.new.draw.session c.in-Done.ensures.drew.session
 
 pub returns-in-Absent-clause-session : goal.returns-in-Absent-clause-session
 returns-in-Absent-clause-session g c = same_by_clock c.args.work.now.session c.del_at.new.draw.session (ap (λ k. k.session) c.in-Absent.ensures.drew)
 
 pub returns-in-Unstaged-DiskFault-clause-session : goal.returns-in-Unstaged-DiskFault-clause-session
-returns-in-Unstaged-DiskFault-clause-session g c = same_by_clock c.args.work.now.session c.del_at.new.draw.session c.in-Unstaged-DiskFault.ensures.drew.session
+returns-in-Unstaged-DiskFault-clause-session g c = same_by_staged c.args.work.now.session c.del_at.new.draw.session c.in-Unstaged-DiskFault.ensures.drew.session
 
 pub unreachable-requires-in-ClockSpent : goal.unreachable-requires-in-ClockSpent
 unreachable-requires-in-ClockSpent g c =

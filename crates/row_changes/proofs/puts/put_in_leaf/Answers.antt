@@ -1,7 +1,7 @@
 use Rattle.std.proofs.Common.{◌≡◌, ◌^◌, ◌∙◌, ℕ, ◌∷◌, Option, Err, ap, refl, sym, subst, arith}
 use Rattle.page_model.specs.Tree.{word_or}
 use Rattle.row_changes.specs.Puts.{IsChanged}
-use Rattle.row_changes.proofs.DelLemmas.{same_by_clock}
+use Rattle.row_changes.proofs.DelLemmas.{same_by_staged}
 use Rattle.row_changes.proofs.PutLemmas.{holds_as, holds_changed, holds_still, is_changed, is_spent, may_put, no_room, not_last}
 use Rattle.row_changes.proofs.SeenLemmas.{none_seen}
 use Rattle.row_changes.proofs.WayLemmas.{met_cold, warm_met}
@@ -72,7 +72,7 @@ returns-in-Done-clause-cause_disk_fault g c =
     cause_from (g.D.Disk.faults c.args.work.now.disk) (g.D.Disk.faults c.args.work.now.disk) (g.D.Disk.faults c.leaf_put.new.draw.disk) _ _ refl c.in-Done.ensures.drew.cause (λ q. absurd (ok_calm _ _ q)) (λ p. absurd (cc))
 
 pub returns-in-Unstaged-DiskFault-clause-session : goal.returns-in-Unstaged-DiskFault-clause-session
-returns-in-Unstaged-DiskFault-clause-session g c = same_by_clock c.args.work.now.session c.leaf_put.new.draw.session c.in-Unstaged-DiskFault.ensures.drew.session
+returns-in-Unstaged-DiskFault-clause-session g c = same_by_staged c.args.work.now.session c.leaf_put.new.draw.session c.in-Unstaged-DiskFault.ensures.drew.session
 
 pub returns-in-Unstaged-DiskFault-clause-cause_disk_fault : goal.returns-in-Unstaged-DiskFault-clause-cause_disk_fault
 returns-in-Unstaged-DiskFault-clause-cause_disk_fault g c =
